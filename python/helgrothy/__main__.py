@@ -1,8 +1,4 @@
-"""The command `helgrothy`, and `python3 -m helgrothy`: `--help` lists its commands.
-
-The commands of a long search have a parser of their own, so that they load few modules: a search of half a second would
-wait for the others as long as for its own.
-"""
+"""The command `helgrothy`, and `python3 -m helgrothy`: `--help` lists its commands."""
 
 from __future__ import annotations
 
@@ -13,14 +9,9 @@ from typing import NoReturn
 
 def main(words: Sequence[str] | None = None) -> int:
     """Does what the words of a command say, and gives its status."""
-    given = sys.argv[1:] if words is None else list(words)
-    from .spans import commands as spans
-
-    if given and given[0] in spans.NAMES:
-        return spans.main(given)
     from . import commands
 
-    return commands.main(given)
+    return commands.main(sys.argv[1:] if words is None else list(words))
 
 
 def run() -> NoReturn:

@@ -2,35 +2,23 @@
 
 Status 0 says that all is well, 1 that there is no solution, nothing to draw or something to remark, 2 that the
 command could not be done, with one line on standard error that says why.
+
+Here are their words; what they do is in `acts`. Nothing is loaded that the command at hand doesn't need: a command in a
+loop over files would wait for the others longer than for its own work.
 """
 
 from __future__ import annotations
 
 import argparse
-import re
-import time
 from collections.abc import Callable, Sequence
-from decimal import Decimal
-from fractions import Fraction
-from typing import Any
+from typing import TYPE_CHECKING, Any
 
-from . import __version__, answers, console, cost, shuffle, symmetry, why
-from .console import Parser, limited, number, positive, seconds, write
-from .data import FORMATS as FORMS
-from .draw import Drawing, drawing_of
-from .errors import HelgrothyError, NoPicture, OutOfTime, TableFault
-from .export import FORMATS
-from .lint import lint
-from .listing import Step, untold
+from . import __version__, console
+from .console import Parser, limited, number, positive, seconds
 from .make import KINDS
-from .make.kind import Found, Kind, kind_of, read_text
-from .page import commands as pages
-from .page.file import MOST_SOLUTIONS, File
-from .problem import Problem
-from .spans import commands as spans
-from .stream import Solutions
-from .table import by_patterns
-from .watch import Watch
+
+if TYPE_CHECKING:
+    from .make.kind import Kind
 
 _EXAMPLES = """\
 examples:
@@ -50,32 +38,26 @@ examples:
   helgrothy export cnf mine.dlx | cadical | helgrothy import cadical mine.dlx | dlxcheck mine.dlx
 """
 
-# A reason is looked for so long where a problem turns out to have no solution.
-_REASON_SECONDS = 2.0
-# Of the time that a command is given, so that what was found by then can be told; a page is put together at the end.
-_SHARE = 0.9
-_SHARE_OF_PAGE = 0.7
 
-
-def main(words: Sequence[str] | None = None) -> int:
+def main(words: Sequence[str]) -> int:
     """Does what the words of a command say, and gives its status."""
     return console.run("helgrothy", lambda: _act(words), unread=0)
 
 
-def _act(words: Sequence[str] | None) -> int:
-    arguments = parser_of_all().parse_args(words)
+def _act(words: Sequence[str]) -> int:
+    arguments = _parser(words).parse_args(words)
     with limited(getattr(arguments, "seconds", None)):
         status: int = arguments.command(arguments)
     return status
 
 
-def _fail(message: str, status: int = 2) -> int:
-    console.say(f"helgrothy: {message}")
-    return status
-
-
 def parser_of_all() -> argparse.ArgumentParser:
     """The parser of all commands, those of a long search included."""
+    return _parser([])
+
+
+def _parser(words: Sequence[str]) -> argparse.ArgumentParser:
+    """The parser for these words: of one command alone where the first one is its name."""
     parser = Parser(
         prog="helgrothy",
         description="Makes, solves and draws exact cover problems, by the programs dlx1, dlx2 and dlx3.",
@@ -84,35 +66,49 @@ def parser_of_all() -> argparse.ArgumentParser:
     )
     parser.add_argument("--version", action="version", version=f"helgrothy {__version__}")
     commands = parser.add_subparsers(metavar="COMMAND", required=True)
+    first = words[0] if words else ""
+    if first in KINDS:
+        _add_kind(commands, KINDS[first])
+    elif first == "make":
+        _add_make(commands, words[1] if len(words) > 1 else "")
+    elif first in _ADDS:
+        _ADDS[first](commands)
+    elif first != "--version":
+        _add_all(commands)
+    return parser
+
+
+def _add_all(commands: Any) -> None:
     _add_make(commands)
-    _add_solve(commands)
-    _add_draw(commands)
-    _add_lint(commands)
-    _add_export(commands)
-    _add_import(commands)
-    _add_why(commands)
-    pages.add(commands)
-    spans.add(commands)
+    for add in _ADDS.values():
+        add(commands)
     for kind in KINDS.values():
         _add_kind(commands, kind)
-    return parser
+
+
+def _by(name: str) -> Callable[[argparse.Namespace], int]:
+    """What a command does, which is loaded when it is done."""
+
+    def act(arguments: argparse.Namespace) -> int:
+        from . import acts
+
+        status: int = getattr(acts, name)(arguments)
+        return status
+
+    return act
 
 
 # ---- make
 
 
-def _add_make(commands: Any) -> None:
+def _add_make(commands: Any, name: str = "") -> None:
+    """With all kinds, or only that of a name."""
     make = commands.add_parser("make", help="write a problem", description="Writes a problem to standard output.")
     kinds = make.add_subparsers(metavar="KIND", required=True)
-    for kind in KINDS.values():
+    for kind in [KINDS[name]] if name in KINDS else KINDS.values():
         parser = kinds.add_parser(kind.name, help=kind.help, description=f"Writes {kind.help}, as a problem.")
         kind.add_arguments(parser)
-        parser.set_defaults(command=_make, kind=kind)
-
-
-def _make(arguments: argparse.Namespace) -> int:
-    write(f"{line}\n" for line in arguments.kind.make(arguments)._lines())
-    return 0
+        parser.set_defaults(command=_by("make"), kind=kind)
 
 
 # ---- solve, and a command for each kind
@@ -133,7 +129,7 @@ def _add_solve(commands: Any) -> None:
         "else by dlx3",
     )
     _add_patterns(parser)
-    parser.set_defaults(command=_solve)
+    parser.set_defaults(command=_by("solve"))
 
 
 def _add_kind(commands: Any, kind: Kind) -> None:
@@ -143,7 +139,8 @@ def _add_kind(commands: Any, kind: Kind) -> None:
     kind.add_arguments(parser)
     kind.add_search_arguments(parser)
     _add_solving(parser)
-    parser.set_defaults(command=_make_and_solve, kind=kind, cost=None, cell=None, row=None, column=None, label=None)
+    patterns = {"cell": None, "row": None, "column": None, "label": None}
+    parser.set_defaults(command=_by("make_and_solve"), kind=kind, cost=None, **patterns)
 
 
 def _add_solving(parser: argparse.ArgumentParser) -> Any:
@@ -187,204 +184,6 @@ def _add_forms(parser: argparse.ArgumentParser, svg: str) -> None:
     )
 
 
-def _solve(arguments: argparse.Namespace) -> int:
-    return _show(_problem(arguments.problem), arguments)
-
-
-def _make_and_solve(arguments: argparse.Namespace) -> int:
-    kind: Kind = arguments.kind
-    search = kind.search(arguments)
-    if search is None:
-        return _show(kind.make(arguments), arguments)
-    _check_one(arguments)
-    return _show_found(search(None if arguments.seconds is None else arguments.seconds * _SHARE), arguments)
-
-
-def _show_found(found: Found, arguments: argparse.Namespace) -> int:
-    """Shows the one solution that a search of another kind found."""
-    options = found.problem.options
-    page = _page(found.problem, arguments)
-    show = _showing(found.problem, arguments, _listed_options, page)
-    show(1, [options[number] for number in found.numbers], lambda _: found.numbers, lambda: untold(found.numbers))
-    console.say(found.remark)
-    if page is not None:
-        write([page.text(1, False, [found.remark])])
-    return 0
-
-
-def _check_one(arguments: argparse.Namespace) -> None:
-    """Raises `ValueError` where more is asked for than a search of another kind finds."""
-    if arguments.all or arguments.limit or arguments.number:
-        raise ValueError("this search finds one solution: without --all, --limit and --number")
-    if arguments.shuffle is not None or arguments.up_to_symmetry:
-        raise ValueError("this search has an order of its own: without --shuffle and --up-to-symmetry")
-
-
-def _show(problem: Problem[Any], arguments: argparse.Namespace) -> int:
-    if arguments.cost is not None:
-        return _show_least(problem, arguments)
-    number = arguments.number or 1
-    limit = None if arguments.all else arguments.limit or number
-    if arguments.svg and limit != number:
-        raise ValueError("an SVG is of one solution: --number says which")
-    page = _page(problem, arguments)
-    if page is not None and arguments.number is None:
-        limit = min(limit or MOST_SOLUTIONS, MOST_SOLUTIONS)
-    show = _showing(problem, arguments, _listed_options, page)
-    deadline = None if arguments.seconds is None else time.monotonic() + arguments.seconds
-    most = arguments.seconds
-    if page is not None and most is not None:
-        most *= _SHARE_OF_PAGE
-    last = float("inf") if most is None else time.monotonic() + most
-    shown = 0
-    solutions, among = _search(problem, arguments, limit, number, most)
-    try:
-        with Watch(problem, console.say) as watch, solutions:
-            for found in solutions:
-                watch.end()
-                show(arguments.number or shown + 1, found, lambda _: found.numbers, lambda: found.steps)
-                shown += 1
-                if page is not None and page.is_full:
-                    break
-                if page is not None and time.monotonic() > last:
-                    raise OutOfTime(f"it wasn't done in {arguments.seconds:g} seconds")
-    except OutOfTime as error:
-        reached = max(error.found, shown)
-        if page is not None:
-            write([page.text(reached, False, [f"{error}"])])
-        return _fail(f"{error}; {_counted(reached)} till then")
-    # None where the page was full before.
-    total = shown if solutions.total is None else solutions.total
-    console.say(f"Altogether {_counted(total)}{among}{'.' if solutions.complete else ' (limit).'}")
-    reasons = [] if total or watch.has_told else _reasons(problem, deadline)
-    for line in reasons:
-        console.say(line)
-    if page is not None:
-        write([page.text(total, bool(solutions.complete), reasons)])
-    if total and not shown:
-        return _fail(f"there is no solution {number}", 1)
-    return 0 if shown else 1
-
-
-def _search(
-    problem: Problem[Any],
-    arguments: argparse.Namespace,
-    limit: int | None,
-    spacing: int,
-    seconds: float | None,
-) -> tuple[Solutions[Any], str]:
-    """The solutions that are asked for, and among what they are counted."""
-    if arguments.shuffle is not None:
-        return shuffle.solve(problem, arguments.shuffle, limit, spacing, seconds=seconds), ""
-    if not arguments.up_to_symmetry:
-        return problem.solve(limit, spacing, seconds=seconds), ""
-    kind = KINDS.get(kind_of(problem.comments) or "")
-    cell = arguments.cell or (kind.cell if kind else None)
-    if cell is None:
-        told = "of a problem of your own, --cell says which cells an option has"
-        raise ValueError(f"--up-to-symmetry is for boards and boxes; {told}")
-    try:
-        plan = symmetry.plan(problem, symmetry.motions(problem, cell))
-    except (re.error, OverflowError, RecursionError) as error:
-        raise ValueError(f"a pattern is wrong: {error}") from None
-    count = len(plan.motions)
-    told = f" up to {count} symmetries" if count > 1 else ", and no symmetry of its cells but that of no change"
-    return symmetry.solve(problem, plan, limit, spacing, seconds=seconds), told
-
-
-def _show_least(problem: Problem[Any], arguments: argparse.Namespace) -> int:
-    _check_one(arguments)
-    if arguments.problem == arguments.cost == "-":
-        raise ValueError("the problem and the costs can't both come from standard input")
-    try:
-        costs = cost.read(read_text(arguments.cost), len(problem.options))
-    except TableFault as fault:
-        raise ValueError(f"{'standard input' if arguments.cost == '-' else arguments.cost}: {fault}") from None
-    deadline = None if arguments.seconds is None else time.monotonic() + arguments.seconds
-    try:
-        least = cost.least(problem, costs, None if arguments.seconds is None else arguments.seconds * _SHARE)
-    except cost.NotLeast as error:
-        if error.best is None:
-            return _fail(f"no solution was found in {arguments.seconds:g} seconds")
-        told = f"{_number(error.best.cost)} is the least cost that was found"
-        proof = f"in {arguments.seconds:g} seconds it wasn't proved that there is no less"
-        _show_found(Found(problem, error.best.numbers, f"helgrothy: {told}; {proof}"), arguments)
-        return 2
-    if least is None:
-        for line in ["Altogether 0 solutions.", *_reasons(problem, deadline)]:
-            console.say(line)
-        return 1
-    told = f"The least cost is {_number(least.cost)}."
-    return _show_found(Found(problem, least.numbers, told), arguments)
-
-
-def _number(value: Fraction) -> str:
-    """A number that was a decimal one, as such."""
-    return str(value) if value.denominator == 1 else f"{Decimal(value.numerator) / Decimal(value.denominator):f}"
-
-
-def _counted(total: int) -> str:
-    return f"{total} solution{'' if total == 1 else 's'}"
-
-
-def _reasons(problem: Problem[Any], deadline: float | None) -> list[str]:
-    """Why there is no solution, where a short while tells."""
-    left = _REASON_SECONDS if deadline is None else min(_REASON_SECONDS, deadline - time.monotonic())
-    try:
-        conflict = why.find(problem, left * _SHARE) if left > 0 else None
-    except OutOfTime:
-        conflict = None
-    if conflict is None:
-        return [f"no reason was found in {max(left, 0):.2g} seconds; `helgrothy why` may look longer"]
-    return list(conflict.lines(problem))
-
-
-# Shows a solution: its number, its options, what gives the places of these among the problem's, and what gives the
-# steps of the search.
-_Show = Callable[[int, Sequence[Any], Callable[[Sequence[Any]], list[int]], Callable[[], list[Step]]], None]
-
-
-def _showing(
-    problem: Problem[Any],
-    arguments: argparse.Namespace,
-    otherwise: Callable[[Sequence[str]], Any] | None,
-    page: File | None,
-) -> _Show:
-    """What shows solutions one after another: on a page, as data, or drawn."""
-    if page is not None:
-        onto = page
-        return lambda number, options, places, steps: onto.add(number, steps())
-    if arguments.data is not None:
-        data = FORMS[arguments.data](problem)
-        write([data.head()])
-        return lambda number, options, places, steps: write([data.solution(number, places(options))])
-    draw = _drawing(problem, arguments, otherwise)
-    between = iter([""])
-
-    def show(number: int, options: Sequence[Any], places: object, steps: object) -> None:
-        picture = draw([problem.line(option) for option in options])
-        write([next(between, "\n"), picture.svg() if arguments.svg else str(picture)])
-
-    return show
-
-
-def _page(problem: Problem[Any], arguments: argparse.Namespace) -> File | None:
-    """The page that is asked for, if one is."""
-    if not arguments.html:
-        return None
-    try:
-        return File(problem, _drawing(problem, arguments, None))
-    except NoPicture:
-        if (arguments.cell, arguments.row, arguments.column) != (None, None, None):
-            raise
-        return File(problem, None)
-
-
-def _listed_options(lines: Sequence[str]) -> str:
-    """What is shown of a solution without a picture."""
-    return "".join(f"{line}\n" for line in lines)
-
-
 # ---- draw
 
 
@@ -401,7 +200,7 @@ def _add_draw(commands: Any) -> None:
     parser.add_argument("--number", type=positive, metavar="K", help="the solution of this number alone")
     _add_forms(parser, "a picture as SVG, of the first solution or that of --number")
     _add_patterns(parser)
-    parser.set_defaults(command=_draw)
+    parser.set_defaults(command=_by("draw"))
 
 
 def _add_patterns(parser: argparse.ArgumentParser) -> None:
@@ -423,56 +222,7 @@ def _add_patterns(parser: argparse.ArgumentParser) -> None:
     )
 
 
-def _draw(arguments: argparse.Namespace) -> int:
-    if arguments.problem == "-":
-        raise ValueError("the problem is a file; the listing comes from standard input")
-    problem = _problem(arguments.problem)
-    page = _page(problem, arguments)
-    show = _showing(problem, arguments, None, page)
-    shown = 0
-    for listed in problem.listed(console.input_lines()):
-        if arguments.number in (None, listed.number):
-            show(listed.number, listed, lambda _: listed.numbers, lambda: listed.steps)
-            shown += 1
-            if arguments.svg or arguments.number or page is not None and page.is_full:
-                break
-    if page is not None and shown:
-        write([page.text(shown, False)])
-    return 0 if shown else _fail(f"the listing has no solution {arguments.number or 'to draw'}", 1)
-
-
-def _drawing(
-    problem: Problem[Any], arguments: argparse.Namespace, otherwise: Callable[[Sequence[str]], Any] | None
-) -> Callable[[Sequence[str]], Any]:
-    """What draws solutions: by the patterns that are given, else as the problem was made, else otherwise."""
-    if arguments.cell is not None and "(?P<layer>" in arguments.cell and otherwise is not None:
-        # The cells of a box are for its symmetries; they have no picture by a pattern.
-        return otherwise
-    by_them = by_patterns(problem, arguments.cell, arguments.row, arguments.column, arguments.label)
-    if by_them is not None:
-        return by_them
-    try:
-        drawing: Drawing = drawing_of(problem)
-    except NoPicture:
-        if otherwise is None or arguments.svg:
-            raise
-        return otherwise
-    return drawing if otherwise is None or arguments.svg else _drawn_or(drawing, otherwise)
-
-
-def _drawn_or(drawing: Drawing, otherwise: Callable[[Sequence[str]], Any]) -> Callable[[Sequence[str]], Any]:
-    """A drawing, or what else is shown of a solution that it doesn't draw."""
-
-    def draw(lines: Sequence[str]) -> Any:
-        try:
-            return drawing(lines)
-        except NoPicture:
-            return otherwise(lines)
-
-    return draw
-
-
-# ---- lint, export, why
+# ---- lint, export, why, page
 
 
 def _add_lint(commands: Any) -> None:
@@ -484,16 +234,12 @@ def _add_lint(commands: Any) -> None:
     )
     console.add_problem(parser)
     parser.add_argument("--for", dest="program", choices=["dlx1", "dlx2", "dlx3"], default="dlx3", help="default: dlx3")
-    parser.set_defaults(command=_lint)
-
-
-def _lint(arguments: argparse.Namespace) -> int:
-    remarks = lint(console.read(arguments.problem), int(arguments.program[-1]))
-    write(f"{remark}\n" for remark in remarks)
-    return 1 if remarks else 0
+    parser.set_defaults(command=_by("lint"))
 
 
 def _add_export(commands: Any) -> None:
+    from .export import FORMATS
+
     parser = commands.add_parser(
         "export",
         help="write a problem for another solver",
@@ -502,15 +248,12 @@ def _add_export(commands: Any) -> None:
     )
     parser.add_argument("format", choices=sorted(FORMATS), help="the format")
     console.add_problem(parser)
-    parser.set_defaults(command=_export)
-
-
-def _export(arguments: argparse.Namespace) -> int:
-    write(f"{line}\n" for line in FORMATS[arguments.format](_problem(arguments.problem)))
-    return 0
+    parser.set_defaults(command=_by("export"))
 
 
 def _add_import(commands: Any) -> None:
+    from .answers import SOLVERS
+
     parser = commands.add_parser(
         "import",
         help="read another solver's answer as a listing",
@@ -520,19 +263,9 @@ def _add_import(commands: Any) -> None:
         "helgrothy draw mine.dlx",
         formatter_class=argparse.RawDescriptionHelpFormatter,
     )
-    parser.add_argument("solver", choices=answers.SOLVERS, help="the solver")
+    parser.add_argument("solver", choices=SOLVERS, help="the solver")
     parser.add_argument("problem", metavar="PROBLEM", help="the file of the problem that was exported")
-    parser.set_defaults(command=_import)
-
-
-def _import(arguments: argparse.Namespace) -> int:
-    if arguments.problem == "-":
-        raise ValueError("the problem is a file; the answer comes from standard input")
-    problem = _problem(arguments.problem)
-    shown = 0
-    for shown, found in enumerate(answers.solutions(arguments.solver, problem, console.input_lines()), 1):
-        console.write_bytes(problem._listing([found], shown))
-    return 0 if shown else _fail(f"{arguments.solver} says that there is no solution", 1)
+    parser.set_defaults(command=_by("import_"))
 
 
 def _add_why(commands: Any) -> None:
@@ -545,27 +278,37 @@ def _add_why(commands: Any) -> None:
     )
     console.add_problem(parser)
     parser.add_argument("--seconds", type=seconds, default=10.0, metavar="S", help="the time (default: 10)")
-    parser.set_defaults(command=_why)
+    parser.set_defaults(command=_by("why"))
 
 
-def _why(arguments: argparse.Namespace) -> int:
-    problem = _problem(arguments.problem)
-    try:
-        conflict = why.find(problem, arguments.seconds * _SHARE)
-    except OutOfTime:
-        return _fail(f"in {arguments.seconds:g} seconds it isn't known whether there is a solution")
-    if conflict is None:
-        return _fail("there is a solution", 1)
-    write(f"{line}\n" for line in conflict.lines(problem))
-    return 0
+def _add_page(commands: Any) -> None:
+    from .page import commands as pages
+
+    pages.add(commands)
 
 
-# ---- what commands have in common
+# ---- long searches
 
 
-def _problem(path: str) -> Problem[Any]:
-    text = console.read(path)
-    try:
-        return Problem.parse(text)
-    except HelgrothyError as error:
-        raise ValueError(f"{'standard input' if path == '-' else path}: {error}") from None
+def _add_searching(name: str) -> Callable[[Any], None]:
+    """What adds a command of a long search."""
+
+    def add(commands: Any) -> None:
+        from .spans import commands as spans
+
+        spans.add(commands, name)
+
+    return add
+
+
+# What adds the other commands to a parser.
+_ADDS: dict[str, Callable[[Any], None]] = {
+    "solve": _add_solve,
+    "draw": _add_draw,
+    "lint": _add_lint,
+    "export": _add_export,
+    "import": _add_import,
+    "why": _add_why,
+    "page": _add_page,
+    **{name: _add_searching(name) for name in ("search", "status", "result", "rows")},
+}

@@ -466,7 +466,7 @@ def drawing_of(problem: Problem[Any]) -> Drawing:
     from .make.kind import kind_of
 
     name = kind_of(problem.comments)
-    if name not in KINDS:
+    if name is None or name not in KINDS:
         raise NoPicture("no comment of the problem says that `helgrothy make` made it; patterns can draw it")
 
     def as_made(draw: Callable[[Any], Any], given: Any) -> Any:

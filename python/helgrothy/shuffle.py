@@ -25,7 +25,8 @@ Option = TypeVar("Option", bound=Any)
 _FIRST_STEPS = 1_000
 _MOST_STEPS = 1 << 60
 _HEADER = re.compile(rb"^[0-9]+:\n", re.MULTILINE)
-_RECORD = re.compile(rb"^from [0-9.-]+ until [0-9.-]+ (of [0-9.-]+ )?solutions [0-9]+ steps [0-9]+\n\Z", re.MULTILINE)
+_ROWS = rb"from [0-9.-]+ until [0-9.-]+ (of [0-9.-]+ )?"
+_RECORD = re.compile(rb"^%ssolutions [0-9]+ steps [0-9]+ problem [0-9a-f]{16}\n\Z" % _ROWS, re.MULTILINE)
 
 
 def order(count: int, rng: random.Random) -> list[int]:

@@ -1,5 +1,6 @@
-"""Random problems of all kinds, as texts."""
+"""Random problems of all kinds, as texts, and their digests."""
 
+import hashlib
 import math
 import random
 
@@ -31,6 +32,32 @@ def problem_of(rng: random.Random, kind: int, items: int = 7, options: int = 18,
         if rng.random() < 0.05:
             lines.append(rng.choice(["", "| i0 is a comment"]))
     return ("\n".join(lines) + rng.choice(["\n", "\n", ""])).encode()
+
+
+def plain(problem: bytes) -> bytes:
+    """A text without fault as it was read: all bounds, one blank before each word, and nothing that is passed over."""
+    lines = [line for line in problem.split(b"\n") if line.strip() and not line.lstrip().startswith(b"|")]
+    items: list = [b""]
+    is_primary, names = True, set()
+    for token in lines[0].replace(b" |", b" | ").replace(b"\t|", b" | ").split():
+        if token == b"|":
+            is_primary = False
+            items.append(token)
+        elif is_primary:
+            bounds, _, name = token.rpartition(b"|")
+            low, _, high = (bounds or b"1").rpartition(b":")
+            names.add(name)
+            items.append(b"%d:%d|%s" % (int(low or high), int(high), name))
+        else:
+            items.append(token)
+    items += [b"|"] if is_primary else []
+    kept = [line.split() for line in lines[1:] if not names.isdisjoint(line.split())]
+    return b"".join(b" ".join(words) + b"\n" for words in (items, *([b"", *uses] for uses in kept)))
+
+
+def digest_of(problem: bytes) -> str:
+    """A problem's digest, as the texts of its spans have it."""
+    return hashlib.sha256(plain(problem)).hexdigest()[:16]
 
 
 def narrow(rng: random.Random, queens: int) -> bytes:

@@ -183,7 +183,7 @@ class Time(unittest.TestCase):
             while True:
                 pass
 
-        with mock.patch("helgrothy.commands._problem", slow):
+        with mock.patch("helgrothy.acts._problem", slow):
             status, _, error = run("solve", "--seconds", "0.1")
         self.assertEqual((status, error), (2, "helgrothy: it wasn't done in 0.1 seconds\n"))
 

@@ -10,7 +10,7 @@ from unittest import mock
 
 from folders import InFolder
 
-from helgrothy import OutOfTime, commands, make, sums, why
+from helgrothy import OutOfTime, acts, make, sums, why
 from helgrothy.__main__ import main
 
 # Each mistake with the line that says what is wrong, and what to do.
@@ -110,7 +110,7 @@ class Commands(InFolder):
         self.assertEqual(run("export", "cnf", given="A\nA\n")[1].splitlines()[1:], ["p cnf 1 1", "1 0"])
 
     # A machine that does other things too finds none in a second or two.
-    @mock.patch.object(commands, "_REASON_SECONDS", 99.0)
+    @mock.patch.object(acts, "_REASON_SECONDS", 99.0)
     @mock.patch("helgrothy.lint.search", lambda problem, _: sums.search(problem, 100.0))
     def test_no_solution_has_its_reason(self):
         told = "Altogether 0 solutions.\ncan't all be held: B\nit is in no option\n"

@@ -12,6 +12,7 @@ import subprocess
 import sys
 import tempfile
 import threading
+import time
 import unittest
 from concurrent.futures import Executor, Future, ProcessPoolExecutor, ThreadPoolExecutor
 from unittest import mock
@@ -25,9 +26,10 @@ from helgrothy.spans.folder import Folder
 from helgrothy.spans.loop import Job, Kept, Loop
 from helgrothy.spans.pace import Pace
 from helgrothy.spans.rows import PARTS, WHOLE, Span, cut, place, read, share_of, word_of
-from tests.problems import narrow, problem_of
+from tests.problems import digest_of, narrow, problem_of
 
 QUEENS = make.queens.problem(7).text.encode()
+DIGEST = digest_of(QUEENS)
 FIFTH = PARTS // 5
 
 
@@ -123,6 +125,34 @@ class Rows(unittest.TestCase):
         self.assertEqual(len(cut(WHOLE._replace(start=(1, 1)), (2, 3), 9)), 4)
         self.assertEqual(len(cut(WHOLE._replace(start=(1,)), (1,), 9)), 1)
 
+    def test_a_level_of_many_branches_is_cut(self):
+        """Though each branch is a small part of the span, some of them together aren't."""
+        rest = Span((2831,), None, place((2831,), (9000,)), PARTS)
+        pieces = cut(rest, (9000,), 8)
+        self.assertEqual([len(piece.start) for piece in pieces], [1] * 8)
+        sizes = [piece.ends - piece.begins for piece in pieces]
+        self.assertLess(max(sizes) / min(sizes), 1.01)
+        # No level is cut whose branches are a small part of it even together.
+        self.assertEqual(cut(rest._replace(start=(2831, 1, 5)), (9000, 1, 9), 8)[0].until, (3603,))
+        last = Span((8999, 2000), None, place((8999, 2000), (9000, 2001)), PARTS)
+        self.assertEqual([piece.start for piece in cut(last, (9000, 2001), 8)], [(8999, 2000), (9000,)])
+
+    def test_rows_of_many_numbers_are_cheap(self):
+        """What is done for a record takes twice as long where its rows are twice as long."""
+
+        def used(levels):
+            row, branches = (1,) * levels, (2,) * levels
+            line = f"from {word_of(row)} until {word_of((*row[1:], 2))} of {word_of(branches)} solutions 7 steps 9 problem {DIGEST}\n"
+            part = Span(row, None, place(row, branches), PARTS)
+            begun = time.process_time()
+            found = record.of_text(line.encode(), part, False)
+            at = place(found.until, found.branches)
+            cut(Span(found.until, None, at, PARTS), found.branches, 8)
+            return time.process_time() - begun
+
+        short, long = (min(used(levels) for _ in range(5)) for levels in (10_000, 40_000))
+        self.assertLess(long / short, 10)
+
     def test_gaps(self):
         self.assertEqual(folders.gaps([]), [WHOLE])
         done = [Span((), (2,), 0, 50), Span((3,), (4,), 60, 70)]
@@ -144,29 +174,54 @@ class Records(unittest.TestCase):
     def test_what_is_refused(self):
         part = Span((3,), (4, 1), 0, PARTS)
         right = [
-            (b"from 3 until 4.1 solutions 7 steps 9\n", False, ((4, 1), (), 7)),
-            (b"from 3 until 3.2.1 of 8.9.2 solutions 0 steps 9\n", False, ((3, 2, 1), (8, 9, 2), 0)),
-            (b"from 3\n1:\n a (1 of 1)\nfrom 3 until 4.1 solutions 1 steps 9\n", True, ((4, 1), (), 1)),
+            (b"from 3 until 4.1 solutions 7 steps 9%s\n", False, ((4, 1), (), 7)),
+            (b"from 3 until 3.2.1 of 8.9.2 solutions 0 steps 9%s\n", False, ((3, 2, 1), (8, 9, 2), 0)),
+            (b"from 3%s\n1:\n a (1 of 1)\nfrom 3 until 4.1 solutions 1 steps 9%s\n", True, ((4, 1), (), 1)),
         ]
-        for given, listed, wanted in right:
-            found = record.of_text(given, part, listed)
-            self.assertEqual((found.until, found.branches, found.solutions), wanted)
+        digest = "0123456789abcdef"
+        of, other = (b" problem " + word.encode() for word in (digest, "f" * 16))
+        for line, listed, wanted in right:
+            given = line.replace(b"%s", of)
+            for known in ("", digest):
+                found = record.of_text(given, part, listed, known)
+                self.assertEqual((found.until, found.branches, found.solutions, found.digest), (*wanted, digest))
+            with self.assertRaisesRegex(SearchFault, "a text of another problem"):
+                record.of_text(given, part, listed, "f" * 16)
+            # Some of it, all without a digest, and one of another problem in a line of two.
+            for wrong in (line.replace(b"%s", b""), given.replace(digest.encode(), digest.upper().encode()), given[:-2] + b"\n"):
+                with self.assertRaises(SearchFault):
+                    record.of_text(wrong, part, listed)
+            if listed:
+                with self.assertRaises(SearchFault):
+                    record.of_text(given.replace(of, other, 1), part, listed)
             for at in range(len(given)):
                 with self.assertRaises(SearchFault):
                     record.of_text(given[:at], part, listed)
         for given in (
-            b"from 3 until 4 solutions 7 steps 9\n",
-            b"from 2 until 4.1 solutions 7 steps 9\n",
-            b"from 3 until 4.1 of 8.8 solutions 7 steps 9\n",
-            b"from 3 until 3 of 8 solutions 7 steps 9\n",
-            b"from 3 until 5 of 8 solutions 7 steps 9\n",
-            b"from 3 until 3.1 of 8 solutions 7 steps 9\n",
-            b"from 3 until 4.1 solutions -7 steps 9\n",
-            b"from 3\nfrom 3 until 4.1 solutions 7 steps 9\n",
+            b"from 3 until 4 solutions 7 steps 9%s\n",
+            b"from 2 until 4.1 solutions 7 steps 9%s\n",
+            b"from 3 until 4.1 of 8.8 solutions 7 steps 9%s\n",
+            b"from 3 until 3 of 8 solutions 7 steps 9%s\n",
+            b"from 3 until 5 of 8 solutions 7 steps 9%s\n",
+            b"from 3 until 3.1 of 8 solutions 7 steps 9%s\n",
+            b"from 3 until 4.1 solutions -7 steps 9%s\n",
+            b"from 3%s\nfrom 3 until 4.1 solutions 7 steps 9%s\n",
             b"\n",
         ):
             with self.subTest(given=given), self.assertRaises(SearchFault):
-                record.of_text(given, part, False)
+                record.of_text(given.replace(b"%s", of), part, False)
+
+    def test_the_digest_of_a_problem(self):
+        """It is that of the problem as it was read, and not of its text."""
+        rng = random.Random(12)
+        for kind in (1, 2, 3):
+            for _ in range(20):
+                problem = problem_of(rng, kind)
+                for listed in (False, True):
+                    ran = span.run(span.Task(kind, listed, problem, "-", "-", rng.randint(0, 9), 0))
+                    self.assertEqual(record.of_text(ran.text, WHOLE, listed).digest, digest_of(problem), problem)
+        self.assertEqual(digest_of(b"| a remark\n\nA  | x\n\tx A\r\nx\n"), digest_of(b"A |x\nx A"))
+        self.assertNotEqual(digest_of(b"A B\nA B\n"), digest_of(b"A B\nB A\n"))
 
 
 class Paces(unittest.TestCase):
@@ -181,15 +236,26 @@ class Paces(unittest.TestCase):
         def seconds(elapsed, rest, left=float("inf")):
             return pace.steps(elapsed, rest, left) / 500_000
 
-        # Half of the time that it has taken, where nothing is known of the rest, and else a third of that.
+        # Half of the time that it has taken, where nothing is known of the rest, and else a third of that; and not all
+        # of what is left of the time that it may take.
         self.assertAlmostEqual(seconds(2.0, None), 1.0, delta=0.1)
         self.assertAlmostEqual(seconds(2.0, 100.0), 1.0, delta=0.1)
         self.assertAlmostEqual(seconds(2.0, 1.5), 0.5, delta=0.05)
         self.assertAlmostEqual(seconds(20.0, 0.0), 0.5, delta=0.05)
         self.assertAlmostEqual(seconds(0.0, None), 0.1, delta=0.01)
         self.assertAlmostEqual(seconds(1e6, 1e6), 10, delta=1)
-        self.assertLessEqual(seconds(1e6, 1e6, 0.5), 0.6)
+        self.assertLessEqual(seconds(1e6, 1e6, 0.5), 0.45)
         self.assertEqual(pace.steps(1e6, None, -1.0), 1)
+
+    def test_little_is_lost_where_a_run_is_stopped(self):
+        """A second, of a search of hours a 3600th of its time, and no more than 33 times what it takes to start."""
+        for start, elapsed, least, most in ((0.001, 12.0, 0.9, 1.1), (0.001, 7200.0, 1.8, 2.2), (0.1, 12.0, 2.5, 3.4)):
+            pace = Pace(0, workers.Own.longest)
+            for _ in range(30):
+                steps = pace.steps(elapsed, None, float("inf"))
+                pace.took(steps, start + steps / 500_000, 50)
+            seconds = pace.steps(elapsed, 1e6, float("inf")) / 500_000
+            self.assertTrue(least < seconds < most, (start, elapsed, seconds))
 
     def test_a_slow_start(self):
         pace = Pace(0)
@@ -395,6 +461,21 @@ class Loops(unittest.TestCase):
         with mock.patch.object(loop, "__version__", "0.0.9"), self.assertRaisesRegex(SearchFault, "version"):
             make.queens.problem(6).count(jobs=1)
 
+    def test_texts_of_another_problem(self):
+        """As by a worker that reads another file; the first text says which it is, or who began the search."""
+        others = iter([QUEENS, b"A\nA\n"])
+
+        def submit(task, done):
+            done(span.run(task._replace(problem=next(others))))
+            return lambda: None
+
+        for job, count in ((Job(QUEENS, 1, False), 1), (Job(b"", 1, False, digest_of(b"A\nA\nA\n")), 0)):
+            kept: list = []
+            with mock.patch.object(Pace, "steps", lambda *_: 50), self.assertRaisesRegex(SearchFault, "of another problem"):
+                Loop(job, submit, lambda: 1, kept.append, None).search([WHOLE])
+            self.assertEqual(len(kept), count)
+            others = iter([QUEENS])
+
     def test_a_fault_comes_at_once(self):
         job = Job(b"A\nB\n", 1, False)
         search = Loop(job, loop.submitting(Reversed(0.0, 1)), lambda: 1, lambda _: None, None)
@@ -520,7 +601,7 @@ class Folders(unittest.TestCase):
         top = tempfile.TemporaryDirectory()
         self.addCleanup(top.cleanup)
         self.path = os.path.join(top.name, "q.search")
-        self.job = Job(QUEENS, 1, listed=False)
+        self.job = Job(QUEENS, 1, False, DIGEST, "q.dlx")
 
     def fill(self, job=None, flushes=1):
         """Some spans that are done, of which the second is left."""
@@ -578,20 +659,35 @@ class Folders(unittest.TestCase):
         self.assertIn("99.9 % done", out.getvalue())
 
     def test_a_listing_stays_in_files(self):
-        self.assertEqual(len(self.fill(Job(QUEENS, 1, True), flushes=3)), 3)
+        self.assertEqual(len(self.fill(self.job._replace(listed=True), flushes=3)), 3)
 
     def test_another_search_is_refused(self):
         self.fill()
-        for job, what in (
-            (Job(QUEENS + b"\n", 1, False), "another problem"),
-            (Job(QUEENS, 2, False), "the program dlx1, not dlx2"),
-            (Job(QUEENS, 1, True), "a search that counts solutions"),
+        for change, what in (
+            ({"problem": b"A\nA\n", "digest": digest_of(b"A\nA\n"), "name": "a.dlx"}, "another problem than a.dlx"),
+            ({"kind": 2}, "the program dlx1, not dlx2"),
+            ({"listed": True}, "a search that counts solutions"),
         ):
+            job = self.job._replace(**change)
             with self.assertRaisesRegex(SearchFault, f"{self.path}: it is of {what}"):
                 Folder(self.path, job)
         told = "of version 0.1.0"
         with mock.patch.object(about, "__version__", "0.0.9"), self.assertRaisesRegex(SearchFault, told):
             Folder(self.path, self.job)
+
+    def test_a_text_with_other_remarks_is_the_same_problem(self):
+        self.fill()
+        changed = self.job._replace(problem=b"| a remark\n" + QUEENS)
+        for job in (changed, self.job):
+            with Folder(self.path, job) as folder:
+                self.assertEqual((folder.problem(), len(folder.todo())), (QUEENS, 1))
+                folder.check()
+        path = os.path.join(self.path, "problem.dlx")
+        os.remove(path)
+        with self.assertRaisesRegex(SearchFault, f"{path}: it is gone, and q.dlx isn't as it was"):
+            Folder(self.path, changed)
+        with Folder(self.path, self.job) as folder:
+            self.assertEqual(folder.problem(), QUEENS)
 
     def test_a_folder_of_another_form(self):
         """As an earlier version wrote it, whose number may be the same."""
@@ -599,7 +695,7 @@ class Folders(unittest.TestCase):
         path = os.path.join(self.path, "helgrothy.search")
         with open(path) as file:
             right = file.read()
-        for first in ("helgrothy search", "helgrothy search, form 1", "helgrothy search, form 3"):
+        for first in ("helgrothy search", "helgrothy search, form 2", "helgrothy search, form 4"):
             with open(path, "w") as file:
                 file.write(right.replace(right.partition("\n")[0], first))
             for how in ({"job": self.job}, {"is_read": True}):
@@ -746,7 +842,7 @@ class Folders(unittest.TestCase):
         mine = {name: b"mine" for name in ("20261128.tmp", "search.tmp", "problem.dlx.tmp", "lock", "search", "notes")}
         other = self.path + ".other"
         self.path, path = other, self.path
-        name = self.fill(Job(QUEENS, 1, listed=True), flushes=2)[-1]
+        name = self.fill(self.job._replace(listed=True), flushes=2)[-1]
         self.path = path
         for one, given in mine.items():
             with open(os.path.join(self.path, one), "wb") as file:
@@ -839,7 +935,7 @@ class Folders(unittest.TestCase):
         name = self.fill()[0]
         other = f"{self.path}.other"
         shutil.move(self.path, other)
-        with Folder(self.path, Job(QUEENS + b"| the same\n", 1, False)):
+        with Folder(self.path, self.job._replace(problem=QUEENS + b"| the same\n")):
             pass
         shutil.copy(os.path.join(other, name), self.path)
         with self.assertRaisesRegex(SearchFault, f"{name}: it is damaged, or of another search"):

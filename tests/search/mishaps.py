@@ -8,8 +8,10 @@ import socket
 import subprocess
 import tempfile
 import time
+from collections import Counter
 
-from .trial import CANT, LONG, MOST_JOBS, NOT_DONE, TOP, Wrong
+from .texts import Refused, joined, rows_in
+from .trial import CANT, LONG, MOST_JOBS, NOT_DONE, TOP, Look, Wrong, digest_of, queens
 
 KILLS = [signal.SIGKILL, signal.SIGTERM, signal.SIGINT, signal.SIGHUP]
 
@@ -107,6 +109,33 @@ def group_is_interrupted(trial):
         if trial.spans_begun() > begun + 2 * MOST_JOBS:
             raise Wrong("it didn't stop at once")
         trial.finish()
+
+
+def interrupted_late(trial):
+    """Of what the programs have done little is in no record, after ^C, SIGTERM or the end of the time."""
+    trial.kind, trial.listed, trial.text = 1, False, queens.problem(20).text.encode()
+    trial.write(trial.text)
+    trial.stand_in(f'#!/bin/sh\nexec {shutil.which("dlx-span")} "$@"\n')
+    seconds, jobs = trial.rng.uniform(3, 15), trial.rng.randint(1, MOST_JOBS)
+    way = trial.rng.choice([signal.SIGINT, signal.SIGTERM, None])
+    words = ["search", trial.path, "--jobs", str(jobs), *(["--seconds", str(seconds)] if way is None else [])]
+    process = trial.start(words)
+    if way is not None:
+        while not trial.has_begun() and process.poll() is None:
+            time.sleep(0.01)
+        time.sleep(seconds)
+        os.killpg(process.pid, way)
+    told = process.stderr.read()
+    used = os.wait4(process.pid, 0)[2]
+    process.returncode = 0
+    if way is None and not trial.has_begun():
+        return False
+    kept = sum(entry.seconds for entry in Look(trial.folder).entries.values())
+    lost = used.ru_utime + used.ru_stime - kept
+    trial.say(f"{jobs} workers, {seconds:.1f} seconds, {way}: {lost:.2f} of {kept + lost:.2f} are lost; {told!r}")
+    # Python itself takes some, and where the steps are slower than those before them a span takes longer.
+    if b"the same command goes on" not in told or lost > 1 + 1.5 * jobs:
+        raise Wrong("much is lost")
 
 
 def workers_are_killed(trial):
@@ -455,6 +484,119 @@ def by_hand(trial):
             raise Wrong(f"dlx-join without a text: {done.returncode} {done.stderr!r}")
 
 
+def some_edges(trial):
+    """Rows at which its listing is cut, from those of its solutions."""
+    rows = rows_in(subprocess.run([trial.program, "m1"], input=trial.text, capture_output=True).stdout)
+    cut = {tuple(row[: trial.rng.randint(1, len(row))]) for row in trial.rng.sample(rows, min(len(rows), trial.rng.randint(0, 9)))}
+    return [".".join(map(str, row)) for row in sorted(cut)]
+
+
+def chain_of(trial, problem, listed, edges):
+    """The texts of the spans between rows, some of which are broken off and gone on with."""
+    texts = []
+    at = "-"
+    for until in [*edges, "-"]:
+        while True:
+            command = ["dlx-span", str(trial.kind), "m1" if listed else "m0", str(trial.rng.choice([0, 0, 500])), at, until]
+            texts.append(subprocess.run(command, input=problem, capture_output=True, check=True).stdout)
+            at = texts[-1].split(b"\n")[-2].split(b" ")[3].decode()
+            if at == until:
+                break
+    return texts
+
+
+def join(trial, listed, texts):
+    """What dlx-join says of texts in files, with the files' names."""
+    files = []
+    for number, text in enumerate(texts):
+        files.append(os.path.join(trial.top, f"{number}.text"))
+        with open(files[-1], "wb") as file:
+            file.write(text)
+    return files, subprocess.run(["dlx-join", "m1" if listed else "m0", *files], capture_output=True)
+
+
+def problems_are_mixed(trial):
+    """Texts of another problem among those between the same rows: as where the problem's file was changed."""
+    items, *options = [line for line in trial.text.split(b"\n") if line.strip() and not line.lstrip().startswith(b"|")]
+    others = [options[:-1], [*options, *options[-1:]], options[::-1], [*options[1:], *options[:1]]]
+    problems = [trial.text, *(b"\n".join([items, *other]) for other in others)]
+    edges = some_edges(trial)
+    refused = 0
+    for listed in (False, True):
+        chains = [(digest_of(problem), chain_of(trial, problem, listed, edges)) for problem in problems]
+        for _ in range(10):
+            (digest, mixed), (other, texts) = trial.rng.sample(chains, 2)
+            at = trial.rng.randrange(len(mixed))
+            mixed = [*mixed[:at], trial.rng.choice(texts), *mixed[at + 1 :]]
+            files, done = join(trial, listed, mixed)
+            if digest == other or len(mixed) == 1:
+                continue
+            refused += 1
+            # Before ends that don't meet are looked at.
+            told = f"{files[max(at, 1)]}: line 1: another problem than in {files[0]}: line 1.\n"
+            gap = f"{files[0]}: line 1: gap from - until ".encode()
+            if at == 0 and done.stderr.startswith(gap):
+                continue
+            if (done.returncode, done.stderr.decode()) != (5, told):
+                raise Wrong(f"dlx-join: {done.returncode} {done.stderr!r}, and not {told!r}")
+    trial.say(f"{refused} joins of two problems refused")
+
+
+def listings_are_damaged(trial):
+    """A line of some texts is lost, doubled, exchanged, has another end or is another one. What is joined then is what a
+    reader of its own takes: texts whose rows rise as well, since nothing else of a choice line can be known."""
+    text = b"".join(chain_of(trial, trial.text, True, some_edges(trial)))
+    whole = joined(text)
+    seen = Counter()
+    for _ in range(60):
+        lines = text.splitlines(True)
+        what = damage_line(trial.rng, lines)
+        damaged = b"".join(lines)
+        done = subprocess.run(["dlx-join", "m1"], input=damaged, capture_output=True)
+        try:
+            right = joined(damaged)
+        except Refused:
+            right = None
+        seen[done.returncode] += 1
+        if (done.returncode == 0) != (right is not None) or done.returncode not in (0, 2, 5):
+            raise Wrong(f"dlx-join: {done.returncode} {done.stderr!r} for {what}")
+        if right is not None and done.stdout != right:
+            raise Wrong(f"dlx-join prints another listing for {what}")
+        if right is not None and rows_in(right) != rows_in(whole):
+            seen["0 with other rows"] += 1
+    trial.say(f"statuses: {dict(seen)}")
+
+
+def damage_line(rng, lines):
+    """Damages a line of a text, and says how."""
+    at = rng.randrange(len(lines))
+    line = lines[at]
+    how = rng.choice(["lost", "doubled", "exchanged", "CR LF", "byte", "more", "less", "garbage", "elsewhere"])
+    if how == "lost":
+        del lines[at]
+    elif how == "doubled":
+        lines.insert(at, line)
+    elif how == "exchanged":
+        other = rng.choice([at - 1, rng.randrange(len(lines))])
+        lines[at], lines[other] = lines[other], line
+    elif how == "CR LF":
+        lines[at] = line[:-1] + b"\r\n"
+    elif how == "byte":
+        place = rng.randrange(len(line))
+        lines[at] = line[:place] + bytes([rng.randrange(256)]) + line[place + 1 :]
+    elif how == "more":
+        place = rng.randrange(len(line))
+        lines[at] = line[:place] + rng.choice([b" ", b"\0", b"\t", b"0", b"1", b"\xff", b"\n"]) + line[place:]
+    elif how == "less":
+        place = rng.randrange(len(line))
+        lines[at] = line[:place] + line[place + rng.randint(1, 5) :]
+    elif how == "garbage":
+        lines.insert(at, rng.choice([b"\n", b" \n", b" x\n", b"x (1 of 1)\n", b"1:\n", rng.randbytes(9) + b"\n"]))
+    else:
+        lines.insert(rng.randrange(len(lines)), lines.pop(at))
+    return f"line {at + 1} of {len(lines)}, {line!r}: {how}"
+
+
 def workers_of_dask(trial):
     """A scheduler and some workers, of which some are killed and others come."""
     if not HAS_DASK:
@@ -501,6 +643,7 @@ NAMES = [
     "killed_as_it_begins",
     "folders_of_others",
     "group_is_interrupted",
+    "interrupted_late",
     "workers_are_killed",
     "stopped_and_continued",
     "two_commands",
@@ -517,5 +660,7 @@ NAMES = [
     "programs_fail",
     "programs_fail",
     "by_hand",
+    "problems_are_mixed",
+    "listings_are_damaged",
     "workers_of_dask",
 ]

@@ -4,11 +4,12 @@
 Workers and the command are killed, stopped and continued, two commands share a folder, disks are full, memory and open
 files are few, files are damaged, exchanged and of another time, the problem changes during a run and is put back,
 programs fail or give a half, workers of Dask are killed where its package is installed, the command is killed as it
-makes the folder, and the folder or files in it are another one's, which have to stay as they are. Whenever a command
-ends with status 0 what it printed has to be the listing and the messages of the program in one, byte for byte; with
-another status it has to say why, in lines and not in a traceback; the same command has to go on to that listing once
-the mishap is over; and no program may be left. dlx1, dlx2, dlx3, dlx-span, dlx-join and helgrothy have to be on the
-path. A try that fails is printed. The last lines are the tries of each mishap, and `N passed, M failed`.
+makes the folder, the folder or files in it are another one's, which have to stay as they are, and texts of two problems
+are mixed and lines of texts damaged, which dlx-join has to refuse. Whenever a command ends with status 0 what it
+printed has to be the listing and the messages of the program in one, byte for byte; with another status it has to say
+why, in lines and not in a traceback; the same command has to go on to that listing once the mishap is over; and no
+program may be left. dlx1, dlx2, dlx3, dlx-span, dlx-join and helgrothy have to be on the path. A try that fails is
+printed. The last lines are the tries of each mishap, and `N passed, M failed`.
 """
 
 import concurrent.futures

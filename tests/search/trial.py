@@ -15,7 +15,8 @@ sys.path[:0] = [os.path.join(TOP, "python"), os.path.join(TOP, "python", "tests"
 os.environ["PYTHONDONTWRITEBYTECODE"] = "1"
 
 from helgrothy.make import langford, queens  # noqa: E402
-from problems import narrow, problem_of  # noqa: E402
+from helgrothy.spans.folder import Look  # noqa: E402, F401
+from problems import digest_of, narrow, problem_of  # noqa: E402, F401
 
 NOT_DONE, CANT, STOPPED = 6, 2, (129, 130, 131, 143, -1, -2, -3, -9, -15)
 # A command that doesn't end in so many seconds never ends, whatever else the machine does; a program whose command was ended
@@ -56,7 +57,7 @@ class Trial:
         self.whole = done.stdout, done.stderr
         self.bin = os.path.join(self.top, "bin")
         told = subprocess.run(["dlx-span", str(self.kind), "m0", "0", "-", "-"], input=self.text, capture_output=True)
-        most = max(int(told.stdout.split()[-1]) // SPANS, 1)
+        most = max(int(told.stdout.split()[-3]) // SPANS, 1)
         self.begun = os.path.join(self.top, "begun")
         how = {"begun": self.begun, "pause": rng.randint(1, 7), "most": most, "program": shutil.which("dlx-span")}
         self.slow = SLOW.format(**how)
@@ -214,7 +215,7 @@ class Trial:
         """Whether the folder is that of a search: its first file is whole."""
         try:
             with open(os.path.join(self.folder, "helgrothy.search"), "rb") as file:
-                return file.read().count(b"\n") == 6
+                return file.read().count(b"\n") == 7
         except OSError:
             return False
 

@@ -23,39 +23,27 @@ The kinds; `help(make.sudoku)` says what one takes:
 `KINDS` has them by name; the `cell` of one is the pattern of its cells that `symmetry.motions` takes.
 """
 
-from . import (
-    kakuro,
-    langford,
-    nonogram,
-    polycubes,
-    polyominoes,
-    queens,
-    roster,
-    roundrobin,
-    sudoku,
-    tests,
-    timetable,
-    words,
-)
-from .kind import Kind
+from collections.abc import Iterator, Mapping
+from importlib import import_module
+from typing import TYPE_CHECKING, Any
 
-KINDS: dict[str, Kind] = {
-    kind.name: kind
-    for kind in (
-        sudoku.KIND,
-        queens.KIND,
-        langford.KIND,
-        polyominoes.KIND,
-        polycubes.KIND,
-        words.KIND,
-        nonogram.KIND,
-        kakuro.KIND,
-        roster.KIND,
-        roundrobin.KIND,
-        tests.KIND,
-        timetable.KIND,
+if TYPE_CHECKING:
+    from . import (
+        kakuro,
+        langford,
+        nonogram,
+        polycubes,
+        polyominoes,
+        queens,
+        roster,
+        roundrobin,
+        sudoku,
+        tests,
+        timetable,
+        words,
     )
-}
+    from .kind import Kind
+
 __all__ = [
     "KINDS",
     "kakuro",
@@ -71,3 +59,56 @@ __all__ = [
     "timetable",
     "words",
 ]
+_IN_ORDER = (
+    "sudoku",
+    "queens",
+    "langford",
+    "polyominoes",
+    "polycubes",
+    "words",
+    "nonogram",
+    "kakuro",
+    "roster",
+    "roundrobin",
+    "tests",
+    "timetable",
+)
+
+
+class _Kinds(Mapping[str, "Kind"]):
+    """The kinds by their names, each with its module, which is loaded when it is first asked for."""
+
+    def __getitem__(self, name: str) -> "Kind":
+        if name not in _IN_ORDER:
+            raise KeyError(name)
+        kind: Kind = _load(name).KIND
+        return kind
+
+    def __contains__(self, name: object) -> bool:
+        return name in _IN_ORDER
+
+    def __iter__(self) -> Iterator[str]:
+        return iter(_IN_ORDER)
+
+    def __len__(self) -> int:
+        return len(_IN_ORDER)
+
+
+KINDS: Mapping[str, "Kind"] = _Kinds()
+
+
+def _load(name: str) -> Any:
+    """The module of a kind."""
+    if name not in _IN_ORDER:
+        raise AttributeError(f"module {__name__!r} has no attribute {name!r}")
+    return import_module(f"{__name__}.{name}")
+
+
+def _names() -> list[str]:
+    """The public names, whether they are loaded or not."""
+    return [*__all__, *(name for name in globals() if name[:2] == "__" and name not in ("__dir__", "__getattr__"))]
+
+
+# A checker of types knows the names from above, and finds those that aren't there.
+if not TYPE_CHECKING:
+    __dir__, __getattr__ = _names, _load

@@ -4,13 +4,11 @@ from __future__ import annotations
 
 import argparse
 import errno
-import json
 from typing import TYPE_CHECKING, Any
 
 from ..console import end_by_signals, say, write
 from ..errors import HelgrothyError
 from ..programs import find
-from .forms import forms
 
 if TYPE_CHECKING:
     from .server import Server
@@ -52,7 +50,10 @@ def _page(arguments: argparse.Namespace) -> int:
 
 def _server(port: int) -> Server:
     # Other commands need no server.
+    import json
+
     from .folders import sweep
+    from .forms import forms
     from .server import Server
 
     sweep()

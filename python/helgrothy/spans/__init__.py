@@ -47,7 +47,8 @@ def count(
         workers = Workers(submitting(executor), jobs or executor_jobs(executor))
     begun = time.monotonic()
     with workers:
-        loop = Loop(Job(problem, kind, listed=False), workers.submit, workers.count, keep, progress, workers.ahead)
+        job = Job(problem, kind, listed=False)
+        loop = Loop(job, workers.submit, workers.count, keep, progress, workers.ahead, workers.longest)
         is_done = loop.search([WHOLE], seconds)
     if not is_done:
         error = OutOfTime(f"the search took longer than {time.monotonic() - begun:.3g} seconds")

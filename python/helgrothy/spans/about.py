@@ -10,23 +10,29 @@ from .. import __version__
 from ..errors import SearchFault
 from .loop import Job
 
-_FORM = "helgrothy search, form 2"
+_FORM = "helgrothy search, form 3"
 _OTHER_FORM = re.compile(r"helgrothy search(?:, form [0-9]{1,9})?\Z")
-# Its lines are the form, the fields of `About` and the digest.
-_LINES = 6
+# Its lines are the form, the fields of `About` and a digest of them.
+_LINES = 7
 
 
 class About(NamedTuple):
-    """What is searched."""
+    """What is searched.
+
+    problem: the digest that records have, by which texts of one problem are alike whatever is between their words.
+    file: that of the bytes of the problem's file.
+    """
 
     version: str
     program: str
     words: str
     problem: str
+    file: str
 
     @classmethod
     def of(cls, job: Job) -> About:
-        return cls(__version__, f"dlx{job.kind}", "m1" if job.listed else "m0", hashlib.sha256(job.problem).hexdigest())
+        words = "m1" if job.listed else "m0"
+        return cls(__version__, f"dlx{job.kind}", words, job.digest, hashlib.sha256(job.problem).hexdigest())
 
     @property
     def listed(self) -> bool:
@@ -55,8 +61,8 @@ def read(text: bytes, path: str, folder: str) -> About:
     if is_of_another_form(text):
         raise another_form(folder)
     lines = text.decode("utf-8", "replace").splitlines()
-    fields = [line.partition(" ")[2] for line in lines[1:5]]
-    if len(fields) < 4:
+    fields = [line.partition(" ")[2] for line in lines[1 : _LINES - 1]]
+    if len(fields) < _LINES - 2:
         raise SearchFault(f"{path}: it is damaged")
     about = About(*fields)
     if about.version != __version__ and lines[0] == _FORM:

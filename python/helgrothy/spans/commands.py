@@ -38,24 +38,9 @@ _SEARCH = "helgrothy search"
 _BAD_PROBLEM = 2
 
 
-def main(words: Sequence[str]) -> int:
-    """Does what words say of which the first is one of these commands, and gives its status."""
-    return console.run("helgrothy", lambda: _act(words), unread=0)
-
-
-def _act(words: Sequence[str]) -> int:
-    parser = console.Parser(prog="helgrothy")
-    # The other commands' parsers take as long as this one's.
-    _ADDS[words[0]](parser.add_subparsers(metavar="COMMAND", required=True))
-    arguments = parser.parse_args(words)
-    status: int = arguments.command(arguments)
-    return status
-
-
-def add(commands: Any) -> None:
-    """The commands, for the parser of `helgrothy`."""
-    for add_one in _ADDS.values():
-        add_one(commands)
+def add(commands: Any, name: str) -> None:
+    """The command of this name, for the parser of `helgrothy`."""
+    _ADDS[name](commands)
 
 
 # ---- search
@@ -103,8 +88,7 @@ def _search(arguments: argparse.Namespace) -> int:
     except ProgramFailed as error:
         return _failed(error)
     except OutOfTime:
-        name = "standard input" if arguments.problem == "-" else arguments.problem
-        console.say(f"helgrothy: not done in {arguments.most:g} seconds: {name} wasn't read by then")
+        console.say(f"helgrothy: not done in {arguments.most:g} seconds: {_name(arguments)} wasn't read by then")
         return NOT_DONE
     is_beside = arguments.folder is None
     path = f"{arguments.problem}.search" if is_beside else arguments.folder
@@ -122,11 +106,11 @@ def _search(arguments: argparse.Namespace) -> int:
 def _read_job(arguments: argparse.Namespace) -> Job:
     """What is to be searched. Raises `ProgramFailed` for a text with a fault, before there is a folder."""
     problem = console.read(arguments.problem)
-    job = Job(problem, _kind(arguments, problem), arguments.list)
-    # The first step tells of a fault.
-    first = run(Task(job.kind, listed=False, problem=problem, start="-", until="-", steps=1, most=0))
-    records.of_text(first.text, WHOLE, listed=False)
-    return job
+    kind = _kind(arguments, problem)
+    # The first step tells of a fault, and the problem's digest.
+    first = run(Task(kind, listed=False, problem=problem, start="-", until="-", steps=1, most=0))
+    digest = records.of_text(first.text, WHOLE, listed=False).digest
+    return Job(problem, kind, arguments.list, digest, _name(arguments))
 
 
 class _Searching:
@@ -172,7 +156,8 @@ class _Searching:
         if not todo:
             return 0
         with self._workers() as workers:
-            self._loop = Loop(self._job, workers.submit, workers.count, self._keep, self._tell, workers.ahead)
+            own = self._keep, self._tell
+            self._loop = Loop(self._job, workers.submit, workers.count, *own, workers.ahead, workers.longest)
             self._loop.done_before(self._folder.parts, self._folder.solutions)
             try:
                 is_done = self._loop.search(list(todo), self._seconds())
@@ -340,8 +325,6 @@ _ADDS: dict[str, Callable[[Any], None]] = {
     "result": _add_result,
     "rows": _add_rows,
 }
-# The commands that `add` adds.
-NAMES = tuple(_ADDS)
 
 
 # ---- dlx-progress
@@ -384,6 +367,11 @@ def _jobs(word: str) -> int:
     if not word.isascii() or not word.isdigit() or len(word) > 20 or not 1 <= int(word) <= MOST_JOBS:
         raise argparse.ArgumentTypeError(f"{word}: it has to be a number from 1 to {MOST_JOBS}")
     return int(word)
+
+
+def _name(arguments: argparse.Namespace) -> str:
+    """What messages call the problem."""
+    return "standard input" if arguments.problem == "-" else str(arguments.problem)
 
 
 def _kind(arguments: argparse.Namespace, problem: bytes) -> int:

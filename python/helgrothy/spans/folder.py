@@ -1,7 +1,7 @@
 """A folder of a search: what is done of it, so that it goes on after whatever ended it.
 
-    helgrothy.search    what is searched: version, program, words and the digest of the problem; held by the one command
-                        that is at work (`held.py`)
+    helgrothy.search    what is searched: version, program, words, the digests of the problem and its file; held by the
+                        one command that is at work (`held.py`)
     problem.dlx         the problem's text
     00000017.span       spans that are done: a line of its digest and where it begins and ends, and texts of dlx-span
     00000018.span.helgrothy-new    such a file as long as it is written
@@ -108,34 +108,38 @@ class Folder:
             self._held.write(about.text())
             to_disk(os.path.dirname(os.path.abspath(self.path)))
         else:
-            self._compare(about, text)
+            # Of the same problem, perhaps from a text with other remarks.
+            about = self._compare(about, text, job.name)
         for name in filter(_LEFT.match, os.listdir(self.path)):
             os.remove(self._name(name))
         if not os.path.lexists(self._name(_PROBLEM)):
+            if about.file != About.of(job).file:
+                raise SearchFault(f"{self._name(_PROBLEM)}: it is gone, and {job.name} isn't as it was")
             self._write(_PROBLEM, [job.problem])
         return about
 
-    def _compare(self, about: About, text: bytes) -> None:
-        """Raises `SearchFault` where the folder isn't that of this search."""
+    def _compare(self, about: About, text: bytes, name: str) -> About:
+        """What the folder is of. Raises `SearchFault` where it isn't this search."""
         if self._held.has_made_file:
             # Something came in the moment in which it was made.
             self._held.give_up()
             raise SearchFault(f"{self.path}: it is no folder of a search, and isn't empty")
         found = read_about(text, self._held.name, self.path)
         for is_same, what in (
-            (found.problem == about.problem, "another problem"),
+            (found.problem == about.problem, f"another problem than {name}"),
             (found.program == about.program, f"the program {found.program}, not {about.program}"),
             (found.words == about.words, f"a search that {'lists' if found.listed else 'counts'} solutions"),
         ):
             if not is_same:
                 raise SearchFault(f"{self.path}: it is of {what}; remove it, or name another one by --folder")
+        return found
 
     def problem(self) -> bytes:
         """The problem's text. Raises `SearchFault` where it isn't the one that is searched."""
         path = self._name(_PROBLEM)
         with opened(path, self._owners) as file:
             text = file.read()
-        if hashlib.sha256(text).hexdigest() != self.about.problem:
+        if hashlib.sha256(text).hexdigest() != self.about.file:
             raise SearchFault(f"{path}: it was changed")
         return text
 

@@ -18,7 +18,7 @@ from typing import TYPE_CHECKING, NamedTuple, Union
 from .. import __version__
 from ..errors import HelgrothyError, ProgramFailed, ProgramNotFound, SearchFault, reason_of
 from . import record as records
-from .pace import SHORTEST, Pace
+from .pace import LONGEST, SHORTEST, Pace
 from .rows import PARTS, Span, cut, place, share_of, word_of
 from .span import Ran, Task, run
 
@@ -71,11 +71,16 @@ class Progress(NamedTuple):
 
 
 class Job(NamedTuple):
-    """What is searched: a problem's text, the program for it, and whether the solutions are listed."""
+    """What is searched: a problem's text, the program for it, and whether the solutions are listed.
+
+    digest: the problem's, as records have it; empty where no program has told it yet. name: what messages call it.
+    """
 
     problem: bytes
     kind: int
     listed: bool
+    digest: str = ""
+    name: str = "the problem"
 
 
 class _Todo(NamedTuple):
@@ -102,7 +107,7 @@ class Loop:
     """A search of spans.
 
     workers: how many there are. keep: takes each span that is done. tell: is told how far the search is, some times a
-    second. ahead: so many tasks are handed out for each worker.
+    second. ahead: so many tasks are handed out for each worker. longest: about so many seconds a span takes at most.
     """
 
     def __init__(
@@ -113,6 +118,7 @@ class Loop:
         keep: Keep,
         tell: Tell | None,
         ahead: int = _AHEAD,
+        longest: float = LONGEST,
     ) -> None:
         self._job = job
         self._submit = submit
@@ -120,7 +126,8 @@ class Loop:
         self._keep = keep
         self._tell = tell
         self._ahead = ahead
-        self._pace = Pace(MOST_TEXT if job.listed else 0)
+        self._pace = Pace(MOST_TEXT if job.listed else 0, longest)
+        self._digest = job.digest
         self._ready: list[tuple[tuple[int, ...], int, _Todo]] = []
         self._number = itertools.count()
         self._came: queue.SimpleQueue[tuple[int, Outcome] | None] = queue.SimpleQueue()
@@ -236,7 +243,8 @@ class Loop:
 
     def _take_text(self, todo: _Todo, ran: Ran) -> None:
         span = todo.span
-        record = records.of_text(ran.text, span, self._job.listed)
+        record = records.of_text(ran.text, span, self._job.listed, self._digest)
+        self._digest = record.digest
         self._pace.took(record.steps, ran.seconds, len(ran.text))
         if not record.branches:
             self._done(Kept(span, ran.text, record.solutions, ran.seconds))

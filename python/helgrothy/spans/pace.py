@@ -3,7 +3,7 @@
 from __future__ import annotations
 
 # The first run takes so many, and tells the numbers of branches by which the rest is cut.
-_FIRST = 5_000
+_FIRST = 500
 # Before anything was measured, steps of a second.
 _GUESS = 1_000_000.0
 _MOST_STEPS = 1 << 62
@@ -12,18 +12,25 @@ _MOST_STEPS = 1 << 62
 # waiting for a small share of the whole.
 _SHARE = 1 / 3
 _LEAST_SHARE, _MOST_SHARE = 1 / 40, 1 / 2
-SHORTEST, _LONGEST = 0.1, 10.0
+SHORTEST, LONGEST = 0.1, 10.0
+# What a run that is stopped has done is lost: about a second, of a search of hours such a share of its time, and where
+# it takes long to start, so much that to start takes this share of a run.
+LONGEST_HERE, _LOST_SHARE, _LOST_START = 1.0, 1 / 3600, 1 / 33
 # To start a program and to read the problem takes at most about this share of a run.
 _START = 1 / 25
+# A run that is the last in the time that a search has takes this share of what is left, so that it ends before that.
+_IN_TIME = 0.8
 # What was measured counts for less with each run.
 _FADES = 0.8
 
 
 class Pace:
-    """Steps of runs, such that no text is likely to be longer than `most` bytes (0 for no bound)."""
+    """Steps of runs, such that no text is likely to be longer than `most` bytes (0 for no bound), and no run of the
+    first hours than `longest` seconds."""
 
-    def __init__(self, most: int) -> None:
+    def __init__(self, most: int, longest: float = LONGEST) -> None:
         self._most = most
+        self._longest = longest
         self._steps = 0.0
         self._seconds = 0.0
         # The steps and seconds of the shortest run.
@@ -41,10 +48,11 @@ class Pace:
         wanted = elapsed * _MOST_SHARE
         if rest is not None:
             wanted = max(min(wanted, rest * _SHARE), elapsed * _LEAST_SHARE)
-        wanted = min(max(wanted, SHORTEST), _LONGEST)
         least_steps, least_seconds = self._least
         start = least_seconds - least_steps / rate
-        steps = rate * max(min(max(wanted, start / _START), left), 0.0)
+        longest = max(self._longest, elapsed * _LOST_SHARE, start / _LOST_START)
+        wanted = min(max(wanted, SHORTEST), longest, LONGEST)
+        steps = rate * max(min(max(wanted, start / _START), left * _IN_TIME), 0.0)
         if self._most and self._bytes_a_step > 0:
             steps = min(steps, self._most / 2 / self._bytes_a_step)
         return int(min(max(steps, 1), _MOST_STEPS))

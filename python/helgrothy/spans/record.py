@@ -1,4 +1,8 @@
-"""The text of a span, as dlx-span writes it: the solutions, if they are listed, and a line that tells what it did."""
+"""The text of a span, as dlx-span writes it: the solutions, if they are listed, and a line that tells what it did.
+
+Both the first line of a listing and the last one have the problem's digest, by which dlx-join knows texts of another
+problem: the first 8 bytes of the SHA-256 of the problem as it was read, whatever is between its words.
+"""
 
 from __future__ import annotations
 
@@ -10,14 +14,15 @@ from .rows import Row, Span, Until, precedes, read, read_until, word_of
 
 _ROW = rb"(-|[0-9]+(?:\.[0-9]+)*)"
 _NUMBER = rb"([0-9]{1,40})"
-_LINE = rb"from %s until %s(?: of %s)? solutions %s steps %s\n\Z" % (_ROW, _ROW, _ROW, _NUMBER, _NUMBER)
-_RECORD = re.compile(_LINE)
+_ROWS = rb"from %s until %s(?: of %s)?" % (_ROW, _ROW, _ROW)
+_RECORD = re.compile(rb"%s solutions %s steps %s problem ([0-9a-f]{16})\n\Z" % (_ROWS, _NUMBER, _NUMBER))
 
 
 class Record(NamedTuple):
     """What a run did: it searched from a row until another one.
 
     `branches` are those of each level of the row where it stopped for want of steps; none where it did the whole.
+    `digest` is the problem's.
     """
 
     start: Row
@@ -25,10 +30,12 @@ class Record(NamedTuple):
     branches: Row
     solutions: int
     steps: int
+    digest: str
 
 
-def of_text(text: bytes, span: Span, listed: bool) -> Record:
-    """The record of a text that a run over this span gave. Raises `SearchFault`."""
+def of_text(text: bytes, span: Span, listed: bool, digest: str = "") -> Record:
+    """The record of a text that a run over this span gave. Raises `SearchFault`, also for a text of another problem
+    where the digest is known."""
     line = text[text.rfind(b"\n", 0, max(len(text) - 1, 0)) + 1 :]
     found = _RECORD.match(line)
     if found is None:
@@ -41,8 +48,11 @@ def of_text(text: bytes, span: Span, listed: bool) -> Record:
         () if branches is None else read(branches.decode()),
         int(found.group(4)),
         int(found.group(5)),
+        found.group(6).decode(),
     )
-    head = f"from {word_of(span.start)}\n".encode()
+    if digest and record.digest != digest:
+        raise SearchFault("dlx-span gave a text of another problem")
+    head = f"from {word_of(span.start)} problem {record.digest}\n".encode()
     is_right = record.start == span.start and (text.startswith(head) if listed else len(line) == len(text))
     if branches is None:
         is_right = is_right and record.until == span.until

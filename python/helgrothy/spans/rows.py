@@ -22,7 +22,7 @@ MOST_NUMBER = (1 << 32) - 1
 PARTS = 1 << 256
 # What isn't done is no larger share.
 _NEARLY_ALL = 1 - 2**-53
-# A span isn't cut at a level whose branches are smaller than one such part of it.
+# A span isn't cut at a level where pieces would be smaller than one such part of it.
 _LEAST_PIECE = 128
 _WORD = re.compile(r"[0-9]+(?:\.[0-9]+)*\Z")
 _MANY_DIGITS = re.compile(r"0*[1-9][0-9]{10}")
@@ -104,9 +104,12 @@ def cut(span: Span, branches: Row, pieces: int) -> list[Span]:
     end = span.until
     for level, (k, n) in enumerate(zip(span.start, branches)):
         wanted = pieces - 1 - len(found)
-        if wanted <= 0 or parts * _LEAST_PIECE < n * (span.ends - span.begins):
+        last = _last_branch(end, level, n)
+        # Where a level has many branches a piece is some of them.
+        together = max((last - k) // pieces, 1)
+        if wanted <= 0 or parts * together * _LEAST_PIECE < n * (span.ends - span.begins):
             break
-        rows = [(*span.start[:level], branch) for branch in _some(k + 1, _last_branch(end, level, n), wanted)]
+        rows = [(*span.start[:level], branch) for branch in _some(k + 1, last, wanted)]
         # The highest levels' rows come last.
         found[:0] = [(row, _within(span, begins + _before(parts, row[level], n))) for row in rows]
         begins, parts = _branch(begins, parts, k, n)

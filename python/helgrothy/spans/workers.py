@@ -15,6 +15,7 @@ from typing import TYPE_CHECKING, Any
 
 from ..errors import SearchFault
 from .loop import Outcome, Submit, submitting
+from .pace import LONGEST, LONGEST_HERE
 from .span import Stop, Task, run
 from .threads import begin
 
@@ -48,10 +49,12 @@ def _most_by_files() -> int:
 class Workers:
     """Those to whom `submit` hands tasks. As a context manager it lets nothing go on that it began here.
 
-    ahead: so many tasks for each worker keep all of them at work.
+    ahead: so many tasks for each worker keep all of them at work. longest: about so many seconds a task takes at most.
     """
 
     ahead = 2
+    # To hand out a task takes long.
+    longest = LONGEST
 
     def __init__(self, submit: Submit, jobs: int) -> None:
         self._submit = submit
@@ -84,6 +87,7 @@ class Own(Workers):
 
     # A worker has its next task at once.
     ahead = 1
+    longest = LONGEST_HERE
 
     def __init__(self, jobs: int) -> None:
         super().__init__(self._hand, min(jobs, _most_by_files()))
