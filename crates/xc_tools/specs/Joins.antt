@@ -2,7 +2,6 @@
 use Rattle.std.specs.Prelude.{ℕ, ◌^◌, ◌<◌, ◌≡◌, ◌⊎◌, All, Bool, true, false, List, [], ◌∷◌, ◌++◌, length, Option, Some}
 use Rattle.std.specs.Prelude.{None}
 use Rattle.std.specs.Prelude.{IfSome, MatchOption, drop, flat_map, codes, decimal, if◌then◌else◌}
-use Rattle.std.specs.Io.KnownBytes.{Appends}
 use Rattle.std.specs.Str.{bytes_eq}
 use Rattle.xc_input.specs.Calls.{Rose}
 use Rattle.xc_input.specs.Named.{Named, IsSound}
@@ -14,10 +13,10 @@ use Rattle.xc_list.specs.Messages.{summary_text}
 use Rattle.xc_list.specs.Output.{output}
 use Rattle.xc_list.specs.Runs.{end_of}
 use Rattle.xc_list.specs.SpanTexts.{end_at, span_text}
-use Rattle.xc_list.specs.Texts.{Seen, SinkState, Took, BrokeOff, WasTold}
+use Rattle.xc_list.specs.Texts.{Seen, Took, BrokeOff, WasTold}
 use Rattle.xc_list.specs.declared.runs.End.{End}
 use Rattle.xc_tools.specs.ShownNames.{source_text, OfSource}
-use Rattle.xc_tools.specs.WholeRuns.{Sinks, TookAll, IsRefused}
+use Rattle.xc_tools.specs.WholeRuns.{Sinks, TookAll, FailedBehind, IsRefused}
 
 -- A span as it was searched: its first row; the one before which it ends, where the empty row stands for the listing's
 -- end; the branches of the row where the search stopped before that, if it did; and how many steps it took.
@@ -92,13 +91,13 @@ pub record IsJoined {O E : Type 0} (listed : Bool) (from to : SourceState) (old 
   pub whole : ForTexts listed (λ a spans. DoMeet [] spans × (text ≡ joined a listed) × (end ≡ end_of a most_counted))
       bytes
 
--- The output took a text. Where the input is texts of spans, or their beginning, it is a beginning of the whole
--- listing, and this is so of the spans.
-pub record HasBegun (listed : Bool) (says : List SearchedSpan → Type 0) (input_old input_new : SourceState)
-    (out_old out_new : SinkState) : Type 0 where
+-- A text was written so. Where the input is texts of spans, or their beginning, it is a beginning of the whole listing,
+-- and this is so of the spans.
+pub record HasBegun (listed : Bool) (says : List SearchedSpan → Type 0) (from to : SourceState)
+    (written : List ℕ → Type 0) : Type 0 where
   pub text : List ℕ
-  pub taken : Appends out_old.taken out_new.taken text
-  pub of : OfTexts listed (λ a spans. IsBeginning text (joined a listed) × says spans) input_old input_new
+  pub is_written : written text
+  pub of : OfTexts listed (λ a spans. IsBeginning text (joined a listed) × says spans) from to
 
 -- the front of a message about a line of a file, or of standard input
 abbrev pub at_line : Option (List ℕ) → ℕ → List ℕ
@@ -117,24 +116,31 @@ no_text file line = at_line file line ++ codes "not the text of a span.\n"
 abbrev pub unread_text : Option (List ℕ) → List ℕ
 unread_text file = source_text file ++ codes "read failed.\n"
 
--- What failed, and was reported: a read of a file or of standard input; or a write of the output or its flush; or the
--- last line broke off.
-abbrev pub ToldFailure : {O E : Type 0} → List (List ℕ) → SourceState → SourceState → Sinks O E → Sinks O E → Type 0
-ToldFailure files from to old new = let told = WasTold old.err.state new.err.state in
-    (Rose from.failures to.failures × OfSource files (λ file. told (unread_text file)))
-    ⊎ (Rose old.out.state.failures new.out.state.failures × told (codes "Write failed.\n"))
-    ⊎ ((end : End) × BrokeOff old.err.state new.err.state (summary_text end))
+-- What failed at its last call, and was reported: a read of a file or of standard input, without its name where there was
+-- no memory for that; or a write of the output or its flush; or the last line broke off.
+abbrev pub HasFailed : {O E : Type 0} → Bool → List (List ℕ) → SourceState → SourceState → Sinks O E → Sinks O E
+    → Type 0
+HasFailed listed files from to old new =
+    let told = WasTold old.err.state new.err.state in
+    let begun = HasBegun listed (λ _. Unit {0}) from to in
+    (Rose from.failures to.failures × begun (TookAll old.out.state new.out.state)
+    × (OfSource files (λ file. told (unread_text file)) ⊎ told (codes "Read failed.\n")))
+    ⊎ (begun (λ text. BrokeOff old.out.state new.out.state text ⊎ FailedBehind old.out.state new.out.state text)
+    × told (codes "Write failed.\n"))
+    ⊎ ((to.failures ≡ from.failures) × begun (TookAll old.out.state new.out.state)
+    × ((end : End) × BrokeOff old.err.state new.err.state (summary_text end)))
 
 -- What a run did with this first word and these files, by its status. At 5 the spans don't meet, and at 2 the input is
--- no texts.
+-- no texts. At 2, 4 and 5 no call of a stream failed but perhaps one for the message, and the output was flushed once.
 abbrev pub DidJoin : {O E : Type 0} → Bool → List (List ℕ) → ℕ → SourceState → SourceState → Sinks O E → Sinks O E
     → Type 0
 DidJoin listed files status from to old new =
-    let begun = λ (says : List SearchedSpan → Type 0). HasBegun listed says from to old.out.state new.out.state in
     let told = WasTold old.err.state new.err.state in
+    let begun = λ (says : List SearchedSpan → Type 0). (to.failures ≡ from.failures)
+    × HasBegun listed says from to (TookAll old.out.state new.out.state) in
     ((status ≡ 0) × IsJoined listed from to old new)
     ⊎ ((status ≡ 2) × begun (λ _. ⊥) × OfSource files (λ file. (line : ℕ) × told (no_text file line)))
-    ⊎ ((status ≡ 3) × begun (λ _. Unit {0}) × ToldFailure files from to old new)
+    ⊎ ((status ≡ 3) × HasFailed listed files from to old new)
     ⊎ ((status ≡ 4) × begun (λ _. Unit {0}) × told (codes "Out of memory.\n"))
     ⊎ ((status ≡ 5) × begun (λ spans. DoMeet [] spans → ⊥)
     × OfSource files (λ file. (line : ℕ) × (met : List ℕ) × (next : List ℕ) × told (gap_text file line met next)))

@@ -2,4 +2,5 @@
 pub mod WholeTexts
 pub mod TakenAnswers
 pub mod SpanLines
+pub mod Flushes
 pub mod Joining

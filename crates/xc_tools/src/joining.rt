@@ -1,10 +1,8 @@
 //! A whole run that joins the texts of spans.
 ghost use Rattle.std.specs.Prelude.{◌≡◌, ◌<◌, ◌++◌, ◌∷◌, [], ℕ, List, false, length, codes, IfErr, IfOk, OnOk};
 ghost use Rattle.std.specs.Prelude.{◌⊎◌, ◌==◌, IsOkAnd, MatchOption, drop, map, option_copied, if◌then◌else◌};
-ghost use Rattle.std.specs.Io.KnownBytes.{Keeps};
 ghost use Rattle.xc_list.specs.SpanTexts.{most_counted};
 ghost use Rattle.xc_list.specs.declared.runs.End.TheVariants.{Done, Limit};
-ghost use Rattle.xc_input.specs.Calls.{Rose};
 ghost use Rattle.xc_input.specs.Pieces.{GaveAll};
 ghost use Rattle.xc_input.specs.Words.{has};
 ghost use Rattle.xc_input.specs.inner.EndedLines.{ended};
@@ -14,6 +12,7 @@ ghost use Rattle.xc_tools.specs.WholeRuns.{sinks};
 ghost use Rattle.xc_tools.specs.declared.joining.Stop.TheVariants.{Device, Memory, WriteFailed};
 ghost use Rattle.xc_tools.specs.inner.Joining.{joined_text, fed_lines, stop_of, Adds, EndsAt, IsAfter, JoinsAll};
 ghost use Rattle.xc_tools.specs.inner.Joining.{StopsIn};
+ghost use Rattle.xc_tools.specs.inner.Flushes.{FlushFailed, WasFlushed};
 ghost use Rattle.xc_tools.specs.inner.Joining.{StopsReading, ToldStop};
 ghost use Rattle.xc_tools.specs.inner.SpanLines.{act_text};
 
@@ -23,8 +22,7 @@ use crate::shown_names::{source_at, source_text};
 use crate::solving::finish;
 use crate::span_lines::{Act, Joint, Refusal, put_word};
 use crate::status::{
-    BAD_INPUT, BAD_WORDS, COMPLETE, FAILED, GAP, NO_MEMORY, flush_and_refuse, out_of_memory,
-    refuse, write_failed,
+    BAD_INPUT, BAD_WORDS, COMPLETE, FAILED, GAP, NO_MEMORY, flush_and_refuse, refuse, write_failed,
 };
 use bstr::ByteSlice;
 use itoa::Buffer;
@@ -314,15 +312,29 @@ fn tell<O: Sink, E: Sink>(
     out: &mut O,
     err: &mut E,
 ) -> u8
-    ensures kept { Keeps (O.state out.old).taken (O.state out.new).taken }
-    ensures did { IsOkAnd text (λ t. (result ≡ status) × WasTold (E.state err.old) (E.state err.new) t.items)
-        ⊎ ((result ≡ 4) × WasTold (E.state err.old) (E.state err.new) (codes "Out of memory.\n"))
-        ⊎ ((result ≡ 3) × Rose (O.state out.old).failures (O.state out.new).failures
+    ensures { (WasFlushed (O.state out.old) (O.state out.new)
+        × (IsOkAnd text (λ t. (result ≡ status) × WasTold (E.state err.old) (E.state err.new) t.items)
+        ⊎ ((result ≡ 4) × WasTold (E.state err.old) (E.state err.new) (codes "Out of memory.\n"))))
+        ⊎ ((result ≡ 3) × FlushFailed (O.state out.old) (O.state out.new)
         × WasTold (E.state err.old) (E.state err.new) (codes "Write failed.\n")) }
 {
     match text {
         Ok(text) => flush_and_refuse(status, &text, out, err),
         Err(_) => flush_and_refuse(NO_MEMORY, b"Out of memory.\n", out, err),
+    }
+}
+
+/// Flushes the output and reports a failed read, with the name of what is read if there is memory for it.
+fn tell_unread<O: Sink, E: Sink>(alloc: Global, file: Option<&[u8]>, out: &mut O, err: &mut E) -> u8
+    ensures { (WasFlushed (O.state out.old) (O.state out.new) × (result ≡ 3)
+        × (WasTold (E.state err.old) (E.state err.new) (unread_text (option_copied file.entry))
+        ⊎ WasTold (E.state err.old) (E.state err.new) (codes "Read failed.\n")))
+        ⊎ ((result ≡ 3) × FlushFailed (O.state out.old) (O.state out.new)
+        × WasTold (E.state err.old) (E.state err.new) (codes "Write failed.\n")) }
+{
+    match unread_text(alloc, file) {
+        Ok(text) => flush_and_refuse(FAILED, &text, out, err),
+        Err(_) => flush_and_refuse(FAILED, b"Read failed.\n", out, err),
     }
 }
 
@@ -365,8 +377,7 @@ fn tell_stop<S: Located, O: Sink, E: Sink>(
     out: &mut O,
     err: &mut E,
 ) -> u8
-    ensures kept { Keeps (O.state out.old).taken (O.state out.new).taken }
-    ensures did { ToldStop (map (λ w. w.items) files.now) stop result
+    ensures { ToldStop (map (λ w. w.items) files.now) stop result
         (O.state out.old) (O.state out.new) (E.state err.old) (E.state err.new) }
 {
     let place = input.place(lines.begun, lines.taken);
@@ -379,10 +390,7 @@ fn tell_stop<S: Located, O: Sink, E: Sink>(
             out,
             err,
         ),
-        Stop::Device => {
-            let unread = source_at(files, input.reading());
-            tell(FAILED, unread_text(alloc, unread), out, err)
-        }
+        Stop::Device => tell_unread(alloc, source_at(files, input.reading()), out, err),
         Stop::Memory => flush_and_refuse(NO_MEMORY, b"Out of memory.\n", out, err),
         Stop::WriteFailed => write_failed(err),
     }
@@ -414,7 +422,7 @@ fn join_input<S: Located, O: Sink, E: Sink>(
         (sinks O.state E.state out.old err.old) (sinks O.state E.state out.new err.new) }
 {
     let Ok(joint) = Joint::new(alloc, listed) else {
-        return out_of_memory(err);
+        return flush_and_refuse(NO_MEMORY, b"Out of memory.\n", out, err);
     };
     let mut lines = first_lines(joint);
     match join_all(alloc, &mut lines, input, out) {

@@ -121,12 +121,12 @@ module _ (carry line whole : List ℕ) (e : whole ≡ carry ++ (line ++ 10 ∷ [
 -- ---- why reading stopped
 
 pub stops-reading : (listed : Bool) (new : Joint) (a b : SourceState) (x y : SinkState) (bytes : List ℕ) (e : Stop)
-    → Gave a b bytes → StopsIn listed [] bytes new x y e → StopsReading listed new a b x y e
-stops-reading listed new a b x y bytes NotText g h = (bytes, g, h)
-stops-reading listed new a b x y bytes Gap g h = (bytes, g, h)
-stops-reading listed new a b x y bytes Device g h = absurd h.last
-stops-reading listed new a b x y bytes Memory g h = (bytes, g, h)
-stops-reading listed new a b x y bytes WriteFailed g h = (bytes, g, h)
+    → Gave a b bytes → StopsIn listed [] bytes new x y e → b.failures ≡ a.failures → StopsReading listed new a b x y e
+stops-reading listed new a b x y bytes NotText g h well = (bytes, g, h, well)
+stops-reading listed new a b x y bytes Gap g h well = (bytes, g, h, well)
+stops-reading listed new a b x y bytes Device g h well = absurd h.last
+stops-reading listed new a b x y bytes Memory g h well = (bytes, g, h, well)
+stops-reading listed new a b x y bytes WriteFailed g h well = (bytes, g, h, well)
 
 -- a line that was carried on or not is taken, and nothing is carried on
 pub fed-line : (old new : List (List ℕ)) (carry line left with_feed others : List ℕ) → new ≡ old ++ (carry ++ line) ∷ []

@@ -2,10 +2,9 @@
 use Rattle.std.proofs.Common.{arith}
 use Rattle.std.proofs.Common.{◌≡◌, ◌⊎◌, inl, inr, ℕ, ◌+◌, Bool, false, List, [], ◌++◌, Result}
 use Rattle.std.proofs.Common.{Ok, Err}
-use Rattle.std.proofs.Common.{refl, sym, ap, ◌∙◌, append_assoc, append-nil, subst, take}
-use Rattle.std.proofs.Common.{drop, take-append-drop}
+use Rattle.std.proofs.Common.{refl, sym, ap, ◌∙◌, append_assoc, append-nil, subst}
 use Rattle.std.specs.Prelude.{◌==◌, IsTrue, codes, if◌then◌else◌}
-use Rattle.std.specs.Io.KnownBytes.{Appends, Keeps}
+use Rattle.std.specs.Io.KnownBytes.{Keeps}
 use Rattle.xc_input.specs.Calls.{Rose, one_more}
 use Rattle.xc_input.specs.Named.{Named, IsSound}
 use Rattle.xc_input.specs.Pieces.{SourceState, Gave, GaveAll}
@@ -19,16 +18,20 @@ use Rattle.xc_list.specs.Texts.{SinkState, Took, BrokeOff, WasTold}
 use Rattle.xc_list.specs.declared.runs.End.{End}
 use Rattle.xc_list.specs.declared.runs.End.TheVariants.{Done, Limit}
 use Rattle.xc_list.proofs.TextLemmas.{appends_kept}
-use Rattle.xc_tools.specs.Joins.{AreTexts, DidJoin, DoMeet, HasBegun, IsBeginning, SearchedSpan}
+use Rattle.xc_tools.specs.Joins.{AreTexts, DidJoin, DoMeet, HasBegun, IsBeginning, OfTexts, SearchedSpan}
 use Rattle.xc_tools.specs.Joins.{joined}
-use Rattle.xc_tools.specs.WholeRuns.{Sinks}
+use Rattle.xc_tools.specs.WholeRuns.{Sinks, TookAll, FailedBehind}
 use Rattle.xc_tools.specs.declared.joining.Stop.{Stop}
 use Rattle.xc_tools.specs.declared.joining.Stop.TheVariants.{NotText, Gap, Device, Memory, WriteFailed}
 use Rattle.xc_tools.specs.declared.span_lines.Joint.{Joint}
 use Rattle.xc_tools.specs.inner.SpanLines.{Join, goes, join_of}
 use Rattle.xc_tools.specs.inner.Joining.{EndsAt, IsLast, JoinsAll, StopsIn, StopsReading, ToldStop, stand_reached}
 use Rattle.xc_tools.specs.inner.Joining.{joined_text}
-use Rattle.xc_tools.specs.inner.Joining.{WriteFails}
+use Rattle.xc_tools.specs.inner.Joining.{says_of, IsUnbroken, IsWell}
+use Rattle.xc_tools.specs.inner.Flushes.{FlushFailed, WasFlushed}
+use Rattle.xc_input.proofs.LineLemmas.Pieces.{gave_none}
+use Rattle.xc_list.proofs.Writing.{took_nothing}
+use Rattle.xc_tools.proofs.RunLemmas.{took_all}
 use Rattle.xc_tools.proofs.JoinLemmas.Chains.{all_lines}
 use Rattle.xc_tools.proofs.JoinLemmas.Ends.{begins, end_of-total, finished, first-lines, never-faulty, never-meets}
 use Rattle.xc_tools.proofs.JoinLemmas.Ends.{no-rest}
@@ -41,13 +44,6 @@ so_at Gap spans = DoMeet [] spans → ⊥
 so_at Device spans = Unit {0}
 so_at Memory spans = Unit {0}
 so_at WriteFailed spans = Unit {0}
-
-taken-beginning : (text whole : List ℕ) (n : ℕ) → IsBeginning text whole → IsBeginning (take n text) whole
-taken-beginning text whole n h = (
-  drop n text ++ h.0,
-  sym (append_assoc (take n text) (drop n text) h.0)
-      ∙ ap (λ t. t ++ h.0) (take-append-drop n text) ∙ h.1,
-)
 
 module _ (a : Named) (listed : Bool) (sound : IsSound a) (spans : List SearchedSpan) (text : List ℕ)
     (are : AreTexts a listed spans text) (ls : List (List ℕ)) (rest : List ℕ) (w : AreWhole ls)
@@ -94,45 +90,40 @@ module _ (a : Named) (listed : Bool) (sound : IsSound a) (spans : List SearchedS
 
 -- ---- a run that stopped
 
-module _ (listed : Bool) (new : Joint) (a b : SourceState) (x y z : SinkState) (kept : Keeps y.taken z.taken) where
-  in-lines : (e : Stop) (bytes : List ℕ) → Gave a b bytes → (h : StopsIn listed [] bytes new x y e)
-      → (text : List ℕ) → Appends x.taken y.taken text
-      → ((whole : List ℕ) → IsBeginning (joined_text listed h.lines) whole → IsBeginning text whole)
-      → HasBegun listed (so_at e) a b x z
-  in-lines e bytes g h text took begun = record {
-    text = text;
-    taken = appends_kept x.taken y.taken z.taken text took kept;
+-- the text that was being written, and what is known then
+record Reached (listed : Bool) (e : Stop) (a b : SourceState) (x y : SinkState) : Type 0 where
+  pub text : List ℕ
+  pub said : says_of e x y text
+  pub of : OfTexts listed (λ p spans. IsBeginning text (joined p listed) × so_at e spans) a b
+
+module _ (listed : Bool) (new : Joint) (a b : SourceState) (x y : SinkState) where
+  in-lines : (e : Stop) (bytes : List ℕ) → Gave a b bytes → StopsIn listed [] bytes new x y e
+      → Reached listed e a b x y
+  in-lines e bytes g h = record {
+    text = h.adds.text;
+    said = h.adds.said;
     of = (
       bytes,
       inr (
         g,
         λ more p spans sound are.
             let is = ap (λ t. t ++ more) h.front ∙ append_assoc (ended h.lines) h.rest more in (
-              begun (joined p listed) (begins-so p listed sound spans (bytes ++ more) are h.lines (h.rest
-                  ++ more) h.whole is),
+              subst (λ t. IsBeginning t (joined p listed)) h.adds.more
+                  (begins-so p listed sound spans (bytes ++ more) are h.lines (h.rest ++ more) h.whole is),
               last-so p listed sound spans (bytes ++ more) are h.lines (h.rest ++ more) h.whole is new e h.last,
             ),
       ),
     );
   }
 
-  -- a text that was added to nothing is all
-  same-text : (e : Stop) (bytes : List ℕ) (h : StopsIn listed [] bytes new x y e) (whole : List ℕ)
-      → IsBeginning (joined_text listed h.lines) whole → IsBeginning h.adds.text whole
-  same-text e bytes h whole b = subst (λ t. IsBeginning t whole) h.adds.more b
-
-  pub stopped-reading : (e : Stop) → StopsReading listed new a b x y e → HasBegun listed (so_at e) a b x z
-  stopped-reading NotText (bytes, g, h) =
-      in-lines NotText bytes g h h.adds.text h.adds.said.whole (same-text NotText bytes h)
-  stopped-reading Gap (bytes, g, h) = in-lines Gap bytes g h h.adds.text h.adds.said.whole (same-text Gap bytes h)
-  stopped-reading Memory (bytes, g, h) =
-      in-lines Memory bytes g h h.adds.text h.adds.said.whole (same-text Memory bytes h)
-  stopped-reading WriteFailed (bytes, g, h) =
-      in-lines WriteFailed bytes g h (take h.adds.said.many h.adds.text) h.adds.said.begun
-      (λ whole q. taken-beginning h.adds.text whole h.adds.said.many (same-text WriteFailed bytes h whole q))
+  stopped-reading : (e : Stop) → StopsReading listed new a b x y e → Reached listed e a b x y
+  stopped-reading NotText (bytes, g, h, same) = in-lines NotText bytes g h
+  stopped-reading Gap (bytes, g, h, same) = in-lines Gap bytes g h
+  stopped-reading Memory (bytes, g, h, same) = in-lines Memory bytes g h
+  stopped-reading WriteFailed (bytes, g, h, same) = in-lines WriteFailed bytes g h
   stopped-reading Device (ls, rest, g, w, took, rose) = record {
     text = joined_text listed ls;
-    taken = appends_kept x.taken y.taken z.taken (joined_text listed ls) took.whole kept;
+    said = took;
     of = (
       ended ls ++ rest,
       inr (
@@ -143,12 +134,12 @@ module _ (listed : Bool) (new : Joint) (a b : SourceState) (x y z : SinkState) (
     );
   }
 
-  pub stopped-ending : (e : Stop) (ls : List (List ℕ)) (rest : List ℕ) (old : Joint) → GaveAll a b (ended ls ++ rest)
+  stopped-ending : (e : Stop) (ls : List (List ℕ)) (rest : List ℕ) (old : Joint) → GaveAll a b (ended ls ++ rest)
       → AreWhole ls → has 10 rest ≡ false → stand_reached listed ls ≡ goes (join_of old) → EndsAt rest old new (Err e)
-      → Took x y (joined_text listed ls) → HasBegun listed (so_at e) a b x z
-  stopped-ending e ls rest old g w free at ends took = record {
+      → says_of e x y (joined_text listed ls) → Reached listed e a b x y
+  stopped-ending e ls rest old g w free at ends said = record {
     text = joined_text listed ls;
-    taken = appends_kept x.taken y.taken z.taken (joined_text listed ls) took.whole kept;
+    said = said;
     of = (
       ended ls ++ rest,
       inl (
@@ -161,16 +152,69 @@ module _ (listed : Bool) (new : Joint) (a b : SourceState) (x y z : SinkState) (
     );
   }
 
-  pub stopped : (e : Stop) → JoinsAll listed new a b x y (Err e) → HasBegun listed (so_at e) a b x z
-  stopped e (inl h) = grind (arith, stopped-reading)
-  stopped e (inr h) = stopped-ending e h.0 h.1 h.2 h.3 h.4 h.5 h.6 h.7 h.8
+  took-at-end : (e : Stop) (rest : List ℕ) (old : Joint) (text : List ℕ) → EndsAt rest old new (Err e) → Took x y text
+      → says_of e x y text
+  took-at-end NotText rest old text ends took = took
+  took-at-end Gap rest old text ends took = took
+  took-at-end Memory rest old text ends took = took
+  took-at-end Device rest old text ends took = absurd ends
+  took-at-end WriteFailed rest old text ends took = absurd ends
 
-pub begun-weaker : (listed : Bool) (says says' : List SearchedSpan → Type 0) (a b : SourceState) (x y : SinkState)
-    → ((spans : List SearchedSpan) → says spans → says' spans) → HasBegun listed says a b x y
-    → HasBegun listed says' a b x y
-begun-weaker listed says says' a b x y f h = record {
+  reached : (e : Stop) → JoinsAll listed new a b x y (Err e) → Reached listed e a b x y
+  reached e (inl h) = grind (arith, stopped-reading)
+  reached e (inr h) =
+      stopped-ending e h.0 h.1 h.2 h.3 h.4 h.5 h.6 h.7 (took-at-end e h.1 h.2 (joined_text listed h.0) h.7 h.8)
+
+  read-failed : JoinsAll listed new a b x y (Err Device) → Rose a.failures b.failures
+  read-failed (inl h) = grind (arith)
+  read-failed (inr h) = absurd h.7
+
+  well-reading : (e : Stop) → IsWell e → StopsReading listed new a b x y e → b.failures ≡ a.failures
+  well-reading NotText well h = h.3
+  well-reading Gap well h = h.3
+  well-reading Memory well h = h.3
+  well-reading Device well h = absurd well
+  well-reading WriteFailed well h = absurd well
+
+  read-well : (e : Stop) → IsWell e → JoinsAll listed new a b x y (Err e) → b.failures ≡ a.failures
+  read-well e well (inl h) = grind (arith, well-reading)
+  read-well e well (inr h) = h.3.no_failure
+
+-- ---- the output behind a stop
+
+module _ {x y : SinkState} (z : SinkState) {text : List ℕ} where
+  flushed-all : Took x y text → WasFlushed y z → TookAll x z text
+  flushed-all took f = took_all z took f.kept f.flushed_once f.no_failure f.settled
+
+  failed-behind : Took x y text → FlushFailed y z → FailedBehind x z text
+  failed-behind took f = record {
+    failure = f.failure ∙ ap one_more took.no_failure;
+    last = f.last;
+    taken = appends_kept x.taken y.taken z.taken text took.whole f.kept;
+    flushed_once = f.flushed_once ∙ ap (λ n. n + 1) took.unflushed;
+  }
+
+took-unbroken : (e : Stop) (x y : SinkState) (text : List ℕ) → IsUnbroken e → says_of e x y text → Took x y text
+took-unbroken NotText x y text h said = said
+took-unbroken Gap x y text h said = said
+took-unbroken Device x y text h said = said
+took-unbroken Memory x y text h said = said
+took-unbroken WriteFailed x y text h said = absurd h
+
+unbroken-well : (e : Stop) → IsWell e → IsUnbroken e
+unbroken-well NotText h = tt
+unbroken-well Gap h = tt
+unbroken-well Memory h = tt
+unbroken-well Device h = absurd h
+unbroken-well WriteFailed h = absurd h
+
+-- what was reached, told in another way
+begun-as : (listed : Bool) (e : Stop) (says : List SearchedSpan → Type 0) (written : List ℕ → Type 0) (a b : SourceState)
+    (x y : SinkState) → ((spans : List SearchedSpan) → so_at e spans → says spans)
+    → ((text : List ℕ) → says_of e x y text → written text) → Reached listed e a b x y → HasBegun listed says a b written
+begun-as listed e says written a b x y f g h = record {
   text = h.text;
-  taken = h.taken;
+  is_written = g h.text h.said;
   of = elim h.of.1 [
     | inl q ↦ (h.of.0, inl (q.0, λ p spans sound are. let r = q.1 p spans sound are in (r.0, f spans r.1)))
     | inr q ↦ (h.of.0, inr (q.0, λ more p spans sound are. let r = q.1 more p spans sound are in (r.0, f spans r.1)))
@@ -183,88 +227,65 @@ pub joins-as : {new : Joint} {a b : SourceState} {x y : SinkState} {p q : Bool} 
     → JoinsAll p new a b x y r → JoinsAll q new a b x y r
 joins-as {new = new} {a = a} {b = b} {x = x} {y = y} r is h = subst (λ p. JoinsAll p new a b x y r) is h
 
--- ---- what failed in a run that stopped
-
--- the output's failures up to a stop
-abbrev OutFailed : Stop → SinkState → SinkState → Type 0
-OutFailed WriteFailed x y = Rose x.failures y.failures
-OutFailed _ x y = y.failures ≡ x.failures
-
-module _ (listed : Bool) (new : Joint) (a b : SourceState) (x y : SinkState) where
-  out-in-reading : (e : Stop) → StopsReading listed new a b x y e → OutFailed e x y
-  out-in-reading NotText (bytes, g, h) = h.adds.said.no_failure
-  out-in-reading Gap (bytes, g, h) = h.adds.said.no_failure
-  out-in-reading Memory (bytes, g, h) = h.adds.said.no_failure
-  out-in-reading WriteFailed (bytes, g, h) = h.adds.said.failure
-  out-in-reading Device (ls, rest, g, w, took, rose) = took.no_failure
-
-  out-at-end : (e : Stop) (rest : List ℕ) (old : Joint) (text : List ℕ) → EndsAt rest old new (Err e) → Took x y text
-      → OutFailed e x y
-  out-at-end NotText rest old text ends took = took.no_failure
-  out-at-end Gap rest old text ends took = took.no_failure
-  out-at-end Memory rest old text ends took = took.no_failure
-  out-at-end Device rest old text ends took = took.no_failure
-  out-at-end WriteFailed rest old text ends took = absurd ends
-
-  out-failed : (e : Stop) → JoinsAll listed new a b x y (Err e) → OutFailed e x y
-  out-failed e (inl h) = grind (arith, out-in-reading)
-  out-failed e (inr h) = out-at-end e h.1 h.2 (joined_text listed h.0) h.7 h.8
-
-  all-failed : (e : Stop) (z : SinkState) → OutFailed e x y → WriteFails e y z → Rose x.failures z.failures
-  all-failed NotText z same rose = rose ∙ ap one_more same
-  all-failed Gap z same rose = rose ∙ ap one_more same
-  all-failed Memory z same rose = rose ∙ ap one_more same
-  all-failed Device z same rose = rose ∙ ap one_more same
-  all-failed WriteFailed z rose same = same ∙ rose
-
-  read-failed : (e : Stop) → e ≡ Device → JoinsAll listed new a b x y (Err e) → Rose a.failures b.failures
-  read-failed e at (inl h) = grind (arith)
-  read-failed e at (inr h) = absurd (subst (λ s. EndsAt h.1 h.2 new (Err s)) at h.7)
-
-any : (stop : Stop) (spans : List SearchedSpan) → so_at stop spans → Unit {0}
-any stop spans h = tt
-
 -- a run that stopped, by what was told
 pub run-stopped : {O E : Type 0} (listed : Bool) (new : Joint) (y : SinkState) (status : ℕ) (stop : Stop)
     (i j : SourceState) (from to : Sinks O E) (files : List (List ℕ))
-    → JoinsAll listed new i j from.out.state y (Err stop) → Keeps y.taken to.out.state.taken
+    → JoinsAll listed new i j from.out.state y (Err stop)
     → ToldStop files stop status y to.out.state from.err.state to.err.state → DidJoin listed files status i j from to
-run-stopped listed new y status stop i j from to files h kept (inl t) =
-    let begun = stopped listed new i j from.out.state y to.out.state kept stop h in
-    inr (inl (
-      t.0,
-      begun-weaker listed (so_at stop) (λ _. ⊥) _ _ _ _
-          (λ spans q. subst (λ s. so_at s spans) t.1 q) begun,
-      t.2,
-    ))
-run-stopped listed new y status stop i j from to files h kept (inr (inl t)) =
-    let begun = stopped listed new i j from.out.state y to.out.state kept stop h in
-    inr (inr (inr (inr (
-      t.0,
-      begun-weaker listed (so_at stop) (λ spans. DoMeet [] spans → ⊥) _ _ _ _
-          (λ spans q. subst (λ s. so_at s spans) t.1 q) begun,
-      t.2,
-    ))))
-run-stopped listed new y status stop i j from to files h kept (inr (inr (inl t))) =
-    let begun = stopped listed new i j from.out.state y to.out.state kept stop h in
-    inr (inr (inr (inl (t.0, begun-weaker listed (so_at stop) (λ _. Unit {0}) _ _ _ _ (any stop) begun, t.1))))
-run-stopped listed new y status stop i j from to files h kept (inr (inr (inr (inl t)))) =
-    let begun = stopped listed new i j from.out.state y to.out.state kept stop h in
-    let rose = read-failed listed new i j from.out.state y stop t.1 h in
-    inr (inr (inl (
-      t.0,
-      begun-weaker listed (so_at stop) (λ _. Unit {0}) _ _ _ _ (any stop) begun,
-      inl (rose, t.2),
-    )))
-run-stopped listed new y status stop i j from to files h kept (inr (inr (inr (inr t)))) =
-    let begun = stopped listed new i j from.out.state y to.out.state kept stop h in
-    let out = out-failed listed new i j from.out.state y stop h in
-    let rose = all-failed listed new i j from.out.state y stop to.out.state out t.1 in
-    inr (inr (inl (
-      t.0,
-      begun-weaker listed (so_at stop) (λ _. Unit {0}) _ _ _ _ (any stop) begun,
-      inr (inl (rose, t.2)),
-    )))
+run-stopped listed new y status stop i j from to files h (inl t) =
+    let at = subst (λ e. JoinsAll listed new i j from.out.state y (Err e)) t.1 h in
+    let begun = begun-as listed NotText (λ _. ⊥) (TookAll from.out.state to.out.state) i j from.out.state y (λ _ q. q)
+    (λ text took. flushed-all to.out.state took t.2) (reached listed new i j from.out.state y NotText at) in
+    inr (inl (t.0, (read-well listed new i j from.out.state y NotText tt at, begun), t.3))
+run-stopped listed new y status stop i j from to files h (inr (inl t)) =
+    let at = subst (λ e. JoinsAll listed new i j from.out.state y (Err e)) t.1 h in
+    let begun = begun-as listed Gap (λ spans. DoMeet [] spans → ⊥) (TookAll from.out.state to.out.state) i j
+    from.out.state y (λ _ q. q) (λ text took. flushed-all to.out.state took t.2)
+    (reached listed new i j from.out.state y Gap at) in
+    inr (inr (inr (inr (t.0, (read-well listed new i j from.out.state y Gap tt at, begun), t.3))))
+run-stopped listed new y status stop i j from to files h (inr (inr (inl t))) =
+    let begun = begun-as listed stop (λ _. Unit {0}) (TookAll from.out.state to.out.state) i j from.out.state y (λ _ _. tt)
+    (λ text said. flushed-all to.out.state (took-unbroken stop from.out.state y text (unbroken-well stop t.1) said)
+    t.2) (reached listed new i j from.out.state y stop h) in
+    inr (inr (inr (inl (t.0, (read-well listed new i j from.out.state y stop t.1 h, begun), t.3))))
+run-stopped listed new y status stop i j from to files h (inr (inr (inr (inl t)))) =
+    let at = subst (λ e. JoinsAll listed new i j from.out.state y (Err e)) t.1 h in
+    let begun = begun-as listed Device (λ _. Unit {0}) (TookAll from.out.state to.out.state) i j from.out.state y (λ _ q. q)
+    (λ text took. flushed-all to.out.state took t.2) (reached listed new i j from.out.state y Device at) in
+    inr (inr (inl (t.0, inl (read-failed listed new i j from.out.state y at, begun, t.3))))
+run-stopped listed new y status stop i j from to files h (inr (inr (inr (inr (inl t))))) =
+    let begun = begun-as listed stop (λ _. Unit {0})
+    (λ text. BrokeOff from.out.state to.out.state text ⊎ FailedBehind from.out.state to.out.state text) i j
+    from.out.state y (λ _ _. tt)
+    (λ text said. inr (failed-behind to.out.state (took-unbroken stop from.out.state y text t.1 said) t.2))
+    (reached listed new i j from.out.state y stop h) in
+    inr (inr (inl (t.0, inr (inl (begun, t.3)))))
+run-stopped listed new y status stop i j from to files h (inr (inr (inr (inr (inr t))))) =
+    let at = subst (λ e. JoinsAll listed new i j from.out.state y (Err e)) t.1 h in
+    let begun = begun-as listed WriteFailed (λ _. Unit {0})
+    (λ text. BrokeOff from.out.state to.out.state text ⊎ FailedBehind from.out.state to.out.state text) i j
+    from.out.state y (λ _ q. q)
+    (λ text broke. inl (subst (λ z. BrokeOff from.out.state z text) (sym t.2) broke))
+    (reached listed new i j from.out.state y WriteFailed at) in
+    inr (inr (inl (t.0, inr (inl (begun, t.3)))))
+
+-- a run that couldn't begin for want of memory
+pub run-unstarted : {O E : Type 0} (listed : Bool) (status : ℕ) (i : SourceState) (from to : Sinks O E)
+    (files : List (List ℕ)) → ((status ≡ 4) × WasFlushed from.out.state to.out.state
+    × WasTold from.err.state to.err.state (codes "Out of memory.\n"))
+    ⊎ ((status ≡ 3) × FlushFailed from.out.state to.out.state
+    × WasTold from.err.state to.err.state (codes "Write failed.\n"))
+    → DidJoin listed files status i i from to
+run-unstarted listed status i from to files (inl h) =
+    let of : OfTexts listed (λ p spans. IsBeginning [] (joined p listed) × Unit {0}) i i =
+    ([], inr (gave_none i, λ more p spans sound are. ((joined p listed, refl), tt))) in
+    let all = flushed-all to.out.state (took_nothing from.out.state) h.1 in
+    inr (inr (inr (inl (h.0, (refl, record { text = []; is_written = all; of = of }), h.2))))
+run-unstarted listed status i from to files (inr h) =
+    let of : OfTexts listed (λ p spans. IsBeginning [] (joined p listed) × Unit {0}) i i =
+    ([], inr (gave_none i, λ more p spans sound are. ((joined p listed, refl), tt))) in
+    let failed = failed-behind to.out.state (took_nothing from.out.state) h.1 in
+    inr (inr (inl (h.0, inr (inl (record { text = []; is_written = inr failed; of = of }, h.2)))))
 
 -- a run that came to the end of the input
 module _ {O E : Type 0} (listed : Bool) (status : ℕ) (i j : SourceState) (from to : Sinks O E) (files : List (List ℕ)) (y : SinkState)
@@ -274,13 +295,11 @@ module _ {O E : Type 0} (listed : Bool) (status : ℕ) (i j : SourceState) (from
     (took : Took from.out.state y (joined_text listed ls)) (kept : Keeps y.taken to.out.state.taken)
     (flushed : to.out.state.flushes ≡ y.flushes + 1) (end : End)
     (is : end ≡ (if new.total == most_counted then Limit new.total else Done new.total)) where
-  all-kept : Appends from.out.state.taken to.out.state.taken (joined_text listed ls)
-  all-kept = appends_kept from.out.state.taken y.taken to.out.state.taken (joined_text listed ls) took.whole kept
-
-  begun-whole : HasBegun listed (λ _. Unit {0}) i j from.out.state to.out.state
-  begun-whole = record {
+  begun-whole : (written : List ℕ → Type 0) → written (joined_text listed ls)
+      → HasBegun listed (λ _. Unit {0}) i j written
+  begun-whole written wrote = record {
     text = joined_text listed ls;
-    taken = all-kept;
+    is_written = wrote;
     of = (ended ls ++ rest, inl (g, λ p spans sound are. (begins-so p listed sound spans _ are ls rest w refl, tt)));
   }
 
@@ -296,12 +315,7 @@ module _ {O E : Type 0} (listed : Bool) (status : ℕ) (i j : SourceState) (from
       bytes = ended ls ++ rest;
       gave = g;
       text = joined_text listed ls;
-      taken = record {
-        no_failure = h.1 ∙ took.no_failure;
-        whole = all-kept;
-        settled = h.2;
-        flushed_once = flushed ∙ ap (λ n. n + 1) took.unflushed;
-      };
+      taken = took_all to.out.state took kept flushed h.1 h.2;
       end = end;
       told = h.3;
       whole = λ p spans sound are.
@@ -309,9 +323,23 @@ module _ {O E : Type 0} (listed : Bool) (status : ℕ) (i j : SourceState) (from
           (so.0, so.1, is ∙ so.2);
     },
   )
-  whole-run (inr (inl h)) =
-      inr (inr (inl (h.0, begun-whole, inr (inl (h.1 ∙ ap one_more took.no_failure, h.3)))))
-  whole-run (inr (inr h)) = inr (inr (inl (h.0, begun-whole, inr (inr (end, h.3)))))
+  whole-run (inr (inl h)) = inr (inr (inl (
+    h.0,
+    inr (inl (
+      begun-whole (λ text. BrokeOff from.out.state to.out.state text ⊎ FailedBehind from.out.state to.out.state text)
+          (inr (failed-behind to.out.state took
+          (record { failure = h.1; kept = kept; last = h.2; flushed_once = flushed }))),
+      h.3,
+    )),
+  )))
+  whole-run (inr (inr h)) = inr (inr (inl (
+    h.0,
+    inr (inr (
+      g.no_failure,
+      begun-whole (TookAll from.out.state to.out.state) (took_all to.out.state took kept flushed h.1 h.2),
+      (end, h.3),
+    )),
+  )))
 
 pub run-ended : {O E : Type 0} (listed : Bool) (new : Joint) (y : SinkState) (status : ℕ)
     (i j : SourceState) (from to : Sinks O E) (files : List (List ℕ)) (end : End) (u : Unit {0})

@@ -14,6 +14,7 @@ use Rattle.xc_tools.specs.declared.joining.Stop.TheVariants.{NotText, Gap, Devic
 use Rattle.xc_tools.specs.declared.span_lines.Joint.{Joint}
 use Rattle.xc_tools.specs.declared.span_lines.Refusal.{Refusal}
 use Rattle.xc_tools.specs.declared.span_lines.Refusal.TheVariants as refusals
+use Rattle.xc_tools.specs.inner.Flushes.{FlushFailed, WasFlushed}
 use Rattle.xc_tools.specs.inner.SpanLines.{Stand, goes, faulty, apart, stand_after, join_of, start, wrote}
 
 -- the state after lines from the beginning on
@@ -76,6 +77,7 @@ StopsReading listed new old_in new_in out_old out_new Device = (lines : List (Li
     × Rose old_in.failures new_in.failures
 StopsReading listed new old_in new_in out_old out_new e =
     (bytes : List ℕ) × Gave old_in new_in bytes × StopsIn listed [] bytes new out_old out_new e
+    × (new_in.failures ≡ old_in.failures)
 
 -- what is said where the input ended, after what is carried on
 abbrev pub EndsAt : List ℕ → Joint → Joint → Result (Unit {0}) Stop → Type 0
@@ -94,17 +96,27 @@ JoinsAll listed new old_in new_in out_old out_new r =
     × AreWhole lines × (has 10 rest ≡ false) × (stand_reached listed lines ≡ goes (join_of old)) × EndsAt rest old new r
     × Took out_old out_new (joined_text listed lines))
 
--- how often the output failed after a stop, if that its write failed was reported
-abbrev pub WriteFails : Stop → SinkState → SinkState → Type 0
-WriteFails WriteFailed old new = new.failures ≡ old.failures
-WriteFails _ old new = Rose old.failures new.failures
+-- no write failed before the stop
+abbrev pub IsUnbroken : Stop → Type 0
+IsUnbroken WriteFailed = ⊥
+IsUnbroken _ = Unit {0}
+
+-- nor a read
+abbrev pub IsWell : Stop → Type 0
+IsWell WriteFailed = ⊥
+IsWell Device = ⊥
+IsWell _ = Unit {0}
 
 -- the message of a run that stopped, by its status
 abbrev pub ToldStop : List (List ℕ) → Stop → ℕ → SinkState → SinkState → SinkState → SinkState → Type 0
-ToldStop files stop status out_old out_new old new = let told = WasTold old new in
-    ((status ≡ 2) × (stop ≡ NotText) × OfSource files (λ file. (line : ℕ) × told (no_text file line)))
-    ⊎ ((status ≡ 5) × (stop ≡ Gap)
+ToldStop files stop status out_old out_new old new =
+    let told = WasTold old new in
+    let flushed = WasFlushed out_old out_new in
+    ((status ≡ 2) × (stop ≡ NotText) × flushed × OfSource files (λ file. (line : ℕ) × told (no_text file line)))
+    ⊎ ((status ≡ 5) × (stop ≡ Gap) × flushed
     × OfSource files (λ file. (line : ℕ) × (met : List ℕ) × (next : List ℕ) × told (gap_text file line met next)))
-    ⊎ ((status ≡ 4) × told (codes "Out of memory.\n"))
-    ⊎ ((status ≡ 3) × (stop ≡ Device) × OfSource files (λ file. told (unread_text file)))
-    ⊎ ((status ≡ 3) × WriteFails stop out_old out_new × told (codes "Write failed.\n"))
+    ⊎ ((status ≡ 4) × IsWell stop × flushed × told (codes "Out of memory.\n"))
+    ⊎ ((status ≡ 3) × (stop ≡ Device) × flushed
+    × (OfSource files (λ file. told (unread_text file)) ⊎ told (codes "Read failed.\n")))
+    ⊎ ((status ≡ 3) × IsUnbroken stop × FlushFailed out_old out_new × told (codes "Write failed.\n"))
+    ⊎ ((status ≡ 3) × (stop ≡ WriteFailed) × (out_new ≡ out_old) × told (codes "Write failed.\n"))
