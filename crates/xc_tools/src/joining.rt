@@ -7,7 +7,8 @@ ghost use Rattle.xc_input.specs.Pieces.{GaveAll};
 ghost use Rattle.xc_input.specs.Words.{has};
 ghost use Rattle.xc_input.specs.inner.EndedLines.{ended};
 ghost use Rattle.xc_list.specs.Texts.{seen, Took, WasTold, Writes};
-ghost use Rattle.xc_tools.specs.Joins.{asked_join, gap_text, at_line, no_text, unread_text, DidJoin, DidJoinWords};
+ghost use Rattle.xc_tools.specs.Joins.{asked_join, gap_text, at_line, no_text, other_text, unread_text, DidJoin};
+ghost use Rattle.xc_tools.specs.Joins.{DidJoinWords};
 ghost use Rattle.xc_tools.specs.WholeRuns.{sinks};
 ghost use Rattle.xc_tools.specs.declared.joining.Stop.TheVariants.{Device, Memory, WriteFailed};
 ghost use Rattle.xc_tools.specs.inner.Joining.{joined_text, fed_lines, stop_of, Adds, EndsAt, IsAfter, JoinsAll};
@@ -35,6 +36,8 @@ use xc_list::{End, Sink, SinkFault, write_all, write_line};
 pub(crate) enum Stop {
     /// A line isn't one of a span's text.
     NotText,
+    /// A text is of another problem than the first one.
+    Other,
     /// Ends don't meet.
     Gap,
     Device,
@@ -72,6 +75,7 @@ impl From<Refusal> for Stop {
     fn from(refusal: Refusal) -> Stop {
         match refusal {
             Refusal::NotText => Stop::NotText,
+            Refusal::Other => Stop::Other,
             Refusal::Gap => Stop::Gap,
             Refusal::Memory => Stop::Memory,
         }
@@ -296,6 +300,26 @@ fn fault_text(alloc: Global, file: Option<&[u8]>, line: u64) -> Result<Vec<u8>, 
     Ok(text)
 }
 
+/// What is reported of a text of another problem than the first one, with the places where both begin.
+fn other_text(
+    alloc: Global,
+    file: Option<&[u8]>,
+    line: u64,
+    first: Option<&[u8]>,
+    begun: u64,
+) -> Result<Vec<u8>, AllocError>
+    ensures { IfOk result (λ text. text.items
+        ≡ other_text (option_copied file.entry) line (option_copied first.entry) begun) }
+{
+    let mut text = at_line(alloc, file, line)?;
+    text.extend_from_slice(b"another problem than in ")?;
+    text.extend_from_slice(&source_text(alloc, first)?)?;
+    text.extend_from_slice(b"line ")?;
+    text.extend_from_slice(Buffer::new().format(begun).as_bytes())?;
+    text.extend_from_slice(b".\n")?;
+    Ok(text)
+}
+
 /// What is reported of a failed read.
 fn unread_text(alloc: Global, file: Option<&[u8]>) -> Result<Vec<u8>, AllocError>
     ensures { IfOk result (λ text. text.items ≡ unread_text (option_copied file.entry)) }
@@ -377,13 +401,24 @@ fn tell_stop<S: Located, O: Sink, E: Sink>(
     out: &mut O,
     err: &mut E,
 ) -> u8
-    ensures { ToldStop (map (λ w. w.items) files.now) stop result
+    ensures { ToldStop (map (λ w. w.items) files.now) lines.now.joint stop result
         (O.state out.old) (O.state out.new) (E.state err.old) (E.state err.new) }
 {
     let place = input.place(lines.begun, lines.taken);
     let file = source_at(files, place.file);
     match stop {
         Stop::NotText => tell(BAD_INPUT, fault_text(alloc, file, place.line), out, err),
+        Stop::Other => {
+            let first = input.place(1, 1);
+            let text = other_text(
+                alloc,
+                file,
+                place.line,
+                source_at(files, first.file),
+                first.line,
+            );
+            tell(GAP, text, out, err)
+        }
         Stop::Gap => tell(
             GAP,
             gap_text(alloc, file, place.line, &lines.joint),
@@ -418,7 +453,8 @@ fn join_input<S: Located, O: Sink, E: Sink>(
     out: &mut O,
     err: &mut E,
 ) -> u8
-    ensures did { DidJoin listed (map (λ w. w.items) files.now) result (S.Source.state input.old) (S.Source.state input.new)
+    ensures did { DidJoin listed (map (λ w. w.items) files.now) result
+        (S.Source.state input.old) (S.Source.state input.new)
         (sinks O.state E.state out.old err.old) (sinks O.state E.state out.new err.new) }
 {
     let Ok(joint) = Joint::new(alloc, listed) else {
@@ -457,7 +493,7 @@ pub fn asked_join(words: &[Vec<u8>]) -> Option<bool>
 /// solutions to `out`, numbered anew, and how many there are to `err`. The words are `m1` for listings or
 /// `m0` for records alone, and then the names of the input's files, for messages. It returns the status: 0 where
 /// the listing is complete, 1 for other words, 2 for what isn't the text of a span, 3 where a read or a write
-/// failed, 4 if memory ran out, 5 where the ends don't meet.
+/// failed, 4 if memory ran out, 5 where the ends don't meet or the texts are of more than one problem.
 pub fn join_spans<S: Located, O: Sink, E: Sink>(
     alloc: Global,
     words: &[Vec<u8>],

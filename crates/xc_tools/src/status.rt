@@ -19,7 +19,7 @@ pub(crate) const FAILED: u8 = 3;
 pub(crate) const NO_MEMORY: u8 = 4;
 /// Some solution is not a cover.
 pub(crate) const NOT_ALL_COVERS: u8 = 5;
-/// The ends of spans don't meet.
+/// The ends of spans don't meet, or they are of more than one problem.
 pub(crate) const GAP: u8 = 5;
 
 /// Writes a line in place of the last one, as far as that goes, and returns its status.
