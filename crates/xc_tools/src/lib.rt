@@ -15,6 +15,7 @@ mod failures;
 mod incoming;
 mod joining;
 mod judging;
+pub mod laws;
 mod lazy_file;
 mod located;
 mod outgoing;
