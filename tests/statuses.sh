@@ -60,28 +60,48 @@ END
 expect 1 dlx_span 1 m0 0 - </dev/null
 expect 1 dlx_span 1 m0 0 2 1 </dev/null
 expect 3 dlx_span 1 m0 0 - - <&-
+# Of which problem the texts of spans are.
+problem='problem 0123456789abcdef'
+expect 2 dlx_join m0 <<END
+from - until - solutions x steps 1 $problem
+END
 expect 2 dlx_join m0 <<'END'
-from - until - solutions x steps 1
+from - until - solutions 1 steps 1
+END
+expect 0 dlx_join m0 <<END
+from - until - solutions 1 steps 1 $problem
 END
 expect 5 dlx_join m0 </dev/null
 expect 1 dlx_join m2 </dev/null
+expect 1 dlx_join m2 <&-
+expect 3 dlx_join m0 <&-
 expect 3 dlx_join m0 missing.span </dev/null
 folder=$(mktemp -d) || exit 1
 first=$folder/first
-printf 'from - until 2 solutions 1 steps 1\n' >"$first"
-printf 'from 3 until - solutions 1 steps 1\n' >"$folder/third"
-printf 'from 2 until 3 solutions 1 steps 1\n\n' >"$folder/damaged"
+printf 'from - until 2 solutions 1 steps 1 %s\n' "$problem" >"$first"
+printf 'from 3 until - solutions 1 steps 1 %s\n' "$problem" >"$folder/third"
+printf 'from 2 until 3 solutions 1 steps 1 %s\n\n' "$problem" >"$folder/damaged"
+printf 'from 2 until - solutions 1 steps 1 problem 0123456789abcdee\n' >"$folder/other"
+printf 'from - until - solutions 1 steps 1 %s\n' "$problem" >"$folder/whole"
 printf 'from -' >"$folder/cut"
-printf 'from -\n' >"$folder/open"
+printf 'from - %s\n' "$problem" >"$folder/open"
 : >"$folder/empty"
 tells 'standard input: line 1: gap from - until 3.' dlx_join m0 <"$folder/third"
 tells 'standard input: read failed.' dlx_join m0 <"$folder"
 tells "$folder: read failed." dlx_join m0 "$first" "$folder" "$first" </dev/null
 tells "$folder/missing: read failed." dlx_join m0 "$first" "$folder/missing" "$first" </dev/null
 tells "$folder/third: line 1: gap from 2 until 3." dlx_join m0 "$folder/empty" "$first" "$folder/third" </dev/null
+tells "$folder/other: line 1: another problem than in $first: line 1." \
+    dlx_join m0 "$folder/empty" "$first" "$folder/other" </dev/null
 tells "$first: line 2: gap from 2 until -." dlx_join m0 "$first" </dev/null
 tells "$folder/damaged: line 2: not the text of a span." dlx_join m0 "$first" "$folder/damaged" </dev/null
 tells "$folder/cut: line 1: not the text of a span." dlx_join m1 "$folder/cut" "$first" </dev/null
 tells "$folder/open: line 2: not the text of a span." dlx_join m1 "$folder/open" "$folder/third" </dev/null
+# Each standard stream closed, while a file is there to take its number.
+expect 3 dlx_join m0 "$folder/whole" <&-
+crates/dlx_join/out/dlx_join m0 "$folder/whole" </dev/null >&- 2>/dev/null
+[ $? = 3 ] || { echo "dlx_join: standard output is closed"; differ=1; }
+crates/dlx_join/out/dlx_join m0 "$folder/whole" </dev/null 2>&- >/dev/null
+[ $? = 3 ] || { echo "dlx_join: standard error is closed"; differ=1; }
 rm -r "$folder"
 exit $differ

@@ -150,7 +150,7 @@ fn reads_and_writes_of_the_judge_that_fail(rt: HostRuntime) -> Result<(), Fail> 
 
 /// Takes all bytes, and fails at each flush.
 #[derive(Drop)]
-struct Unflushed {
+pub struct Unflushed {
     bytes: Vec<u8>,
     failures: u64,
     failed: bool,
@@ -158,7 +158,7 @@ struct Unflushed {
 }
 
 impl Unflushed {
-    fn new(alloc: Global) -> Unflushed {
+    pub fn new(alloc: Global) -> Unflushed {
         Unflushed {
             bytes: Vec::new(alloc),
             failures: 0,
@@ -195,7 +195,7 @@ impl Sink for Unflushed {
 }
 
 /// Whether the one call that failed was the flush, after this text.
-fn is_unflushed(out: &Unflushed, text: &[u8]) -> bool {
+pub fn is_unflushed(out: &Unflushed, text: &[u8]) -> bool {
     out.bytes.as_slice() == text && out.failures == 1 && out.failed
 }
 

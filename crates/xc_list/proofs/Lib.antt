@@ -1,4 +1,5 @@
 pub mod CheckLemmas
+pub mod DigestDigits
 pub mod Digits
 pub mod OutputLemmas
 mod FewMoves

@@ -18,7 +18,7 @@ use Rattle.xc_list.specs.SpanWords.{row_numbers, row_word}
 
 -- ---- one number
 
-number_read : (n : ℕ) → n < 2 ^ 64 → long_number (decimal n) ≡ Some n
+pub number_read : (n : ℕ) → n < 2 ^ 64 → long_number (decimal n) ≡ Some n
 number_read n h = grind (arith, digits_value-decimal, digits_read, digits_decimal, some_digits, decimal_nonempty)
 
 digits_lack : (bs : List ℕ) → list_all is_ascii_digit bs ≡ true

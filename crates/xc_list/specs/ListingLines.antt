@@ -1,6 +1,6 @@
 -- The lines of a listing: headers, and choice lines with their bodies.
 use Rattle.std.specs.Prelude.{ℕ, ◌-◌, Bool, false, not, ◌&&◌, ◌==◌, nat_le, List, [], ◌∷◌, codes, length, take, drop}
-use Rattle.std.specs.Prelude.{Option, Some, None, if◌then◌else◌}
+use Rattle.std.specs.Prelude.{Option, Some, None, is_some, option_and_then, slice_get, if◌then◌else◌}
 use Rattle.std.specs.Io.BufRead.{ends_with_byte}
 use Rattle.std.specs.List.{list_all, list_any, slice_split}
 use Rattle.std.specs.Str.{byte, bytes_eq}
@@ -49,3 +49,13 @@ body_of_words words =
 abbrev pub body_of : List ℕ → Option (List (List ℕ))
 body_of [] = None
 body_of (b ∷ line) = if b == byte " " then body_of_words (words_in line) else None
+
+-- the number of the branch in the words of a choice line: k, where the last three are `(k`, `of`, `n)`
+abbrev pub number_in_words : List (List ℕ) → Option ℕ
+number_in_words words = if is_some (body_of_words words)
+    then option_and_then (λ word. long_number (drop 1 word)) (slice_get words (length words - 3)) else None
+
+-- the same of a choice line, where it is one
+abbrev pub branch_number : List ℕ → Option ℕ
+branch_number [] = None
+branch_number (b ∷ line) = if b == byte " " then number_in_words (words_in line) else None

@@ -19,6 +19,8 @@ mod option_index;
 mod rotation;
 mod seen_lines;
 
+pub use listing_lines::branch_number;
+
 use crate::checker::cover_counter::CoverCounter;
 use crate::checker::listing_lines::{ListingLine, cut_line, read_line};
 use crate::checker::option_index::OptionIndex;

@@ -31,7 +31,7 @@ mod vec_sink;
 mod words;
 mod write;
 
-pub use checker::{ListingFault, Verdict, check};
+pub use checker::{ListingFault, Verdict, branch_number, check};
 pub use cover_test::is_cover;
 pub use digest::problem_digest;
 pub use line::write_line;

@@ -5,3 +5,4 @@ pub mod RunLemmas
 pub mod SpanEnds
 pub mod StreamLemmas
 pub mod WordLemmas
+pub mod WrittenTexts

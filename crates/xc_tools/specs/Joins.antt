@@ -1,52 +1,21 @@
 -- What a whole run that joins spans does.
-use Rattle.std.specs.Prelude.{ℕ, ◌^◌, ◌<◌, ◌≡◌, ◌⊎◌, All, Bool, true, false, List, [], ◌∷◌, ◌++◌, length, Option, Some}
+use Rattle.std.specs.Prelude.{ℕ, ◌≡◌, ◌⊎◌, All, Bool, true, false, List, [], ◌∷◌, ◌++◌, Option, Some}
 use Rattle.std.specs.Prelude.{None}
-use Rattle.std.specs.Prelude.{IfSome, MatchOption, drop, flat_map, codes, decimal, if◌then◌else◌}
-use Rattle.std.specs.Io.KnownBytes.{Appends}
+use Rattle.std.specs.Prelude.{MatchOption, drop, map, flat_map, codes, decimal, if◌then◌else◌}
 use Rattle.std.specs.Str.{bytes_eq}
 use Rattle.xc_input.specs.Calls.{Rose}
 use Rattle.xc_input.specs.Named.{Named, IsSound}
 use Rattle.xc_input.specs.Pieces.{SourceState, Gave, GaveAll}
-use Rattle.xc_search.specs.declared.choice.Choice.{Choice}
-use Rattle.xc_search.specs.Spans.{between, precedes}
-use Rattle.xc_list.specs.SpanTexts.{most_counted}
+use Rattle.xc_list.specs.SpanTexts.{most_counted, row_text}
 use Rattle.xc_list.specs.Messages.{summary_text}
 use Rattle.xc_list.specs.Output.{output}
 use Rattle.xc_list.specs.Runs.{end_of}
-use Rattle.xc_list.specs.SpanTexts.{end_at, span_text}
-use Rattle.xc_list.specs.Texts.{Seen, SinkState, Took, BrokeOff, WasTold}
+use Rattle.xc_list.specs.SearchedSpans.{SearchedSpan, IsSpan, text_of}
+use Rattle.xc_list.specs.Texts.{Seen, Took, BrokeOff, WasTold}
 use Rattle.xc_list.specs.declared.runs.End.{End}
+use Rattle.xc_tools.specs.SpanShapes.{AreShapes, SpanText}
 use Rattle.xc_tools.specs.ShownNames.{source_text, OfSource}
-use Rattle.xc_tools.specs.WholeRuns.{Sinks, TookAll, IsRefused}
-
--- A span as it was searched: its first row; the one before which it ends, where the empty row stands for the listing's
--- end; the branches of the row where the search stopped before that, if it did; and how many steps it took.
-pub record SearchedSpan : Type 0 where
-  pub from : List ℕ
-  pub until : List ℕ
-  pub branches : Option (List ℕ)
-  pub steps : ℕ
-
--- the members of a span
-abbrev pub members_of : Named → SearchedSpan → List (List Choice)
-members_of a s = between a.puzzle s.from (end_at s.until)
-
--- the text of a span
-abbrev pub text_of : Named → Bool → SearchedSpan → List ℕ
-text_of a listed s = span_text a listed s.from s.until s.branches s.steps
-
--- numbers below 2^64
-abbrev pub AreSmall : List ℕ → Type 0
-AreSmall row = All (λ n. n < 2 ^ 64) row
-
--- A span of a problem ends no earlier than it begins, and all of its numbers are below 2^64.
-pub record IsSpan (a : Named) (s : SearchedSpan) : Type 0 where
-  pub forward : IfSome (end_at s.until) (λ u. precedes u s.from ≡ false)
-  pub from : AreSmall s.from
-  pub until : AreSmall s.until
-  pub branches : IfSome s.branches AreSmall
-  pub steps : s.steps < 2 ^ 64
-  pub few : length (members_of a s) < 2 ^ 64
+use Rattle.xc_tools.specs.WholeRuns.{Sinks, TookAll, FailedBehind, IsRefused}
 
 -- These are the texts of spans of a problem, one after another.
 pub record AreTexts (a : Named) (listed : Bool) (spans : List SearchedSpan) (text : List ℕ) : Type 0 where
@@ -58,6 +27,26 @@ pub record AreTexts (a : Named) (listed : Bool) (spans : List SearchedSpan) (tex
 abbrev pub DoMeet : List ℕ → List SearchedSpan → Type 0
 DoMeet row [] = ⊥
 DoMeet row (s ∷ spans) = (s.from ≡ row) × elim s.until [ [] ↦ spans ≡ [] | n ∷ until ↦ DoMeet (n ∷ until) spans ]
+
+-- the texts are of one problem, by its digest
+abbrev pub AreOfOneProblem : List SpanText → Type 0
+AreOfOneProblem texts = (digest : List ℕ) × All (λ t. t.digest ≡ digest) texts
+
+-- their spans
+abbrev pub spans_in : List SpanText → List SearchedSpan
+spans_in texts = map (λ t. t.span) texts
+
+-- The first place where spans from a row on don't meet: where a text ended, or the listing begins, and where the next
+-- one begins. A dash is the listing's end or its beginning, or says that there is no next one.
+abbrev pub IsFirstGap : List ℕ → List ℕ → List ℕ → List SearchedSpan → Type 0
+IsFirstGap row met next [] = (met ≡ row_text row) × (next ≡ codes "-")
+IsFirstGap row met next (s ∷ spans) =
+    (((s.from ≡ row) → ⊥) × (met ≡ row_text row) × (next ≡ row_text s.from))
+    ⊎ ((s.from ≡ row) × elim s.until as (λ u. Type 0) [
+      | [] ↦ (t : SearchedSpan) × (others : List SearchedSpan) × (spans ≡ t ∷ others) × (met ≡ codes "-")
+          × (next ≡ row_text t.from)
+      | n ∷ until ↦ IsFirstGap (n ∷ until) met next spans
+    ])
 
 -- ---- a run
 
@@ -74,31 +63,44 @@ abbrev pub ForTexts : Bool → (Named → List SearchedSpan → Type 0) → List
 ForTexts listed says bytes =
     (a : Named) (spans : List SearchedSpan) → IsSound a → AreTexts a listed spans bytes → says a spans
 
--- This is so of each sound problem and spans of it whose texts a source gave, with its end, or began to give.
-abbrev pub OfTexts : Bool → (Named → List SearchedSpan → Type 0) → SourceState → SourceState → Type 0
-OfTexts listed says old new = (bytes : List ℕ) × ((GaveAll old new bytes × ForTexts listed says bytes)
-    ⊎ (Gave old new bytes × ((more : List ℕ) → ForTexts listed says (bytes ++ more))))
+-- this is so of whatever texts these bytes may be, of spans of any problems
+abbrev pub ForShapes : Bool → (List SpanText → Type 0) → List ℕ → Type 0
+ForShapes listed says bytes = (texts : List SpanText) → AreShapes listed texts bytes → says texts
 
--- 0: The source gave its end, the output took a text, and the number of solutions was printed. Where the input is the
--- texts of spans, these meet from the listing's beginning to its end, the text is the whole listing, if it is listed,
--- and the number is that of its members.
+-- This is so of all that a source gave, with its end; or of all that begins with what it gave.
+abbrev pub OfInput : (List ℕ → Type 0) → SourceState → SourceState → Type 0
+OfInput says old new = (bytes : List ℕ) × ((GaveAll old new bytes × says bytes)
+    ⊎ (Gave old new bytes × ((more : List ℕ) → says (bytes ++ more))))
+
+-- Where these bytes are texts of spans of a sound problem, the spans meet from its listing's beginning to its end, the
+-- text is the whole listing, if it is listed, and the end tells the number of its members.
+abbrev pub ListsWhole : Bool → List ℕ → End → List ℕ → Type 0
+ListsWhole listed text end bytes =
+    ForTexts listed (λ a spans. DoMeet [] spans × (text ≡ joined a listed) × (end ≡ end_of a most_counted)) bytes
+
+-- 0: The source gave texts of spans of one problem, which meet from the listing's beginning to its end; the output took
+-- a text, and an end was printed, which list the whole.
 pub record IsJoined {O E : Type 0} (listed : Bool) (from to : SourceState) (old new : Sinks O E) : Type 0 where
   pub bytes : List ℕ
   pub gave : GaveAll from to bytes
+  pub texts : List SpanText
+  pub shapes : AreShapes listed texts bytes
+  pub meet : DoMeet [] (spans_in texts)
+  pub one : AreOfOneProblem texts
   pub text : List ℕ
   pub taken : TookAll old.out.state new.out.state text
   pub end : End
   pub told : Took old.err.state new.err.state (summary_text end)
-  pub whole : ForTexts listed (λ a spans. DoMeet [] spans × (text ≡ joined a listed) × (end ≡ end_of a most_counted))
-      bytes
+  pub whole : ListsWhole listed text end bytes
 
--- The output took a text. Where the input is texts of spans, or their beginning, it is a beginning of the whole
--- listing, and this is so of the spans.
-pub record HasBegun (listed : Bool) (says : List SearchedSpan → Type 0) (input_old input_new : SourceState)
-    (out_old out_new : SinkState) : Type 0 where
+-- A text was written so. Where the input is texts of spans of a sound problem, or their beginning, it is a beginning of
+-- the whole listing. And this is so of whatever texts the input may be, or begin.
+pub record HasBegun (listed : Bool) (says : List SpanText → Type 0) (from to : SourceState)
+    (written : List ℕ → Type 0) : Type 0 where
   pub text : List ℕ
-  pub taken : Appends out_old.taken out_new.taken text
-  pub of : OfTexts listed (λ a spans. IsBeginning text (joined a listed) × says spans) input_old input_new
+  pub is_written : written text
+  pub of : OfInput (λ bytes. ForTexts listed (λ a _. IsBeginning text (joined a listed)) bytes
+      × ForShapes listed says bytes) from to
 
 -- the front of a message about a line of a file, or of standard input
 abbrev pub at_line : Option (List ℕ) → ℕ → List ℕ
@@ -113,31 +115,57 @@ gap_text file line met next =
 abbrev pub no_text : Option (List ℕ) → ℕ → List ℕ
 no_text file line = at_line file line ++ codes "not the text of a span.\n"
 
+-- the message about a text of another problem than the first one, and where that begins
+abbrev pub other_text : Option (List ℕ) → ℕ → Option (List ℕ) → ℕ → List ℕ
+other_text file line first begun = at_line file line ++ codes "another problem than in " ++ source_text first
+    ++ codes "line " ++ decimal begun ++ codes ".\n"
+
 -- the message about a failed read
 abbrev pub unread_text : Option (List ℕ) → List ℕ
 unread_text file = source_text file ++ codes "read failed.\n"
 
--- What failed, and was reported: a read of a file or of standard input; or a write of the output or its flush; or the
--- last line broke off.
-abbrev pub ToldFailure : {O E : Type 0} → List (List ℕ) → SourceState → SourceState → Sinks O E → Sinks O E → Type 0
-ToldFailure files from to old new = let told = WasTold old.err.state new.err.state in
-    (Rose from.failures to.failures × OfSource files (λ file. told (unread_text file)))
-    ⊎ (Rose old.out.state.failures new.out.state.failures × told (codes "Write failed.\n"))
-    ⊎ ((end : End) × BrokeOff old.err.state new.err.state (summary_text end))
+-- What failed at its last call, and was reported: a read of a file or of standard input, without its name where there
+-- was no memory for that; or a write of the output or its flush; or the last line broke off.
+abbrev pub HasFailed : {O E : Type 0} → Bool → List (List ℕ) → SourceState → SourceState → Sinks O E → Sinks O E
+    → Type 0
+HasFailed listed files from to old new =
+    let told = WasTold old.err.state new.err.state in
+    let begun = HasBegun listed (λ _. Unit {0}) from to in
+    (Rose from.failures to.failures × begun (TookAll old.out.state new.out.state)
+    × (OfSource files (λ file. told (unread_text file)) ⊎ told (codes "Read failed.\n")))
+    ⊎ (begun (λ text. BrokeOff old.out.state new.out.state text ⊎ FailedBehind old.out.state new.out.state text)
+    × told (codes "Write failed.\n"))
+    ⊎ ((to.failures ≡ from.failures) × begun (TookAll old.out.state new.out.state)
+    × ((end : End) × BrokeOff old.err.state new.err.state (summary_text end)))
 
--- What a run did with this first word and these files, by its status. At 5 the spans don't meet, and at 2 the input is
--- no texts.
+-- No read failed and no write, and the output was flushed once behind a text.
+abbrev pub HasStopped : {O E : Type 0} → Bool → SourceState → SourceState → Sinks O E → Sinks O E
+    → (List SpanText → Type 0) → Type 0
+HasStopped listed from to old new says =
+    (to.failures ≡ from.failures) × HasBegun listed says from to (TookAll old.out.state new.out.state)
+
+-- ends that don't meet were reported
+abbrev pub ToldGap : List (List ℕ) → (List ℕ → Type 0) → List ℕ → List ℕ → Type 0
+ToldGap files told met next = OfSource files (λ file. (line : ℕ) × told (gap_text file line met next))
+
+-- a text of another problem than the first one was reported, with where that begins
+abbrev pub ToldOther : (List ℕ → Type 0) → Option (List ℕ) → Option (List ℕ) → Type 0
+ToldOther told first file = (line : ℕ) × (begun : ℕ) × told (other_text file line first begun)
+
+-- What a run did with this first word and these files, by its status. At 2 the input is no texts, and begins none; at 5
+-- the spans don't meet, or are of more than one problem.
 abbrev pub DidJoin : {O E : Type 0} → Bool → List (List ℕ) → ℕ → SourceState → SourceState → Sinks O E → Sinks O E
     → Type 0
 DidJoin listed files status from to old new =
-    let begun = λ (says : List SearchedSpan → Type 0). HasBegun listed says from to old.out.state new.out.state in
-    let told = WasTold old.err.state new.err.state in
+    let told = WasTold old.err.state new.err.state in let stopped = HasStopped listed from to old new in
     ((status ≡ 0) × IsJoined listed from to old new)
-    ⊎ ((status ≡ 2) × begun (λ _. ⊥) × OfSource files (λ file. (line : ℕ) × told (no_text file line)))
-    ⊎ ((status ≡ 3) × begun (λ _. Unit {0}) × ToldFailure files from to old new)
-    ⊎ ((status ≡ 4) × begun (λ _. Unit {0}) × told (codes "Out of memory.\n"))
-    ⊎ ((status ≡ 5) × begun (λ spans. DoMeet [] spans → ⊥)
-    × OfSource files (λ file. (line : ℕ) × (met : List ℕ) × (next : List ℕ) × told (gap_text file line met next)))
+    ⊎ ((status ≡ 2) × stopped (λ _. ⊥) × OfSource files (λ file. (line : ℕ) × told (no_text file line)))
+    ⊎ ((status ≡ 3) × HasFailed listed files from to old new)
+    ⊎ ((status ≡ 4) × stopped (λ _. Unit {0}) × told (codes "Out of memory.\n"))
+    ⊎ ((status ≡ 5) × (met : List ℕ) × (next : List ℕ) × stopped (λ texts. IsFirstGap [] met next (spans_in texts))
+    × ToldGap files told met next)
+    ⊎ ((status ≡ 5) × stopped (λ texts. AreOfOneProblem texts → ⊥)
+    × OfSource files (λ first. OfSource files (ToldOther told first)))
 
 -- whether texts are listings, by the first word
 abbrev pub asked_join : List (List ℕ) → Option Bool

@@ -5,6 +5,7 @@ pub mod Outputs
 pub mod ShownNames
 pub mod Solves
 pub mod SpanRuns
+pub mod SpanShapes
 pub mod Streams
 pub mod WholeRuns
 pub mod inner

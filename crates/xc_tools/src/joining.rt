@@ -1,19 +1,19 @@
 //! A whole run that joins the texts of spans.
 ghost use Rattle.std.specs.Prelude.{◌≡◌, ◌<◌, ◌++◌, ◌∷◌, [], ℕ, List, false, length, codes, IfErr, IfOk, OnOk};
 ghost use Rattle.std.specs.Prelude.{◌⊎◌, ◌==◌, IsOkAnd, MatchOption, drop, map, option_copied, if◌then◌else◌};
-ghost use Rattle.std.specs.Io.KnownBytes.{Keeps};
 ghost use Rattle.xc_list.specs.SpanTexts.{most_counted};
 ghost use Rattle.xc_list.specs.declared.runs.End.TheVariants.{Done, Limit};
-ghost use Rattle.xc_input.specs.Calls.{Rose};
 ghost use Rattle.xc_input.specs.Pieces.{GaveAll};
 ghost use Rattle.xc_input.specs.Words.{has};
 ghost use Rattle.xc_input.specs.inner.EndedLines.{ended};
 ghost use Rattle.xc_list.specs.Texts.{seen, Took, WasTold, Writes};
-ghost use Rattle.xc_tools.specs.Joins.{asked_join, gap_text, at_line, no_text, unread_text, DidJoin, DidJoinWords};
+ghost use Rattle.xc_tools.specs.Joins.{asked_join, gap_text, at_line, no_text, other_text, unread_text, DidJoin};
+ghost use Rattle.xc_tools.specs.Joins.{DidJoinWords};
 ghost use Rattle.xc_tools.specs.WholeRuns.{sinks};
 ghost use Rattle.xc_tools.specs.declared.joining.Stop.TheVariants.{Device, Memory, WriteFailed};
 ghost use Rattle.xc_tools.specs.inner.Joining.{joined_text, fed_lines, stop_of, Adds, EndsAt, IsAfter, JoinsAll};
 ghost use Rattle.xc_tools.specs.inner.Joining.{StopsIn};
+ghost use Rattle.xc_tools.specs.inner.Flushes.{FlushFailed, WasFlushed};
 ghost use Rattle.xc_tools.specs.inner.Joining.{StopsReading, ToldStop};
 ghost use Rattle.xc_tools.specs.inner.SpanLines.{act_text};
 
@@ -23,8 +23,7 @@ use crate::shown_names::{source_at, source_text};
 use crate::solving::finish;
 use crate::span_lines::{Act, Joint, Refusal, put_word};
 use crate::status::{
-    BAD_INPUT, BAD_WORDS, COMPLETE, FAILED, GAP, NO_MEMORY, flush_and_refuse, out_of_memory,
-    refuse, write_failed,
+    BAD_INPUT, BAD_WORDS, COMPLETE, FAILED, GAP, NO_MEMORY, flush_and_refuse, refuse, write_failed,
 };
 use bstr::ByteSlice;
 use itoa::Buffer;
@@ -37,6 +36,8 @@ use xc_list::{End, Sink, SinkFault, write_all, write_line};
 pub(crate) enum Stop {
     /// A line isn't one of a span's text.
     NotText,
+    /// A text is of another problem than the first one.
+    Other,
     /// Ends don't meet.
     Gap,
     Device,
@@ -74,6 +75,7 @@ impl From<Refusal> for Stop {
     fn from(refusal: Refusal) -> Stop {
         match refusal {
             Refusal::NotText => Stop::NotText,
+            Refusal::Other => Stop::Other,
             Refusal::Gap => Stop::Gap,
             Refusal::Memory => Stop::Memory,
         }
@@ -298,6 +300,26 @@ fn fault_text(alloc: Global, file: Option<&[u8]>, line: u64) -> Result<Vec<u8>, 
     Ok(text)
 }
 
+/// What is reported of a text of another problem than the first one, with the places where both begin.
+fn other_text(
+    alloc: Global,
+    file: Option<&[u8]>,
+    line: u64,
+    first: Option<&[u8]>,
+    begun: u64,
+) -> Result<Vec<u8>, AllocError>
+    ensures { IfOk result (λ text. text.items
+        ≡ other_text (option_copied file.entry) line (option_copied first.entry) begun) }
+{
+    let mut text = at_line(alloc, file, line)?;
+    text.extend_from_slice(b"another problem than in ")?;
+    text.extend_from_slice(&source_text(alloc, first)?)?;
+    text.extend_from_slice(b"line ")?;
+    text.extend_from_slice(Buffer::new().format(begun).as_bytes())?;
+    text.extend_from_slice(b".\n")?;
+    Ok(text)
+}
+
 /// What is reported of a failed read.
 fn unread_text(alloc: Global, file: Option<&[u8]>) -> Result<Vec<u8>, AllocError>
     ensures { IfOk result (λ text. text.items ≡ unread_text (option_copied file.entry)) }
@@ -314,15 +336,29 @@ fn tell<O: Sink, E: Sink>(
     out: &mut O,
     err: &mut E,
 ) -> u8
-    ensures kept { Keeps (O.state out.old).taken (O.state out.new).taken }
-    ensures did { IsOkAnd text (λ t. (result ≡ status) × WasTold (E.state err.old) (E.state err.new) t.items)
-        ⊎ ((result ≡ 4) × WasTold (E.state err.old) (E.state err.new) (codes "Out of memory.\n"))
-        ⊎ ((result ≡ 3) × Rose (O.state out.old).failures (O.state out.new).failures
+    ensures { (WasFlushed (O.state out.old) (O.state out.new)
+        × (IsOkAnd text (λ t. (result ≡ status) × WasTold (E.state err.old) (E.state err.new) t.items)
+        ⊎ ((result ≡ 4) × WasTold (E.state err.old) (E.state err.new) (codes "Out of memory.\n"))))
+        ⊎ ((result ≡ 3) × FlushFailed (O.state out.old) (O.state out.new)
         × WasTold (E.state err.old) (E.state err.new) (codes "Write failed.\n")) }
 {
     match text {
         Ok(text) => flush_and_refuse(status, &text, out, err),
         Err(_) => flush_and_refuse(NO_MEMORY, b"Out of memory.\n", out, err),
+    }
+}
+
+/// Flushes the output and reports a failed read, with the name of what is read if there is memory for it.
+fn tell_unread<O: Sink, E: Sink>(alloc: Global, file: Option<&[u8]>, out: &mut O, err: &mut E) -> u8
+    ensures { (WasFlushed (O.state out.old) (O.state out.new) × (result ≡ 3)
+        × (WasTold (E.state err.old) (E.state err.new) (unread_text (option_copied file.entry))
+        ⊎ WasTold (E.state err.old) (E.state err.new) (codes "Read failed.\n")))
+        ⊎ ((result ≡ 3) × FlushFailed (O.state out.old) (O.state out.new)
+        × WasTold (E.state err.old) (E.state err.new) (codes "Write failed.\n")) }
+{
+    match unread_text(alloc, file) {
+        Ok(text) => flush_and_refuse(FAILED, &text, out, err),
+        Err(_) => flush_and_refuse(FAILED, b"Read failed.\n", out, err),
     }
 }
 
@@ -365,24 +401,31 @@ fn tell_stop<S: Located, O: Sink, E: Sink>(
     out: &mut O,
     err: &mut E,
 ) -> u8
-    ensures kept { Keeps (O.state out.old).taken (O.state out.new).taken }
-    ensures did { ToldStop (map (λ w. w.items) files.now) stop result
+    ensures { ToldStop (map (λ w. w.items) files.now) lines.now.joint stop result
         (O.state out.old) (O.state out.new) (E.state err.old) (E.state err.new) }
 {
     let place = input.place(lines.begun, lines.taken);
     let file = source_at(files, place.file);
     match stop {
         Stop::NotText => tell(BAD_INPUT, fault_text(alloc, file, place.line), out, err),
+        Stop::Other => {
+            let first = input.place(1, 1);
+            let text = other_text(
+                alloc,
+                file,
+                place.line,
+                source_at(files, first.file),
+                first.line,
+            );
+            tell(GAP, text, out, err)
+        }
         Stop::Gap => tell(
             GAP,
             gap_text(alloc, file, place.line, &lines.joint),
             out,
             err,
         ),
-        Stop::Device => {
-            let unread = source_at(files, input.reading());
-            tell(FAILED, unread_text(alloc, unread), out, err)
-        }
+        Stop::Device => tell_unread(alloc, source_at(files, input.reading()), out, err),
         Stop::Memory => flush_and_refuse(NO_MEMORY, b"Out of memory.\n", out, err),
         Stop::WriteFailed => write_failed(err),
     }
@@ -410,11 +453,12 @@ fn join_input<S: Located, O: Sink, E: Sink>(
     out: &mut O,
     err: &mut E,
 ) -> u8
-    ensures did { DidJoin listed (map (λ w. w.items) files.now) result (S.Source.state input.old) (S.Source.state input.new)
+    ensures did { DidJoin listed (map (λ w. w.items) files.now) result
+        (S.Source.state input.old) (S.Source.state input.new)
         (sinks O.state E.state out.old err.old) (sinks O.state E.state out.new err.new) }
 {
     let Ok(joint) = Joint::new(alloc, listed) else {
-        return out_of_memory(err);
+        return flush_and_refuse(NO_MEMORY, b"Out of memory.\n", out, err);
     };
     let mut lines = first_lines(joint);
     match join_all(alloc, &mut lines, input, out) {
@@ -449,7 +493,7 @@ pub fn asked_join(words: &[Vec<u8>]) -> Option<bool>
 /// solutions to `out`, numbered anew, and how many there are to `err`. The words are `m1` for listings or
 /// `m0` for records alone, and then the names of the input's files, for messages. It returns the status: 0 where
 /// the listing is complete, 1 for other words, 2 for what isn't the text of a span, 3 where a read or a write
-/// failed, 4 if memory ran out, 5 where the ends don't meet.
+/// failed, 4 if memory ran out, 5 where the ends don't meet or the texts are of more than one problem.
 pub fn join_spans<S: Located, O: Sink, E: Sink>(
     alloc: Global,
     words: &[Vec<u8>],

@@ -1,20 +1,20 @@
 //! The lines of the texts of spans, one by one.
-ghost use Rattle.std.specs.Prelude.{IsTrue, ℕ, List, ◌==◌, ◌&&◌, ◌≡◌, ◌+◌, ◌≤◌, IfOk, MatchResult, OnOk, codes};
-ghost use Rattle.std.specs.Prelude.{decimal, map, None, option_map};
-ghost use Rattle.std.specs.Char.{is_ascii_digit};
-ghost use Rattle.std.specs.List.{list_all, slice_split};
+ghost use Rattle.std.specs.Prelude.{IsTrue, ℕ, List, ◌==◌, ◌||◌, ◌≡◌, ◌+◌, ◌≤◌, MatchResult, IfOk, OnOk, decimal};
+ghost use Rattle.std.specs.Prelude.{option_map};
 ghost use Rattle.std.specs.Str.{byte, bytes_eq};
 ghost use Rattle.xc_list.specs.ListingLines.{before_last, words_in};
-ghost use Rattle.xc_tools.specs.inner.SpanLines.{act_text, begins_with, by_header, by_heading, by_last, by_line};
-ghost use Rattle.xc_tools.specs.inner.SpanLines.{by_record, closed};
-ghost use Rattle.xc_tools.specs.inner.SpanLines.{counts_of, goes, heading_of, inside, is_header, is_number, is_row};
-ghost use Rattle.xc_tools.specs.inner.SpanLines.{join_of, meets, record_of, saturating_number, recorded_solutions};
-ghost use Rattle.xc_tools.specs.inner.SpanLines.{start, TakesLine, told_of, Unmet};
+ghost use Rattle.xc_tools.specs.inner.SpanLines.{act_text, begins_with, by_choice, by_header, by_heading, by_last};
+ghost use Rattle.xc_tools.specs.inner.SpanLines.{by_line};
+ghost use Rattle.xc_tools.specs.inner.SpanLines.{by_record, closed, ends_well, inside, is_header};
+ghost use Rattle.xc_tools.specs.inner.SpanLines.{goes, join_of, meets, start, KeepsProblem, TakesLine, Unmet};
 ghost use Rattle.xc_tools.specs.declared.span_lines.Refusal.TheVariants.{Memory};
 ghost use Rattle.xc_tools.specs.declared.span_lines.Act.TheVariants.{Nothing};
 
+use crate::rising::Rising;
+use crate::span_words::{heading_of, put_numbers, record_of, words_of};
 use itoa::Buffer;
 use std::alloc::{AllocError, Global};
+use xc_list::branch_number;
 
 /// What is to be written for a line.
 #[derive(Clone, Copy)]
@@ -31,6 +31,8 @@ pub(crate) enum Act {
 pub(crate) enum Refusal {
     /// It isn't one of a span's text.
     NotText,
+    /// The text is of another problem than the first one.
+    Other,
     /// The text begins elsewhere than the one before it ended.
     Gap,
     Memory,
@@ -44,85 +46,29 @@ impl From<AllocError> for Refusal {
     }
 }
 
-/// What the record of a span means, by its words.
-#[derive(Clone, Copy)]
-struct Record<'a> {
-    from: &'a [u8],
-    until: &'a [u8],
-    solutions: &'a [u8],
-}
-
 /// How far the texts of spans were read.
 #[derive(Drop)]
 pub(crate) struct Joint {
     /// The texts are listings.
     pub listed: bool,
+    /// The digest of the problem, once a text has begun.
+    pub digest: Vec<u8>,
     /// The row where the last text ended.
     pub met: Vec<u8>,
     /// It ended at the listing's end.
     pub finished: bool,
     /// How many solutions the open text has up to now, if one is open.
     pub found: Option<u64>,
+    /// The row of the last of them, or where the text begins.
+    pub rising: Rising,
     /// How many solutions there are in all, up to 2^64 - 1.
     pub total: u64,
     /// There are more, which aren't listed.
     pub full: bool,
     /// Where the text after a gap begins.
     pub next: Vec<u8>,
-}
-
-fn is_digit(b: u8) -> bool
-    ensures { result ≡ is_ascii_digit b }
-{
-    b.is_ascii_digit()
-}
-
-fn all_digits(word: &[u8]) -> bool
-    ensures { result ≡ list_all is_ascii_digit word.now }
-{
-    word.iter().all(|b| is_digit(*b))
-}
-
-/// Whether a word is digits.
-fn is_number(word: &[u8]) -> bool
-    ensures { result ≡ is_number word.now }
-{
-    if word.is_empty() {
-        return false;
-    }
-    all_digits(word)
-}
-
-fn all_numbers(word: &[u8]) -> bool
-    ensures { result ≡ list_all is_number (slice_split (λ b. b == byte ".") word.now) }
-{
-    word.split(|b| *b == b'.').all(|part| is_number(part))
-}
-
-fn is_dash(word: &[u8]) -> bool
-    ensures { result ≡ bytes_eq word.now (codes "-") }
-{
-    word == b"-".as_slice()
-}
-
-/// Whether a word is a row.
-fn is_row(word: &[u8]) -> bool
-    ensures { result ≡ is_row word.now }
-{
-    is_dash(word) || all_numbers(word)
-}
-
-/// The number that digits stand for, up to 2^64 - 1.
-fn saturating_number(digits: &[u8]) -> u64
-    ensures { result ≡ saturating_number digits.now }
-{
-    let mut value: u64 = 0;
-    for b in digits {
-        value = value
-            .saturating_mul(10)
-            .saturating_add(u64::from(b.saturating_sub(b'0')));
-    }
-    value
+    /// Where a text ends, as numbers.
+    pub until: Vec<u64>,
 }
 
 fn begins_with(line: &[u8], byte: u8) -> bool
@@ -152,80 +98,6 @@ fn is_header(line: &[u8], number: u64) -> bool
     }
 }
 
-/// The row in the heading of a listing.
-fn heading_of<'a>(words: &[&'a [u8]]) -> Option<&'a [u8]>
-    ensures { option_map (λ row. row.now) result ≡ heading_of (map (λ w. w.now) words.now) }
-{
-    match words {
-        [from, row] if *from == b"from".as_slice() && is_row(row) => Some(*row),
-        _ => None,
-    }
-}
-
-/// Whether these are the words of two counts.
-fn are_counts(solutions: &[u8], n: &[u8], steps: &[u8], m: &[u8]) -> bool
-    ensures { result ≡ (bytes_eq solutions.now (codes "solutions") && bytes_eq steps.now (codes "steps")
-        && is_number n.now && is_number m.now) }
-{
-    solutions == b"solutions".as_slice()
-        && steps == b"steps".as_slice()
-        && is_number(n)
-        && is_number(m)
-}
-
-/// How many solutions the last words of a record mean.
-fn solutions_of<'a>(words: &[&'a [u8]]) -> Option<&'a [u8]>
-    ensures { option_map (λ n. n.now) result ≡ recorded_solutions (map (λ w. w.now) words.now) }
-{
-    match words {
-        [solutions, n, steps, m] => {
-            if are_counts(solutions, n, steps, m) {
-                Some(*n)
-            } else {
-                None
-            }
-        }
-        _ => None,
-    }
-}
-
-/// The same of words that may have the branches of a row before that.
-fn counts_of<'a>(words: &[&'a [u8]]) -> Option<&'a [u8]>
-    ensures { option_map (λ n. n.now) result ≡ counts_of (map (λ w. w.now) words.now) }
-{
-    match words {
-        [of, row, rest @ ..] if *of == b"of".as_slice() && is_row(row) => solutions_of(rest),
-        _ => solutions_of(words),
-    }
-}
-
-/// What these words mean, if they are a record.
-fn record_of<'a>(words: &[&'a [u8]]) -> Option<Record<'a>>
-    ensures { option_map told_of result ≡ record_of (map (λ w. w.now) words.now) }
-{
-    match words {
-        [a, from, b, until, rest @ ..]
-            if *a == b"from".as_slice()
-                && *b == b"until".as_slice()
-                && is_row(from)
-                && is_row(until) => {
-            Some(Record {
-                from: *from,
-                until: *until,
-                solutions: counts_of(rest)?,
-            })
-        }
-        _ => None,
-    }
-}
-
-/// The words of a line, which single spaces part.
-fn words_of(alloc: Global, line: &[u8]) -> Result<Vec<&[u8]>, AllocError>
-    ensures { IfOk result (λ words. map (λ w. w.now) words.items ≡ words_in line.now) }
-{
-    line.split(|b| *b == b' ').collect(alloc)
-}
-
 /// Takes a word in place of the one before.
 pub(crate) fn put_word(store: &mut Vec<u8>, word: &[u8]) -> Result<(), AllocError>
     ensures { OnOk result (store.new.items ≡ word.now) }
@@ -243,13 +115,34 @@ impl Joint {
         met.push(b'-')?;
         Ok(Joint {
             listed,
+            digest: Vec::new(alloc),
             met,
             finished: false,
             found: None,
+            rising: Rising {
+                row: Vec::new(alloc),
+                tied: None,
+            },
             total: 0,
             full: false,
             next: Vec::new(alloc),
+            until: Vec::new(alloc),
         })
+    }
+
+    /// A text is of this problem, as are all others.
+    fn keep_problem(&mut self, digest: &[u8]) -> Result<(), Refusal>
+        ensures listed { self.new.listed ≡ self.old.listed }
+        ensures keeps { KeepsProblem (join_of self.old) digest.now result (join_of self.new) }
+    {
+        if self.digest.is_empty() {
+            put_word(&mut self.digest, digest)?;
+            return Ok(());
+        }
+        if digest == self.digest.as_slice() {
+            return Ok(());
+        }
+        Err(Refusal::Other)
     }
 
     /// A text begins at this row.
@@ -283,10 +176,12 @@ impl Joint {
         ensures step { TakesLine (by_heading (join_of self.old) (words_in line.now)) line.now result self.new }
     {
         let words = words_of(alloc, line)?;
-        let Some(row) = heading_of(&words) else {
+        let Some(heading) = heading_of(&words) else {
             return Err(Refusal::NotText);
         };
-        self.meet(row)?;
+        self.keep_problem(heading.digest)?;
+        self.meet(heading.row)?;
+        put_numbers(alloc, &mut self.rising.row, heading.row)?;
         self.found = Some(0);
         Ok(Act::Nothing)
     }
@@ -300,11 +195,22 @@ impl Joint {
         let Some(record) = record_of(&words) else {
             return Err(Refusal::NotText);
         };
+        put_numbers(alloc, &mut self.rising.row, record.from)?;
+        put_numbers(alloc, &mut self.until, record.until)?;
+        if !self.rising.ends_before(0, &self.until) {
+            return Err(Refusal::NotText);
+        }
+        self.keep_problem(record.digest)?;
         self.meet(record.from)?;
-        self.total = self
-            .total
-            .saturating_add(saturating_number(record.solutions));
+        self.total = self.total.saturating_add(record.solutions);
         self.end(record.until)
+    }
+
+    /// Whether the last one of so many solutions is whole, and its row rises.
+    fn ends_well(&self, found: u64) -> bool
+        ensures { result ≡ ends_well (join_of self.now) found }
+    {
+        found == 0 || self.rising.has_risen(found == 1)
     }
 
     /// Takes the record of a listing with so many solutions.
@@ -316,12 +222,30 @@ impl Joint {
         let Some(record) = record_of(&words) else {
             return Err(Refusal::NotText);
         };
+        put_numbers(alloc, &mut self.until, record.until)?;
         if record.from == self.met.as_slice()
-            && record.solutions == Buffer::new().format(found).as_bytes()
+            && record.digest == self.digest.as_slice()
+            && record.solutions == found
+            && self.ends_well(found)
+            && self.rising.ends_before(found, &self.until)
         {
             return self.end(record.until);
         }
         Err(Refusal::NotText)
+    }
+
+    /// Takes a choice line.
+    fn take_choice(&mut self, line: &[u8]) -> Result<Act, Refusal>
+        ensures listed { self.new.listed ≡ self.old.listed }
+        ensures step { TakesLine (by_choice (join_of self.old) line.now) line.now result self.new }
+    {
+        let Some(k) = branch_number(line) else {
+            return Err(Refusal::NotText);
+        };
+        if !self.rising.push(k)? {
+            return Err(Refusal::NotText);
+        }
+        Ok(if self.full { Act::Nothing } else { Act::Copy })
     }
 
     /// Takes the header of a solution.
@@ -331,6 +255,7 @@ impl Joint {
             ≡ (goes (join_of self.new), act_text result line) }
     {
         self.found = Some(number);
+        self.rising.begin();
         if self.total == u64::MAX {
             self.full = true;
             return Act::Nothing;
@@ -345,12 +270,12 @@ impl Joint {
         ensures step { TakesLine (inside (join_of self.old) found line.now) line.now result self.new }
     {
         if begins_with(line, b' ') && found > 0 {
-            return Ok(if self.full { Act::Nothing } else { Act::Copy });
+            return self.take_choice(line);
         }
         if begins_with(line, b'f') {
             return self.take_last(alloc, found, line);
         }
-        if found < u64::MAX && is_header(line, found + 1) {
+        if found < u64::MAX && is_header(line, found + 1) && self.ends_well(found) {
             return Ok(self.take_header(found + 1));
         }
         Err(Refusal::NotText)

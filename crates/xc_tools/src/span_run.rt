@@ -1,5 +1,6 @@
 //! A whole run over a span of a listing.
 ghost use Rattle.std.specs.Prelude.{◌≡◌, IfOk, IsTrue, OnErr, map, option_map, codes};
+ghost use Rattle.xc_input.specs.Named.{IsSound};
 ghost use Rattle.xc_list.specs.SpanWords.{asked_of};
 ghost use Rattle.xc_list.specs.Texts.{seen, WasTold};
 ghost use Rattle.xc_tools.specs.WholeRuns.{sinks};
@@ -33,6 +34,7 @@ fn search_problem<O: Sink, E: Sink>(
     out: &mut O,
     err: &mut E,
 ) -> u8
+    requires { IsSound problem.now }
     ensures did { DidSpan problem.now (asked_of words.now) result
         (sinks O.state E.state out.old err.old) (sinks O.state E.state out.new err.new) }
 {

@@ -3,6 +3,7 @@ ghost use Rattle.std.specs.Prelude.{◌≡◌, ◌⊎◌, ◌+◌, IfErr, IsTrue
 ghost use Rattle.std.specs.Io.KnownBytes.{Keeps};
 ghost use Rattle.xc_input.specs.Calls.{Rose};
 ghost use Rattle.xc_list.specs.Texts.{WasTold};
+ghost use Rattle.xc_tools.specs.inner.Flushes.{FlushFailed, WasFlushed};
 
 use xc_list::{Sink, write_all};
 
@@ -18,7 +19,7 @@ pub(crate) const FAILED: u8 = 3;
 pub(crate) const NO_MEMORY: u8 = 4;
 /// Some solution is not a cover.
 pub(crate) const NOT_ALL_COVERS: u8 = 5;
-/// The ends of spans don't meet.
+/// The ends of spans don't meet, or they are of more than one problem.
 pub(crate) const GAP: u8 = 5;
 
 /// Writes a line in place of the last one, as far as that goes, and returns its status.
@@ -70,12 +71,9 @@ pub(crate) fn flush_and_refuse<O: Sink, E: Sink>(
     out: &mut O,
     err: &mut E,
 ) -> u8
-    ensures kept { Keeps (O.state out.old).taken (O.state out.new).taken }
-    ensures flushed_once { (O.state out.new).flushes ≡ (O.state out.old).flushes + 1 }
-    ensures did { ((result ≡ status) × ((O.state out.new).failures ≡ (O.state out.old).failures)
-        × IsTrue (O.state out.new).settled
+    ensures { ((result ≡ status) × WasFlushed (O.state out.old) (O.state out.new)
         × WasTold (E.state err.old) (E.state err.new) text.now)
-        ⊎ ((result ≡ 3) × Rose (O.state out.old).failures (O.state out.new).failures × IsTrue (O.state out.new).failed
+        ⊎ ((result ≡ 3) × FlushFailed (O.state out.old) (O.state out.new)
         × WasTold (E.state err.old) (E.state err.new) (codes "Write failed.\n")) }
 {
     match flushed(out, err) {

@@ -21,7 +21,10 @@ use Rattle.xc_list.proofs.CheckLemmas.CutBodies.{before_three}
 use Rattle.xc_list.proofs.Digits.{some_digits}
 use Rattle.xc_input.proofs.Numerals.{are_digits-decimal, digits, digits_read, lacks-decimal}
 use Rattle.xc_list.specs.ListingLines.{words_in, before_last, header_number, is_word}
-use Rattle.xc_list.specs.ListingLines.{is_ending, body_of_words}
+use Rattle.xc_list.specs.ListingLines.{is_ending, body_of_words, branch_number, number_in_words}
+use Rattle.xc_list.specs.Settings.{long_number}
+use Rattle.xc_list.proofs.RowTexts.{number_read}
+use Rattle.std.specs.Prelude.{slice_get, ◌-◌}
 use Rattle.xc_list.specs.inner.ReadLines.{Header, Body, read}
 
 -- ---- headers
@@ -98,6 +101,26 @@ read-choice (w ∷ body) k n some plain h l =
     ∙ sym (before_three ((w ∷ body) ++ ending_words k n) (w ∷ body) (ending_words k n) (omega arith) refl refl
     (are_words ((w ∷ body) ++ ending_words k n) all) (is_ending-words k n h l)) in
     grind (arith, common_steps, no_header, no_feed-spaced)
+
+get-seam : {X : Type 0} (xs : List X) (y : X) (ys : List X) → slice_get (xs ++ y ∷ ys) (length xs) ≡ Some y
+get-seam [] y ys = refl
+get-seam (x ∷ xs) y ys = get-seam xs y ys
+
+-- the number of a choice line's branch
+pub number-choice : (body : List (List ℕ)) (k n : ℕ) → 1 ≤ length body → AllByRecursion IsPlain body → k < 10 ^ 10
+    → n < 10 ^ 10 → branch_number (spaced (body ++ ending_words k n)) ≡ Some k
+number-choice [] k n some plain h l = absurd (omega (arith, some))
+number-choice (w ∷ body) k n some plain h l =
+    let all : AllByRecursion IsPlain ((w ∷ body) ++ ending_words k n) = grind (arith, each-append, plain-ending) in
+    let words = words_in-spaced w (body ++ ending_words k n) all in
+    let is : body_of_words ((w ∷ body) ++ ending_words k n) ≡ Some (w ∷ body) =
+    sym (before_three ((w ∷ body) ++ ending_words k n) (w ∷ body) (ending_words k n) (omega arith) refl refl
+    (are_words ((w ∷ body) ++ ending_words k n) all) (is_ending-words k n h l)) in
+    let number : long_number (decimal k) ≡ Some k =
+    number_read k (omega (arith, h)) in
+    let place : length ((w ∷ body) ++ ending_words k n) - 3 ≡ length (w ∷ body) =
+    omega (arith, length-append (w ∷ body) (ending_words k n)) in
+    ap number_in_words words ∙ rw (is, place, get-seam (w ∷ body) (codes "(" ++ decimal k) _) number
 
 pub no_feed-header : (n : ℕ) → n < 2 ^ 64 → has 10 (decimal n ++ codes ":") ≡ false
 no_feed-header n h = grind (arith, common_steps, plain-append, decimal_nonempty, lacks-decimal)

@@ -1,6 +1,6 @@
 //! The lines of a listing.
 ghost use Rattle.std.specs.Prelude.{◌≡◌, ◌<◌, ◌++◌, ◌∷◌, [], None, false, nat_le, length, if◌then◌else◌, MatchOption};
-ghost use Rattle.std.specs.Prelude.{IfSome, option_map, codes};
+ghost use Rattle.std.specs.Prelude.{IfSome, option_map, codes, drop};
 ghost use Rattle.std.specs.Str.{bytes_eq};
 ghost use Rattle.std.specs.List.{list_all};
 ghost use Rattle.std.specs.Char.{is_ascii_digit};
@@ -10,6 +10,7 @@ ghost use Rattle.xc_input.specs.Tokens.{is_space};
 ghost use Rattle.xc_list.specs.Settings.{long_number};
 ghost use Rattle.xc_list.specs.ListingLines.{words_in, before_last, header_number, is_word};
 ghost use Rattle.xc_list.specs.ListingLines.{is_opening, is_closing, is_ending, body_of_words, body_of};
+ghost use Rattle.xc_list.specs.ListingLines.{number_in_words, branch_number};
 ghost use Rattle.xc_input.specs.Words.{are_digits};
 ghost use Rattle.xc_list.specs.inner.ReadLines.{read};
 ghost use Rattle.xc_list.specs.inner.Checking.{line_said};
@@ -197,6 +198,37 @@ fn body_of(line: &[u8]) -> Option<&[u8]>
 {
     match line {
         [b' ', text @ ..] => body_of_words(text),
+        _ => None,
+    }
+}
+
+/// The number in `(k`.
+fn opened_number(word: &[u8]) -> Option<u64>
+    ensures { result ≡ long_number (drop 1 word.now) }
+{
+    match word {
+        [_, digits @ ..] => long_number(digits),
+        [] => None,
+    }
+}
+
+/// The number of the branch in the words of a choice line.
+fn number_in_words(text: &[u8]) -> Option<u64>
+    ensures { result ≡ number_in_words (words_in text.now) }
+{
+    body_of_words(text)?;
+    let (front, _) = cut_last_word(text)?;
+    let (front, _) = cut_last_word(front)?;
+    let (_, first) = cut_last_word(front)?;
+    opened_number(first)
+}
+
+/// The number of a choice line's branch: k, where the line ends with `(k of n)`. None for what is no choice line.
+pub fn branch_number(line: &[u8]) -> Option<u64>
+    ensures { result ≡ branch_number line.now }
+{
+    match line {
+        [b' ', text @ ..] => number_in_words(text),
         _ => None,
     }
 }

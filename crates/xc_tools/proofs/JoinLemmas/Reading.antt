@@ -9,11 +9,11 @@ use Rattle.xc_input.proofs.LineLemmas.TextLines.{lacks-append}
 use Rattle.xc_list.specs.Texts.{SinkState, Took, BrokeOff}
 use Rattle.xc_list.proofs.Writing.{then_broke, then_took, took_nothing}
 use Rattle.xc_tools.specs.declared.joining.Stop.{Stop}
-use Rattle.xc_tools.specs.declared.joining.Stop.TheVariants.{NotText, Gap, Device, Memory, WriteFailed}
+use Rattle.xc_tools.specs.declared.joining.Stop.TheVariants.{NotText, Other, Gap, Device, Memory, WriteFailed}
 use Rattle.xc_tools.specs.declared.span_lines.Joint.{Joint}
 use Rattle.xc_tools.specs.declared.span_lines.Refusal.{Refusal}
 use Rattle.xc_tools.specs.declared.span_lines.Refusal.TheVariants as refusals
-use Rattle.xc_tools.specs.inner.SpanLines.{Join, Stand, goes, faulty, apart, by_line, start, step}
+use Rattle.xc_tools.specs.inner.SpanLines.{Join, Stand, goes, faulty, mixed, apart, by_line, start, step}
 use Rattle.xc_tools.specs.inner.SpanLines.{RefusesLine}
 use Rattle.xc_tools.specs.inner.Joining.{Adds, EndsAt, StopsIn, StopsReading, stand_reached, says_of, stop_of}
 use Rattle.xc_input.specs.Pieces.{SourceState, Gave}
@@ -63,6 +63,14 @@ module _ (listed : Bool) (ls : List (List ℕ)) (line : List ℕ) (s : Join) (e 
     last = stands-more listed ls line s e ∙ ap (λ r. r.0) is;
     adds = adds-more listed ls line s e Took x x (apart new.met.items new.next.items) [] is (took_nothing x);
   }
+  refused refusals.Other is = record {
+    lines = ls ++ line ∷ [];
+    rest = [];
+    front = grind (arith, ended-append, append-nil, ended);
+    whole = whole-more ls line w f;
+    last = stands-more listed ls line s e ∙ ap (λ r. r.0) is;
+    adds = adds-more listed ls line s e Took x x mixed [] is (took_nothing x);
+  }
   refused refusals.Memory is = stops-before listed ls (line ++ 10 ∷ []) _ new x w refl
 
   pub unwritten : (y : SinkState) (st : Stand) (text : List ℕ) → by_line s line ≡ (st, text) → BrokeOff x y text
@@ -89,6 +97,7 @@ adds-then listed a b c x y z p q = grind (arith, append_assoc, then_took)
 says-then : (e : Stop) (x y z : SinkState) (s t : List ℕ) → Took x y s → says_of e y z t → says_of e x z (s ++ t)
 says-then NotText x y z s t p q = then_took p q
 says-then Gap x y z s t p q = then_took p q
+says-then Other x y z s t p q = then_took p q
 says-then Device x y z s t p q = then_took p q
 says-then Memory x y z s t p q = then_took p q
 says-then WriteFailed x y z s t p q = then_broke p q
@@ -121,12 +130,13 @@ module _ (carry line whole : List ℕ) (e : whole ≡ carry ++ (line ++ 10 ∷ [
 -- ---- why reading stopped
 
 pub stops-reading : (listed : Bool) (new : Joint) (a b : SourceState) (x y : SinkState) (bytes : List ℕ) (e : Stop)
-    → Gave a b bytes → StopsIn listed [] bytes new x y e → StopsReading listed new a b x y e
-stops-reading listed new a b x y bytes NotText g h = (bytes, g, h)
-stops-reading listed new a b x y bytes Gap g h = (bytes, g, h)
-stops-reading listed new a b x y bytes Device g h = absurd h.last
-stops-reading listed new a b x y bytes Memory g h = (bytes, g, h)
-stops-reading listed new a b x y bytes WriteFailed g h = (bytes, g, h)
+    → Gave a b bytes → StopsIn listed [] bytes new x y e → b.failures ≡ a.failures → StopsReading listed new a b x y e
+stops-reading listed new a b x y bytes NotText g h well = (bytes, g, h, well)
+stops-reading listed new a b x y bytes Gap g h well = (bytes, g, h, well)
+stops-reading listed new a b x y bytes Other g h well = (bytes, g, h, well)
+stops-reading listed new a b x y bytes Device g h well = absurd h.last
+stops-reading listed new a b x y bytes Memory g h well = (bytes, g, h, well)
+stops-reading listed new a b x y bytes WriteFailed g h well = (bytes, g, h, well)
 
 -- a line that was carried on or not is taken, and nothing is carried on
 pub fed-line : (old new : List (List ℕ)) (carry line left with_feed others : List ℕ) → new ≡ old ++ (carry ++ line) ∷ []

@@ -1,37 +1,30 @@
 -- What the lines of a span's text come to.
-use Rattle.std.proofs.lemmas.Grind.{common_steps}
-use Rattle.std.proofs.Common.{◌≡◌, ℕ, ◌+◌, ◌-◌, ◌^◌, ◌<◌, ◌≤◌, ◌⊎◌, inl, inr, Bool, true, false, List, []}
-use Rattle.std.proofs.Common.{◌∷◌}
-use Rattle.std.proofs.Common.{◌++◌, Option, None, Some, length, flat_map, refl, ap, ◌∙◌, arith, append_assoc}
-use Rattle.std.proofs.Common.{append-nil, map, min, nat_lt}
-use Rattle.std.specs.Prelude.{◌==◌, ◌&&◌, codes, decimal, if◌then◌else◌}
+use Rattle.std.proofs.Common.{◌≡◌, ℕ, ◌+◌, ◌^◌, ◌<◌, ◌≤◌, ◌⊎◌, inl, inr, Bool, true, false, List, [], ◌∷◌}
+use Rattle.std.proofs.Common.{◌++◌, Option, None, Some, length, flat_map, refl, sym, ap, ◌∙◌, arith, append_assoc}
+use Rattle.std.proofs.Common.{append-nil, map, min, nat_lt, subst}
+use Rattle.std.specs.Prelude.{◌==◌, ◌&&◌, ◌||◌, not, codes, decimal, if◌then◌else◌}
 use Rattle.std.specs.Char.{is_ascii_digit}
-use Rattle.std.specs.List.{enumerate_from, list_all}
+use Rattle.std.specs.List.{AllByRecursion, enumerate_from, list_all}
 use Rattle.std.specs.Str.{bytes_eq}
 use Rattle.std.proofs.lemmas.Bool.Decides.{nat_tests}
 use Rattle.std.proofs.lemmas.Fmt.{decimal_nonempty}
-use Rattle.std.proofs.lemmas.Fmt.{digits_value-decimal}
-use Rattle.std.specs.Prelude.{fold, ◌*◌}
-use Rattle.std.specs.Str.{byte}
-use Rattle.xc_input.proofs.TokenLemmas.DecimalValues.{value_from}
-use Rattle.xc_tools.specs.Joins.{SearchedSpan, members_of}
-use Rattle.xc_input.specs.Named.{Named}
-use Rattle.xc_search.specs.declared.choice.Choice.{Choice}
-use Rattle.xc_list.specs.SpanTexts.{most_counted}
-use Rattle.xc_list.specs.Output.{choice_text, member_text}
-use Rattle.xc_list.specs.ListingLines.{words_in}
-use Rattle.xc_list.specs.SpanTexts.{row_text}
-use Rattle.xc_list.proofs.OutputLemmas.OutputLines.{choice-ended, choice_line, header_line}
-use Rattle.xc_list.proofs.OutputLemmas.OutputLines.{member_lines, output_lines}
-use Rattle.xc_list.proofs.OutputLemmas.ReadLines.{before_last-last, ending_words, spaced}
-use Rattle.xc_tools.specs.inner.SpanLines.{Join, Stand, goes, apart, stand_after, begins_with, by_header}
-use Rattle.xc_tools.specs.inner.SpanLines.{by_line}
-use Rattle.xc_tools.specs.inner.SpanLines.{Told, by_heading, by_last, by_record, closed, heading_of, is_header, meets}
-use Rattle.xc_tools.specs.inner.SpanLines.{record_of, saturating_number, step, wrote}
-use Rattle.xc_input.proofs.Numerals.{digits, digits_read}
-use Rattle.xc_tools.proofs.JoinLemmas.SpanWords.{AreShort, AreShortIf, heading_line, heading-read}
-use Rattle.xc_tools.proofs.JoinLemmas.SpanWords.{record_line}
-use Rattle.xc_tools.proofs.JoinLemmas.SpanWords.{record-read, same}
+use Rattle.xc_input.proofs.Cases.{by_bool}
+use Rattle.xc_input.proofs.Numerals.{digits}
+use Rattle.xc_search.specs.Spans.{precedes}
+use Rattle.xc_list.specs.ListingLines.{branch_number, words_in}
+use Rattle.xc_list.specs.SpanTexts.{most_counted, row_text}
+use Rattle.xc_list.proofs.OutputLemmas.OutputLines.{header_line}
+use Rattle.xc_list.proofs.OutputLemmas.ReadLines.{before_last-last}
+use Rattle.xc_tools.specs.SpanShapes.{IsSolution, LieIn, Rise, ListedSolution, SpanText, TellsCount, solution_text}
+use Rattle.xc_tools.specs.inner.RisingRows.{Risen, risen_after, ends_before, has_risen}
+use Rattle.xc_tools.specs.inner.SpanLines.{Join, Stand, goes, faulty, by_choice, stand_after, begins_with, by_header}
+use Rattle.xc_tools.specs.inner.SpanLines.{begins_at, by_heading, by_last, by_line, by_record, closed}
+use Rattle.xc_tools.specs.inner.SpanLines.{is_header, is_last_record, is_same, meets, opened, recorded, step, wrote}
+use Rattle.xc_tools.specs.SpanShapes.{is_digest}
+use Rattle.xc_tools.specs.inner.SpanWords.{Headed, Told, heading_of, numbers_in, record_of}
+use Rattle.xc_tools.proofs.JoinLemmas.RisingRows.{IsAfter, pushed, pushed-first, rises}
+use Rattle.xc_tools.proofs.JoinLemmas.SpanWords.{AreShort, AreShortIf, heading_line, heading-read, numbers-row}
+use Rattle.xc_tools.proofs.JoinLemmas.SpanWords.{record_line, record-read, same}
 
 -- ---- runs over lines
 
@@ -59,13 +52,15 @@ runs-line s line new text e = grind (arith, append-nil, by_line)
 
 -- ---- lines of solutions
 
--- inside a listing that begins at this row, of which so many solutions were read, behind so many in all
-abbrev pub mid : List ℕ → ℕ → ℕ → Join
-mid row k n = record {
+-- inside a listing of a problem that begins at this row, of which so many solutions were read, behind so many in all
+abbrev pub mid : List ℕ → List ℕ → ℕ → ℕ → Risen → Join
+mid digest row k n r = record {
   listed = true;
+  digest = digest;
   met = row_text row;
   finished = false;
   found = Some k;
+  rising = r;
   total = min most_counted n;
   full = nat_lt most_counted n;
 }
@@ -77,25 +72,56 @@ shown n text = if nat_lt most_counted n then [] else text
 pub shown-append : (n : ℕ) (s t : List ℕ) → shown n s ++ shown n t ≡ shown n (s ++ t)
 shown-append n s t = grind (arith, nat_tests)
 
-choice-spaced : (ws : List (List ℕ)) (k n : ℕ) → begins_with 32 (spaced (ws ++ ending_words k n)) ≡ true
-choice-spaced [] k n = refl
-choice-spaced (w ∷ ws) k n = refl
-
 -- a text told in another way
 pub runs-is : {a b : Stand} {ls : List (List ℕ)} {s t : List ℕ} → Runs a ls b s → s ≡ t → Runs a ls b t
 runs-is p e = record { stands = p.stands; says = p.says ∙ e }
 
-module _ (a : Named) (row : List ℕ) where
-  run-choice : (k n : ℕ) → 0 < k → (c : Choice)
-      → Runs (goes (mid row k n)) (choice_line a c ∷ []) (goes (mid row k n)) (shown n (choice_text a c))
-  run-choice k n h c = grind (arith, common_steps, choice-spaced, runs-is, runs-line, goes, shown, choice-ended)
+choice-none : (b : ℕ) (line : List ℕ) → (b == 32) ≡ false → branch_number (b ∷ line) ≡ None
+choice-none b line other = rw other refl
 
-  run-choices : (k n : ℕ) → 0 < k → (m : List Choice)
-      → Runs (goes (mid row k n)) (map (choice_line a) m) (goes (mid row k n)) (shown n (flat_map (choice_text a) m))
-  run-choices k n h [] = grind (arith, runs-is, goes)
-  run-choices k n h (c ∷ m) =
-      runs-is (runs-append (run-choice k n h c) (run-choices k n h m))
-      (shown-append n (choice_text a c) (flat_map (choice_text a) m))
+pub choice-spaced : (line : List ℕ) (k : ℕ) → branch_number line ≡ Some k → begins_with 32 line ≡ true
+choice-spaced [] k e = absurd (cc e)
+choice-spaced (b ∷ line) k e =
+    by_bool (b == 32) (λ h. h) (λ other. absurd (cc (sym (choice-none b line other) ∙ e)))
+
+-- what a choice line does that was read
+pub choice-read-so : (s : Join) (line : List ℕ) (c : ℕ) (q : Risen) → branch_number line ≡ Some c
+    → risen_after s.rising c ≡ Some q
+    → by_choice s line ≡ (goes (record s { rising = q }), if s.full then [] else line ++ 10 ∷ [])
+choice-read-so s line c q e f =
+    ap (λ (o : Option Risen). elim o [
+      | None ↦ (faulty, [])
+      | Some r ↦ (goes (record s { rising = r }), if s.full then [] else line ++ 10 ∷ [])
+    ]) (ap (λ (o : Option ℕ). elim o [ None ↦ None | Some k ↦ risen_after s.rising k ]) e ∙ f)
+
+-- the whole lines of choices
+abbrev pub lines_text : List (List ℕ) → List ℕ
+lines_text lines = flat_map (λ line. line ++ codes "\n") lines
+
+module _ (digest row : List ℕ) (k n : ℕ) (some : 0 < k) where
+  choice-step : (line : List ℕ) (c : ℕ) (r q : Risen) → branch_number line ≡ Some c → risen_after r c ≡ Some q
+      → by_line (mid digest row k n r) line ≡ (goes (mid digest row k n q), shown n (line ++ codes "\n"))
+  choice-step line c r q e f =
+      let begins = choice-spaced line c e in
+      let more : nat_lt 0 k ≡ true = grind (arith, nat_tests) in
+      rw (begins, more) (choice-read-so (mid digest row k n r) line c q e f)
+
+  pub run-choices : (lines : List (List ℕ)) (ks : List ℕ) (r q : Risen) → map branch_number lines ≡ map Some ks
+      → pushed r ks ≡ Some q
+      → Runs (goes (mid digest row k n r)) lines (goes (mid digest row k n q)) (shown n (lines_text lines))
+  run-choices [] [] r q e f =
+      let is : r ≡ q = cc f in record { stands = ap (λ r. goes (mid digest row k n r)) is; says = none n }
+    where
+      none : (n : ℕ) → [] ≡ shown n []
+      none n = grind (arith, nat_tests)
+  run-choices [] (c ∷ ks) r q e f = absurd (cc e)
+  run-choices (line ∷ lines) [] r q e f = absurd (cc e)
+  run-choices (line ∷ lines) (c ∷ ks) r q e f =
+      let first : branch_number line ≡ Some c = cc e in
+      let others : map branch_number lines ≡ map Some ks = cc e in
+      let taken = pushed-first r q c ks f in
+      runs-is (runs-append (runs-line (mid digest row k n r) line _ _ (choice-step line c r taken.0 first taken.1))
+      (run-choices lines ks taken.0 q others taken.2)) (shown-append n (line ++ codes "\n") (lines_text lines))
 
 not_spaced : (ds rest : List ℕ) → list_all is_ascii_digit ds ≡ true → 0 < length ds
     → (begins_with 32 (ds ++ rest) ≡ false) × (begins_with 102 (ds ++ rest) ≡ false)
@@ -105,61 +131,144 @@ not_spaced (d ∷ ds) rest h l = grind (arith, nat_tests)
 header-yes : (k : ℕ) → k < 2 ^ 64 → is_header k (header_line k) ≡ true
 header-yes k h = grind (arith, before_last-last, same)
 
-by_header-mid : (row : List ℕ) (k n : ℕ) → by_header (mid row k n) (k + 1)
-    ≡ (goes (mid row (k + 1) (n + 1)), shown (n + 1) (decimal (n + 1) ++ codes ":\n"))
-by_header-mid row k n = elim (least n) [
-  | inl h ↦
-      let total : min most_counted n ≡ n = omega (arith, h) in
-      let next : min most_counted (n + 1) ≡ n + 1 = omega (arith, h) in
-      let other : (n == most_counted) ≡ false = grind (arith, nat_tests) in
-      let low : nat_lt most_counted n ≡ false = grind (arith, nat_tests) in
-      let still : nat_lt most_counted (n + 1) ≡ false = grind (arith, nat_tests) in
-      rw (total, next, other, low, still) refl
-  | inr h ↦
-      let total : min most_counted n ≡ most_counted = omega (arith, h) in
-      let next : min most_counted (n + 1) ≡ most_counted = omega (arith, h) in
-      let high : nat_lt most_counted (n + 1) ≡ true = grind (arith, nat_tests) in
-      rw (total, next, high) refl
-]
+-- the last one of so many solutions is whole, and its row rises
+abbrev pub well_at : Risen → ℕ → Bool
+well_at r k = k == 0 || has_risen r (k == 1)
+
+least : (n : ℕ) → (n < most_counted) ⊎ (most_counted ≤ n)
+least n = grind (arith, nat_tests)
+
+module _ (digest row : List ℕ) where
+  by_header-mid : (k n : ℕ) (r : Risen) → by_header (mid digest row k n r) (k + 1)
+      ≡ (
+        goes (mid digest row (k + 1) (n + 1) (record r { tied = Some 0 })),
+        shown (n + 1)
+            (decimal (n + 1) ++ codes ":\n"),
+      )
+  by_header-mid k n r = elim (least n) [
+    | inl h ↦
+        let total : min most_counted n ≡ n = omega (arith, h) in
+        let next : min most_counted (n + 1) ≡ n + 1 = omega (arith, h) in
+        let other : (n == most_counted) ≡ false = grind (arith, nat_tests) in
+        let low : nat_lt most_counted n ≡ false = grind (arith, nat_tests) in
+        let still : nat_lt most_counted (n + 1) ≡ false = grind (arith, nat_tests) in
+        rw (total, next, other, low, still) refl
+    | inr h ↦
+        let total : min most_counted n ≡ most_counted = omega (arith, h) in
+        let next : min most_counted (n + 1) ≡ most_counted = omega (arith, h) in
+        let high : nat_lt most_counted (n + 1) ≡ true = grind (arith, nat_tests) in
+        rw (total, next, high) refl
+  ]
+
+  header-step : (k n : ℕ) (r : Risen) → k < most_counted → well_at r k ≡ true
+      → by_line (mid digest row k n r) (header_line (k + 1)) ≡ by_header (mid digest row k n r) (k + 1)
+  header-step k n r h well =
+      let apart = not_spaced (decimal (k + 1)) (codes ":") (digits (k + 1) (omega (arith, h)))
+      (grind (arith, decimal_nonempty)) in
+      let few : nat_lt k most_counted ≡ true = grind (arith, nat_tests) in
+      rw (apart.0, apart.1, few, header-yes (k + 1) (omega (arith, h)), well) refl
+
+  run-header : (k n : ℕ) (r : Risen) → k < most_counted → well_at r k ≡ true
+      → Runs (goes (mid digest row k n r)) (header_line (k + 1) ∷ [])
+      (goes (mid digest row (k + 1) (n + 1) (record r { tied = Some 0 })))
+      (shown (n + 1) (decimal (n + 1) ++ codes ":\n"))
+  run-header k n r h well =
+      runs-line (mid digest row k n r) (header_line (k + 1)) _ _ (header-step k n r h well ∙ by_header-mid k n r)
+
+-- the lines of a numbered solution
+abbrev pub solution_lines : ℕ × ListedSolution → List (List ℕ)
+solution_lines ns = header_line ns.0 ∷ ns.1.lines
+
+-- these rows may follow a row, which is that of a solution or the one at which a span begins
+abbrev pub Follow : Bool → List ℕ → List (List ℕ) → List ℕ → Type 0
+Follow true = LieIn
+Follow false = Rise
+
+follow-first : (first : Bool) (last row until : List ℕ) (rows : List (List ℕ))
+    → Follow first last (row ∷ rows) until → IsAfter first last row × Rise row rows until
+follow-first true last row until rows h = h
+follow-first false last row until rows h = h
+
+pub follow-none : (k : ℕ) (last until : List ℕ) → Follow (k == 0) last [] until → ends_before last k until ≡ true
+follow-none k last [] h = refl
+follow-none k last (n ∷ until) h =
+    let some : (length (n ∷ until) == 0) ≡ false = grind (arith, nat_tests) in rw some (by-first (k == 0) h)
   where
-    least : (n : ℕ) → (n < most_counted) ⊎ (most_counted ≤ n)
-    least n = grind (arith, nat_tests)
+    by-first : (first : Bool) → Follow first last [] (n ∷ until)
+        → (if first then not (precedes (n ∷ until) last) else precedes last (n ∷ until)) ≡ true
+    by-first true h = ap not h
+    by-first false h = h
 
-module _ (a : Named) (row : List ℕ) where
-  run-header : (k n : ℕ) → k < most_counted → Runs (goes (mid row k n)) (header_line (k + 1) ∷ [])
-      (goes (mid row (k + 1) (n + 1))) (shown (n + 1) (decimal (n + 1) ++ codes ":\n"))
-  run-header k n h =
-      grind (arith, common_steps, not_spaced, digits, decimal_nonempty, runs-line, header-yes, by_header-mid row k n)
+-- the listing of solutions behind so many others
+abbrev pub told_from : ℕ → List ListedSolution → List ℕ
+told_from n [] = []
+told_from n (s ∷ ss) = shown (n + 1) (solution_text (n + 1, s)) ++ told_from (n + 1) ss
 
-  run-member : (k n : ℕ) → k < most_counted → (m : List Choice)
-      → Runs (goes (mid row k n)) (member_lines a (k + 1, m)) (goes (mid row (k + 1) (n + 1)))
-      (shown (n + 1) (member_text a (n + 1, m)))
-  run-member k n h m =
-      runs-is (runs-append (run-header k n h) (run-choices a row (k + 1) (n + 1) (omega arith) m))
-      (shown-append (n + 1) (decimal (n + 1) ++ codes ":\n") (flat_map (choice_text a) m))
+module _ (digest row : List ℕ) where
+  -- lines lead to so many solutions, the last of which ends well
+  pub record Lists (k n : ℕ) (r : Risen) (lines : List (List ℕ)) (i j : ℕ) (text : List ℕ) : Type 0 where
+    pub rising : Risen
+    pub run : Runs (goes (mid digest row k n r)) lines (goes (mid digest row i j rising)) text
+    pub well : well_at rising i ≡ true
 
--- the listing of members behind so many others
-abbrev pub listed_from : Named → ℕ → List (List Choice) → List ℕ
-listed_from a n [] = []
-listed_from a n (m ∷ ms) = shown (n + 1) (member_text a (n + 1, m)) ++ listed_from a (n + 1) ms
+  run-solution : (k n : ℕ) (r : Risen) (s : ListedSolution) → k < most_counted → well_at r k ≡ true → IsSolution s
+      → IsAfter (k == 0) r.row s.row
+      → (l : Lists k n r (solution_lines (k + 1, s)) (k + 1) (n + 1) (shown (n + 1) (solution_text (n + 1, s))))
+      × (l.rising.row ≡ s.row)
+  run-solution k n r s h well is behind =
+      let up = rises (k == 0) r.row s.row behind in
+      let none : (k + 1 == 0) ≡ false = grind (arith, nat_tests) in
+      let one : (k + 1 == 1) ≡ (k == 0) = grind (arith, nat_tests) in
+      let ends : well_at up.0 (k + 1) ≡ true = rw (none, one) up.3 in
+      let run = runs-is (runs-append (run-header digest row k n r h well)
+      (run-choices digest row (k + 1) (n + 1) (omega arith) s.lines s.row _ up.0 is.choices up.1))
+      (shown-append (n + 1) (decimal (n + 1) ++ codes ":\n") (lines_text s.lines)) in
+      (record { rising = up.0; run = run; well = ends }, up.2)
 
-run-members : (a : Named) (row : List ℕ) (k n i j : ℕ) (ms : List (List Choice)) → k + length ms ≤ most_counted
-    → i ≡ k + length ms → j ≡ n + length ms
-    → Runs (goes (mid row k n)) (output_lines a (enumerate_from (k + 1) ms)) (goes (mid row i j)) (listed_from a n ms)
-run-members a row k n i j [] h e f = grind (arith)
-run-members a row k n i j (m ∷ ms) h e f =
-    runs-append (run-member a row k n (omega (arith, h)) m)
-    (run-members a row (k + 1) (n + 1) i j ms (omega (arith, h)) (omega (arith, e)) (omega (arith, f)))
+  pub run-solutions : (k n i j : ℕ) (r : Risen) (ss : List ListedSolution) (until : List ℕ)
+      → k + length ss ≤ most_counted
+      → i ≡ k + length ss → j ≡ n + length ss → well_at r k ≡ true → AllByRecursion IsSolution ss
+      → Follow (k == 0) r.row (map (λ s. s.row) ss) until
+      → (l : Lists k n r (flat_map solution_lines (enumerate_from (k + 1) ss)) i j (told_from n ss))
+      × (ends_before l.rising.row i until ≡ true)
+  run-solutions k n i j r [] until h e f well all follow =
+      let i_is : k ≡ i = omega (arith, e) in
+      let j_is : n ≡ j = omega (arith, f) in
+      let same : goes (mid digest row k n r) ≡ goes (mid digest row i j r) = cc (i_is, j_is) in (
+        record {
+          rising = r;
+          run = record { stands = same; says = refl };
+          well = rw (← i_is) well;
+        },
+        rw (← i_is) (follow-none k r.row until follow),
+      )
+  run-solutions k n i j r (s ∷ ss) until h e f well all follow =
+      let parts = follow-first (k == 0) r.row s.row until (map (λ s. s.row) ss) follow in
+      let one = run-solution k n r s (omega (arith, h)) well all.0 parts.0 in
+      let none : (k + 1 == 0) ≡ false = grind (arith, nat_tests) in
+      let next : Follow (k + 1 == 0) one.0.rising.row (map (λ s. s.row) ss) until =
+      rw (none, one.1) parts.1 in
+      let more = run-solutions (k + 1) (n + 1) i j one.0.rising ss until (omega (arith, h)) (omega (arith, e))
+      (omega (arith, f)) one.0.well all.1 next in (
+        record {
+          rising = more.0.rising;
+          run = runs-append one.0.run more.0.run;
+          well = more.0.well;
+        },
+        more.1,
+      )
 
 -- ---- spans
 
 -- between texts: the last one ended at this row, perhaps the end of the listing, behind so many solutions
-abbrev pub rest_at : Bool → Bool → List ℕ → ℕ → Join
-rest_at listed finished row n = record {
+abbrev pub rest_at : Bool → List ℕ → Bool → List ℕ → ℕ → Risen → Join
+rest_at listed digest finished row n r = record {
   listed = listed;
+  digest = digest;
   met = row_text row;
   finished = finished;
   found = None;
+  rising = r;
   total = min most_counted n;
   full = listed && nat_lt most_counted n;
 }
@@ -168,94 +277,161 @@ abbrev pub is_last : List ℕ → Bool
 is_last until = bytes_eq (row_text until) (codes "-")
 
 -- what a heading or a record does that was read
-pub heading-read-so : (s : Join) (words : List (List ℕ)) (row : List ℕ) → heading_of words ≡ Some row
-    → by_heading s words
-    ≡ (if meets s row then (goes (record s { found = Some 0 }), []) else (apart s.met row, []))
-heading-read-so s words row e = grind (arith, meets, goes, apart)
+pub heading-read-so : (s : Join) (words : List (List ℕ)) (h : Headed) → heading_of words ≡ Some h
+    → by_heading s words ≡ begins_at s h.digest h.row (goes (opened s h))
+heading-read-so s words h e =
+    ap (λ (o : Option Headed). elim o [
+      | None ↦ (faulty, [])
+      | Some h ↦ begins_at s h.digest h.row (goes (opened s h))
+    ]) e
 
-last-step : (s : Join) (k : ℕ) (words : List (List ℕ)) (t : Told) → record_of words ≡ Some t
-    → bytes_eq t.from s.met ≡ true → bytes_eq t.solutions (decimal k) ≡ true
-    → by_last s k words ≡ (goes (closed s t.until), [])
-last-step s k words t e m c = grind (arith, goes, closed)
+pub last-read-so : (s : Join) (k : ℕ) (words : List (List ℕ)) (t : Told) → record_of words ≡ Some t
+    → by_last s k words ≡ (if is_last_record s k t then (goes (closed s t.until), []) else (faulty, []))
+last-read-so s k words t e =
+    ap (λ (o : Option Told). elim o [
+      | None ↦ (faulty, [])
+      | Some t ↦ if is_last_record s k t then (goes (closed s t.until), []) else (faulty, [])
+    ]) e
 
 pub record-read-so : (s : Join) (words : List (List ℕ)) (t : Told) → record_of words ≡ Some t
-    → by_record s words
-    ≡ (if meets s t.from
-    then (goes (closed (record s { total = min most_counted (s.total + saturating_number t.solutions) }) t.until), [])
-    else (apart s.met t.from, []))
-record-read-so s words t e = grind (arith, meets, goes, closed, apart)
+    → by_record s words ≡ (if ends_before (numbers_in t.from) 0 (numbers_in t.until)
+    then begins_at s t.counts.digest t.from (goes (recorded s t)) else (faulty, []))
+record-read-so s words t e =
+    ap (λ (o : Option Told). elim o [
+      | None ↦ (faulty, [])
+      | Some t ↦
+          if ends_before (numbers_in t.from) 0 (numbers_in t.until)
+          then begins_at s t.counts.digest t.from (goes (recorded s t))
+          else (faulty, [])
+    ]) e
 
-record-step : (s : Join) (words : List (List ℕ)) (t : Told) → record_of words ≡ Some t → meets s t.from ≡ true
-    → by_record s words
-    ≡ (goes (closed (record s { total = min most_counted (s.total + saturating_number t.solutions) }) t.until), [])
-record-step s words t e m = record-read-so s words t e ∙ rw m refl
+-- a text of this problem may come after ones of that, or come first
+abbrev pub fits : List ℕ → List ℕ → Bool
+fits old digest = length old == 0 || bytes_eq digest old
 
-run-heading : (row : List ℕ) (n : ℕ) → AreShort row
-    → Runs (goes (rest_at true false row n)) (heading_line row ∷ []) (goes (mid row 0 n)) []
-run-heading row n short = grind (arith, runs-line, goes, heading-read, same, heading-read-so)
+begins-well : (s : Join) (digest row : List ℕ) (next : Stand) → is_same s digest ≡ true → meets s row ≡ true
+    → begins_at s digest row next ≡ (next, [])
+begins-well s digest row next same meet = rw (same, meet) refl
 
-sat-from : (bs : List ℕ) (v w : ℕ) → w ≡ min most_counted v
-    → fold (λ n b. min most_counted (min most_counted (n * 10) + (b - byte "0"))) w bs ≡ min most_counted
-    (value_from v bs)
-sat-from [] v w e = e
-sat-from (b ∷ bs) v w e =
-    sat-from bs (v * 10 + (b - 48)) (min most_counted (min most_counted (w * 10) + (b - 48))) (omega (arith, e))
+meets-rest : (listed : Bool) (digest row : List ℕ) (n : ℕ) (r : Risen)
+    → meets (rest_at listed digest false row n r) (row_text row) ≡ true
+meets-rest listed digest row n r = same (row_text row)
 
-saturated : (n : ℕ) → n < 2 ^ 64 → saturating_number (decimal n) ≡ min most_counted n
-saturated n h = sat-from (decimal n) 0 0 refl ∙ ap (min most_counted) (digits_value-decimal digits_read n h)
+-- the row that a text begins at, of which nothing was read yet
+abbrev pub begun_at : List ℕ → Risen → Risen
+begun_at row r = record r { row = row }
 
-module _ (row until : List ℕ) (branches : Option (List ℕ)) (k steps : ℕ) (f : AreShort row) (u : AreShort until)
-    (b : AreShortIf branches) (h : k < 2 ^ 64) (l : steps < 2 ^ 64) where
-  run-last : (n : ℕ) → Runs (goes (mid row k n)) (record_line row until branches k steps ∷ [])
-      (goes (rest_at true (is_last until) until n)) []
-  run-last n =
-      runs-line (mid row k n) (record_line row until branches k steps) (goes (rest_at true (is_last until) until n)) []
-      (last-step (mid row k n) k (words_in (record_line row until branches k steps)) _
-      (record-read row until branches k steps f u b h l) (same (row_text row))
-      (same (decimal k)))
+module _ (old digest row : List ℕ) (n : ℕ) (r : Risen) (short : AreShort row) (d : is_digest digest ≡ true)
+    (fit : fits old digest ≡ true) where
+  pub run-heading : Runs (goes (rest_at true old false row n r)) (heading_line row digest ∷ [])
+      (goes (mid digest row 0 n (begun_at row r))) []
+  run-heading =
+      let s = rest_at true old false row n r in
+      let h : Headed = record { row = row_text row; digest = digest } in
+      runs-line s (heading_line row digest) (goes (mid digest row 0 n (begun_at row r))) []
+      (heading-read-so s (words_in (heading_line row digest)) h (heading-read row digest short d)
+      ∙ begins-well s digest (row_text row) (goes (opened s h)) fit (meets-rest true old row n r)
+      ∙ ap (λ row'. (goes (mid digest row 0 n (begun_at row' r)), [])) (numbers-row row short))
 
-  run-record : (n j : ℕ) → j ≡ n + k → Runs (goes (rest_at false false row n))
-      (record_line row until branches k steps ∷ [])
-      (goes (rest_at false (is_last until) until j)) []
-  run-record n j e =
-      let total : min most_counted (min most_counted n + min most_counted k) ≡ min most_counted j = omega (arith, e) in
-      runs-line (rest_at false false row n) (record_line row until branches k steps) (goes (rest_at false
-      (is_last until)
-      until j)) []
-      (record-step (rest_at false false row n) (words_in (record_line row until branches k steps)) _
-      (record-read row until branches k steps f u b h l)
-      (same (row_text row)) ∙ rw (saturated k h, total) refl)
+module _ (digest row until : List ℕ) (branches : Option (List ℕ)) (k steps : ℕ) (f : AreShort row) (u : AreShort until)
+    (b : AreShortIf branches) (h : k < 2 ^ 64) (l : steps < 2 ^ 64) (d : is_digest digest ≡ true) where
+  told : Told
+  told = record { from = row_text row; until = row_text until; counts = record { solutions = k; digest = digest } }
+
+  run-last : (n : ℕ) (r : Risen) → well_at r k ≡ true → ends_before r.row k until ≡ true
+      → Runs (goes (mid digest row k n r)) (record_line row until branches k steps digest ∷ [])
+      (goes (rest_at true digest (is_last until) until n r)) []
+  unfolding told
+  run-last n r well ends =
+      let s = mid digest row k n r in
+      let line = record_line row until branches k steps digest in
+      let number : (k == k) ≡ true = grind (arith, nat_tests) in
+      let right : is_last_record s k told ≡ true =
+      rw (same (row_text row), same digest, number, well, numbers-row until u) ends in
+      runs-line s line (goes (rest_at true digest (is_last until) until n r)) []
+      (last-read-so s k (words_in line) told (record-read row until branches k steps digest f u b h l d)
+      ∙ ap (λ (x : Bool). if x then (goes (closed s (row_text until)), []) else (faulty, [])) right)
+
+  run-record : (old : List ℕ) (n j : ℕ) (r : Risen) → fits old digest ≡ true → ends_before row 0 until ≡ true
+      → j ≡ n + k
+      → Runs (goes (rest_at false old false row n r)) (record_line row until branches k steps digest ∷ [])
+      (goes (rest_at false digest (is_last until) until j (begun_at row r))) []
+  unfolding told
+  run-record old n j r fit ends e =
+      let s = rest_at false old false row n r in
+      let line = record_line row until branches k steps digest in
+      let total : min most_counted (min most_counted n + k) ≡ min most_counted j = omega (arith, e) in
+      let right : ends_before (numbers_in (row_text row)) 0 (numbers_in (row_text until)) ≡ true =
+      rw (numbers-row row f, numbers-row until u) ends in
+      runs-line s line (goes (rest_at false digest (is_last until) until j (begun_at row r))) []
+      (record-read-so s (words_in line) told (record-read row until branches k steps digest f u b h l d)
+      ∙ ap (λ (x : Bool). if x then begins_at s digest (row_text row) (goes (recorded s told)) else (faulty, [])) right
+      ∙ begins-well s digest (row_text row) (goes (recorded s told)) fit (meets-rest false old row n r)
+      ∙ ap (λ row'. (
+        goes (record (rest_at false digest (is_last until) until j (begun_at row' r))
+            { total = min most_counted (min most_counted n + k) }),
+        [],
+      )) (numbers-row row f)
+      ∙ ap (λ t. (
+        goes (record (rest_at false digest (is_last until) until j
+            (begun_at row r)) { total = t }),
+        [],
+      )) total)
 
 -- the lines of a span's text
-abbrev pub listing_lines : Named → Bool → List ℕ → List (List Choice) → List (List ℕ)
-listing_lines a true row ms = heading_line row ∷ output_lines a (enumerate_from 1 ms)
-listing_lines a false row ms = []
+abbrev pub listing_lines : Bool → SpanText → List (List ℕ)
+listing_lines true t = heading_line t.span.from t.digest ∷ flat_map solution_lines (enumerate_from 1 t.found)
+listing_lines false t = []
 
-abbrev pub span_lines : Named → Bool → SearchedSpan → List (List ℕ)
-span_lines a listed s = listing_lines a listed s.from (members_of a s)
-    ++ record_line s.from s.until s.branches (length (members_of a s)) s.steps ∷ []
+abbrev pub last_line : SpanText → List ℕ
+last_line t = record_line t.span.from t.span.until t.span.branches t.count t.span.steps t.digest
 
--- what is listed of members behind so many others
-abbrev pub listed_part : Bool → Named → ℕ → List (List Choice) → List ℕ
-listed_part true a n ms = listed_from a n ms
-listed_part false a n ms = []
+abbrev pub shape_lines : Bool → SpanText → List (List ℕ)
+shape_lines listed t = listing_lines listed t ++ last_line t ∷ []
 
--- a span whose numbers are small
-pub record IsShort (a : Named) (s : SearchedSpan) : Type 0 where
-  pub from : AreShort s.from
-  pub until : AreShort s.until
-  pub branches : AreShortIf s.branches
-  pub steps : s.steps < 2 ^ 64
-  pub few : length (members_of a s) < 2 ^ 64
+-- what is listed of solutions behind so many others
+abbrev pub told_part : Bool → ℕ → List ListedSolution → List ℕ
+told_part true n ss = told_from n ss
+told_part false n ss = []
 
-pub run-span : (a : Named) (listed : Bool) (s : SearchedSpan) (n j : ℕ) → IsShort a s → j ≡ n + length (members_of a s)
-    → Runs (goes (rest_at listed false s.from n)) (span_lines a listed s)
-    (goes (rest_at listed (is_last s.until) s.until j)) (listed_part listed a n (members_of a s))
-run-span a true s n j h e =
-    let ms = members_of a s in
-    let k = length ms in
-    let last = run-last s.from s.until s.branches k s.steps h.from h.until h.branches h.few h.steps j in
-    let members = run-members a s.from 0 n k j ms (omega (arith, h.few)) (omega arith) e in
-    runs-is (runs-append (runs-append (run-heading s.from n h.from) members) last) (append-nil (listed_from a n ms))
-run-span a false s n j h e =
-    run-record s.from s.until s.branches (length (members_of a s)) s.steps h.from h.until h.branches h.few h.steps n j e
+-- a text's shape, told by recursion
+pub record IsShort (listed : Bool) (t : SpanText) : Type 0 where
+  pub each : AllByRecursion IsSolution t.found
+  pub rows : LieIn t.span.from (map (λ s. s.row) t.found) t.span.until
+  pub counted : TellsCount listed t
+  pub from : AreShort t.span.from
+  pub until : AreShort t.span.until
+  pub branches : AreShortIf t.span.branches
+  pub steps : t.span.steps < 2 ^ 64
+  pub few : t.count < 2 ^ 64
+  pub digest : is_digest t.digest ≡ true
+
+-- these lines lead from between texts to between texts
+pub record RunsOn (listed : Bool) (old : Join) (lines : List (List ℕ)) (digest until : List ℕ) (j : ℕ) (text : List ℕ)
+    : Type 0 where
+  pub rising : Risen
+  pub run : Runs (goes old) lines (goes (rest_at listed digest (is_last until) until j rising)) text
+
+pub run-shape : (listed : Bool) (t : SpanText) (old : List ℕ) (n j : ℕ) (r : Risen) → IsShort listed t
+    → fits old t.digest ≡ true → j ≡ n + t.count
+    → RunsOn listed (rest_at listed old false t.span.from n r) (shape_lines listed t) t.digest t.span.until j
+    (told_part listed n t.found)
+run-shape true t old n j r is fit e =
+    let count : t.count ≡ length t.found = sym is.counted in
+    let all = run-solutions t.digest t.span.from 0 n t.count j (begun_at t.span.from r) t.found t.span.until
+    (omega (arith, is.few, count)) (omega (arith, count)) (omega (arith, e, count)) refl is.each is.rows in
+    let last = run-last t.digest t.span.from t.span.until t.span.branches t.count t.span.steps is.from is.until
+    is.branches is.few is.steps is.digest j all.0.rising all.0.well all.1 in
+    record {
+      rising = all.0.rising;
+      run = runs-is (runs-append (runs-append (run-heading old t.digest t.span.from n r is.from is.digest fit)
+          all.0.run) last) (append-nil (told_from n t.found));
+    }
+run-shape false t old n j r is fit e =
+    let none : LieIn t.span.from [] t.span.until =
+    subst (λ ss. LieIn t.span.from (map (λ s. s.row) ss) t.span.until) is.counted is.rows in
+    record {
+      rising = begun_at t.span.from r;
+      run = run-record t.digest t.span.from t.span.until t.span.branches t.count t.span.steps is.from is.until
+          is.branches is.few is.steps is.digest old n j r fit (follow-none 0 t.span.from t.span.until none) e;
+    }

@@ -9,19 +9,42 @@ use Rattle.std.specs.List.{AllByRecursion, list_all, list_any, slice_split}
 use Rattle.std.specs.Str.{byte, bytes_eq}
 use Rattle.std.proofs.lemmas.Bool.Decides.{nat_tests}
 use Rattle.std.proofs.lemmas.Bool.{or_from}
-use Rattle.std.proofs.lemmas.Fmt.{decimal_injective, decimal_nonempty}
+use Rattle.std.proofs.lemmas.Fmt.{decimal_injective}
 use Rattle.std.proofs.lemmas.List.Folds.{list_any-append}
 use Rattle.std.proofs.lemmas.Slice.Eq.{bytes_eq-Decides}
 use Rattle.xc_input.proofs.Numerals.{digits, lacks-decimal}
 use Rattle.xc_input.proofs.WrittenTexts.Spaced.{split-front}
 use Rattle.xc_list.specs.ListingLines.{words_in}
 use Rattle.xc_list.specs.SpanTexts.{row_text, branches_text}
-use Rattle.xc_tools.specs.inner.SpanLines.{heading_of, is_number, is_row, record_of}
+use Rattle.xc_list.specs.SpanTexts.{most_counted}
+use Rattle.xc_input.proofs.Numerals.{digits_read}
+use Rattle.std.proofs.lemmas.Fmt.{digits_value-decimal}
+use Rattle.std.specs.Prelude.{fold, ◌*◌, ◌+◌, ◌-◌, min}
+use Rattle.xc_input.proofs.TokenLemmas.DecimalValues.{value_from}
+use Rattle.xc_input.proofs.TokenLemmas.Bytes.{not_false}
+use Rattle.xc_tools.specs.SpanShapes.{is_digest, is_hex}
+use Rattle.xc_tools.specs.inner.SpanWords.{heading_of, is_number, is_row, numbers_in, record_of}
+use Rattle.xc_tools.specs.inner.SpanWords.{saturating_number}
 
 -- ---- digits
 
+sat-from : (bs : List ℕ) (v w : ℕ) → w ≡ min most_counted v
+    → fold (λ n b. min most_counted (min most_counted (n * 10) + (b - byte "0"))) w bs ≡ min most_counted
+    (value_from v bs)
+sat-from [] v w e = e
+sat-from (b ∷ bs) v w e =
+    sat-from bs (v * 10 + (b - 48)) (min most_counted (min most_counted (w * 10) + (b - 48))) (omega (arith, e))
+
+pub saturated : (n : ℕ) → n < 2 ^ 64 → saturating_number (decimal n) ≡ n
+saturated n h =
+    let all = sat-from (decimal n) 0 0 refl ∙ ap (min most_counted) (digits_value-decimal digits_read n h) in
+    omega (arith, all, h)
+
+pub same : (w : List ℕ) → bytes_eq w w ≡ true
+same w = (bytes_eq-Decides w w).1 refl
+
 pub is_number-decimal : (n : ℕ) → n < 2 ^ 64 → is_number (decimal n) ≡ true
-is_number-decimal n h = grind (arith, nat_tests, decimal_nonempty n h, digits n h)
+is_number-decimal n h = ap (λ m. bytes_eq (decimal n) (decimal m)) (saturated n h) ∙ same (decimal n)
 
 -- ---- parts
 
@@ -89,82 +112,153 @@ blank-row row small = lacks-row is_blank apart-blank refl refl row small
 pub blank-decimal : (n : ℕ) → n < 2 ^ 64 → list_any is_blank (decimal n) ≡ false
 blank-decimal n h = lacks-decimal is_blank apart-blank n h
 
--- ---- headings and records
+-- ---- dashes
 
-abbrev pub same : (w : List ℕ) → bytes_eq w w ≡ true
-same w = (bytes_eq-Decides w w).1 refl
+pub dash_or_digits : (n : ℕ) (row : List ℕ) → n < 2 ^ 64 → AreShort row → row_text (n ∷ row) ≡ codes "-" → ⊥
+dash_or_digits n row h short e =
+    let parts : map decimal (n ∷ row) ≡ codes "-" ∷ [] = sym (numbers-more n row h short) ∙ ap
+    (slice_split is_point) e in
+    let first : decimal n ≡ codes "-" = cc parts in
+    absurd (cc (sym (digits n h) ∙ ap (list_all is_ascii_digit) first))
 
--- the lines of a heading and of a record
-abbrev pub heading_line : List ℕ → List ℕ
-heading_line row = codes "from " ++ row_text row
+pub not-dash : (n : ℕ) (row : List ℕ) → AreShort (n ∷ row) → bytes_eq (row_text (n ∷ row)) (codes "-") ≡ false
+not-dash n row short = not_false _ (λ q.
+    dash_or_digits n row short.0 short.1 ((bytes_eq-Decides (row_text (n ∷ row)) (codes "-")).0 q))
 
-abbrev pub record_line : List ℕ → List ℕ → Option (List ℕ) → ℕ → ℕ → List ℕ
-record_line from until branches n steps =
+all-saturated : (row : List ℕ) → AreShort row → map saturating_number (map decimal row) ≡ row
+all-saturated [] short = refl
+all-saturated (n ∷ row) short = cc (saturated n short.0, all-saturated row short.1)
+
+-- a row's numbers
+pub numbers-row : (row : List ℕ) → AreShort row → numbers_in (row_text row) ≡ row
+numbers-row [] short = refl
+numbers-row (n ∷ row) short =
+    rw (not-dash n row short, numbers-more n row short.0 short.1) (all-saturated (n ∷ row) short)
+
+-- ---- digests
+
+digest-lacks : (q : ℕ → Bool) → ((b : ℕ) → is_hex b ≡ true → q b ≡ false) → (d : List ℕ) → list_all is_hex d ≡ true
+    → list_any q d ≡ false
+digest-lacks q apart [] h = refl
+digest-lacks q apart (b ∷ d) h = grind (arith, nat_tests, apart b, digest-lacks q apart d)
+
+hex-blank : (b : ℕ) → is_hex b ≡ true → is_blank b ≡ false
+hex-blank b h = grind (arith, nat_tests)
+
+hex-feed : (b : ℕ) → is_hex b ≡ true → nat_eq b 10 ≡ false
+hex-feed b h = grind (arith, nat_tests)
+
+hexes : (d : List ℕ) → is_digest d ≡ true → list_all is_hex d ≡ true
+hexes d h = grind (arith, nat_tests)
+
+blank-digest : (d : List ℕ) → is_digest d ≡ true → list_any is_blank d ≡ false
+blank-digest d h = digest-lacks is_blank hex-blank d (hexes d h)
+
+feed-digest : (d : List ℕ) → is_digest d ≡ true → has 10 d ≡ false
+feed-digest d h = digest-lacks (λ b. nat_eq b 10) hex-feed d (hexes d h)
+
+-- ---- the lines of a heading and of a record
+
+abbrev pub heading_line : List ℕ → List ℕ → List ℕ
+heading_line row digest = codes "from " ++ (row_text row ++ (codes " problem " ++ digest))
+
+abbrev pub record_line : List ℕ → List ℕ → Option (List ℕ) → ℕ → ℕ → List ℕ → List ℕ
+record_line from until branches n steps digest =
     codes "from " ++ (row_text from ++ (codes " until " ++ (row_text until ++ (branches_text branches
-    ++ (codes " solutions " ++ (decimal n ++ (codes " steps " ++ decimal steps)))))))
+    ++ (codes " solutions " ++ (decimal n ++ (codes " steps " ++ (decimal steps ++ (codes " problem " ++ digest)))))))))
 
-pub heading-read : (row : List ℕ) → AreShort row → heading_of (words_in (heading_line row)) ≡ Some (row_text row)
-heading-read row short =
-    let words : words_in (heading_line row) ≡ codes "from" ∷ row_text row ∷ [] =
-    ap (λ ws. codes "from" ∷ ws) (word-last (row_text row) (blank-row row short)) in
-    rw (words, is_row-row row short) refl
+abbrev pub problem_words : List ℕ → List (List ℕ)
+problem_words digest = codes "problem" ∷ digest ∷ []
 
-abbrev counts_line : ℕ → ℕ → List ℕ
-counts_line n steps = codes "solutions " ++ (decimal n ++ (codes " steps " ++ decimal steps))
+words-problem : (digest : List ℕ) → is_digest digest ≡ true → words_in (codes "problem " ++ digest)
+    ≡ problem_words digest
+words-problem digest d = ap (λ ws. codes "problem" ∷ ws) (word-last digest (blank-digest digest d))
 
-abbrev counts_words : ℕ → ℕ → List (List ℕ)
-counts_words n steps = codes "solutions" ∷ decimal n ∷ codes "steps" ∷ decimal steps ∷ []
+pub heading-read : (row digest : List ℕ) → AreShort row → is_digest digest ≡ true
+    → heading_of (words_in (heading_line row digest)) ≡ Some (record { row = row_text row; digest = digest })
+heading-read row digest short d =
+    let words : words_in (heading_line row digest) ≡ codes "from" ∷ row_text row ∷ problem_words digest =
+    ap (λ ws. codes "from" ∷ ws) (word-then (row_text row) (codes "problem " ++ digest) (blank-row row short)
+    ∙ ap (λ ws. row_text row ∷ ws) (words-problem digest d)) in
+    rw (words, is_row-row row short, d) refl
 
-words-counts : (n steps : ℕ) → n < 2 ^ 64 → steps < 2 ^ 64 → words_in (counts_line n steps) ≡ counts_words n steps
-words-counts n steps h k =
-    ap (λ ws. codes "solutions" ∷ ws) (word-then (decimal n) (codes "steps " ++ decimal steps) (blank-decimal n h)
-    ∙ ap (λ ws. decimal n ∷ codes "steps" ∷ ws) (word-last (decimal steps) (blank-decimal steps k)))
+abbrev counts_line : ℕ → ℕ → List ℕ → List ℕ
+counts_line n steps digest =
+    codes "solutions " ++ (decimal n ++ (codes " steps " ++ (decimal steps ++ (codes " problem " ++ digest))))
+
+abbrev pub counts_words : List ℕ → List ℕ → List ℕ → List (List ℕ)
+counts_words n steps digest = codes "solutions" ∷ n ∷ codes "steps" ∷ steps ∷ problem_words digest
+
+words-counts : (n steps : ℕ) (digest : List ℕ) → n < 2 ^ 64 → steps < 2 ^ 64 → is_digest digest ≡ true
+    → words_in (counts_line n steps digest) ≡ counts_words (decimal n) (decimal steps) digest
+words-counts n steps digest h k d =
+    ap (λ ws. codes "solutions" ∷ ws) (word-then (decimal n) (codes "steps " ++ (decimal steps
+    ++ (codes " problem " ++ digest))) (blank-decimal n h)
+    ∙ ap (λ ws. decimal n ∷ codes "steps" ∷ ws) (word-then (decimal steps) (codes "problem " ++ digest)
+    (blank-decimal steps k)
+    ∙ ap (λ ws. decimal steps ∷ ws) (words-problem digest d)))
 
 -- the words from the end of a span on
-module _ (until : List ℕ) (n steps : ℕ) (u : AreShort until) (h : n < 2 ^ 64) (k : steps < 2 ^ 64) where
-  words-end : words_in (row_text until ++ 32 ∷ counts_line n steps) ≡ row_text until ∷ counts_words n steps
-  words-end = word-then (row_text until) (counts_line n steps) (blank-row until u)
-      ∙ ap (λ ws. row_text until ∷ ws) (words-counts n steps h k)
+module _ (until : List ℕ) (n steps : ℕ) (digest : List ℕ) (u : AreShort until) (h : n < 2 ^ 64) (k : steps < 2 ^ 64)
+    (d : is_digest digest ≡ true) where
+  words-end : words_in (row_text until ++ 32 ∷ counts_line n steps digest)
+      ≡ row_text until ∷ counts_words (decimal n) (decimal steps) digest
+  words-end = word-then (row_text until) (counts_line n steps digest) (blank-row until u)
+      ∙ ap (λ ws. row_text until ∷ ws) (words-counts n steps digest h k d)
 
   words-stop : (row : List ℕ) → AreShort row
-      → words_in (row_text until ++ (branches_text (Some row) ++ 32 ∷ counts_line n steps))
-      ≡ row_text until ∷ codes "of" ∷ row_text row ∷ counts_words n steps
+      → words_in (row_text until ++ (branches_text (Some row) ++ 32 ∷ counts_line n steps digest))
+      ≡ row_text until ∷ codes "of" ∷ row_text row ∷ counts_words (decimal n) (decimal steps) digest
   words-stop row r =
-      word-then (row_text until) (codes "of " ++ (row_text row ++ 32 ∷ counts_line n steps)) (blank-row until u)
-      ∙ ap (λ ws. row_text until ∷ codes "of" ∷ ws) (word-then (row_text row) (counts_line n steps) (blank-row row r)
-      ∙ ap (λ ws. row_text row ∷ ws) (words-counts n steps h k))
+      word-then (row_text until) (codes "of " ++ (row_text row ++ 32 ∷ counts_line n steps digest)) (blank-row until u)
+      ∙ ap (λ ws. row_text until ∷ codes "of" ∷ ws) (word-then (row_text row) (counts_line n steps digest)
+      (blank-row row r)
+      ∙ ap (λ ws. row_text row ∷ ws) (words-counts n steps digest h k d))
 
 abbrev pub AreShortIf : Option (List ℕ) → Type 0
 AreShortIf None = Unit {0}
 AreShortIf (Some row) = AreShort row
 
-pub record-read : (from until : List ℕ) (branches : Option (List ℕ)) (n steps : ℕ) → AreShort from → AreShort until
-    → AreShortIf branches → n < 2 ^ 64 → steps < 2 ^ 64
-    → record_of (words_in (record_line from until branches n steps))
-    ≡ Some (record { from = row_text from; until = row_text until; solutions = decimal n })
-record-read from until None n steps f u b h k =
-    let words : words_in (record_line from until None n steps)
-    ≡ codes "from" ∷ row_text from ∷ codes "until" ∷ row_text until ∷ counts_words n steps =
+pub record-read : (from until : List ℕ) (branches : Option (List ℕ)) (n steps : ℕ) (digest : List ℕ) → AreShort from
+    → AreShort until → AreShortIf branches → n < 2 ^ 64 → steps < 2 ^ 64 → is_digest digest ≡ true
+    → record_of (words_in (record_line from until branches n steps digest))
+    ≡ Some (record {
+      from = row_text from;
+      until = row_text until;
+      counts = record { solutions = n; digest = digest };
+    })
+record-read from until None n steps digest f u b h k d =
+    let words : words_in (record_line from until None n steps digest)
+    ≡ codes "from" ∷ row_text from ∷ codes "until" ∷ row_text until ∷ counts_words (decimal n) (decimal steps) digest =
     ap (λ ws. codes "from" ∷ ws) (word-then (row_text from) (codes "until "
-    ++ (row_text until ++ 32 ∷ counts_line n steps)) (blank-row from f)
-    ∙ ap (λ ws. row_text from ∷ codes "until" ∷ ws) (words-end until n steps u h k)) in
-    rw (words, is_row-row from f, is_row-row until u, is_number-decimal n h, is_number-decimal steps k) refl
-record-read from until (Some row) n steps f u b h k =
-    let words : words_in (record_line from until (Some row) n steps)
-    ≡ codes "from" ∷ row_text from ∷ codes "until" ∷ row_text until ∷ codes "of" ∷ row_text row ∷ counts_words n steps =
+    ++ (row_text until ++ 32 ∷ counts_line n steps digest)) (blank-row from f)
+    ∙ ap (λ ws. row_text from ∷ codes "until" ∷ ws) (words-end until n steps digest u h k d)) in
+    rw (
+      words,
+      is_row-row from f,
+      is_row-row until u,
+      is_number-decimal n h,
+      is_number-decimal steps k,
+      d,
+      saturated n h,
+    ) refl
+record-read from until (Some row) n steps digest f u b h k d =
+    let words : words_in (record_line from until (Some row) n steps digest)
+    ≡ codes "from" ∷ row_text from ∷ codes "until" ∷ row_text until ∷ codes "of" ∷ row_text row
+    ∷ counts_words (decimal n) (decimal steps) digest =
     ap (λ ws. codes "from" ∷ ws) (word-then (row_text from) (codes "until "
-    ++ (row_text until ++ (branches_text (Some row) ++ 32 ∷ counts_line n steps))) (blank-row from f)
-    ∙ ap (λ ws. row_text from ∷ codes "until" ∷ ws) (words-stop until n steps u h k row b)) in
+    ++ (row_text until ++ (branches_text (Some row) ++ 32 ∷ counts_line n steps digest))) (blank-row from f)
+    ∙ ap (λ ws. row_text from ∷ codes "until" ∷ ws) (words-stop until n steps digest u h k d row b)) in
     rw (
       words,
       is_row-row from f,
       is_row-row until u,
       is_row-row row b,
       is_number-decimal n h,
-      is_number-decimal steps
-          k,
-    )
-    refl
+      is_number-decimal steps k,
+      d,
+      saturated n h,
+    ) refl
 
 -- ---- no line feed
 
@@ -181,25 +275,21 @@ feed-branches : (branches : Option (List ℕ)) → AreShortIf branches → has 1
 feed-branches None b = refl
 feed-branches (Some row) b = feed-row row b
 
-pub feed-heading : (row : List ℕ) → AreShort row → has 10 (heading_line row) ≡ false
-feed-heading row short = feed-row row short
+pub feed-heading : (row digest : List ℕ) → AreShort row → is_digest digest ≡ true
+    → has 10 (heading_line row digest) ≡ false
+feed-heading row digest short d = lacks-append 10 (row_text row) _ (feed-row row short) (feed-digest digest d)
 
-pub feed-record : (from until : List ℕ) (branches : Option (List ℕ)) (n steps : ℕ) → AreShort from → AreShort until
-    → AreShortIf branches → n < 2 ^ 64 → steps < 2 ^ 64 → has 10 (record_line from until branches n steps) ≡ false
-feed-record from until branches n steps f u b h k =
+pub feed-record : (from until : List ℕ) (branches : Option (List ℕ)) (n steps : ℕ) (digest : List ℕ) → AreShort from
+    → AreShort until → AreShortIf branches → n < 2 ^ 64 → steps < 2 ^ 64 → is_digest digest ≡ true
+    → has 10 (record_line from until branches n steps digest) ≡ false
+feed-record from until branches n steps digest f u b h k d =
     lacks-append 10 (row_text from) _ (feed-row from f)
     (lacks-append 10 (row_text until) _ (feed-row until u)
     (lacks-append 10 (branches_text branches) _ (feed-branches branches b)
-    (lacks-append 10 (decimal n) _ (feed-decimal n h) (feed-decimal steps k))))
+    (lacks-append 10 (decimal n) _ (feed-decimal n h)
+    (lacks-append 10 (decimal steps) _ (feed-decimal steps k) (feed-digest digest d)))))
 
 -- ---- rows by their texts
-
-pub dash_or_digits : (n : ℕ) (row : List ℕ) → n < 2 ^ 64 → AreShort row → row_text (n ∷ row) ≡ codes "-" → ⊥
-dash_or_digits n row h short e =
-    let parts : map decimal (n ∷ row) ≡ codes "-" ∷ [] = sym (numbers-more n row h short) ∙ ap
-    (slice_split is_point) e in
-    let first : decimal n ≡ codes "-" = cc parts in
-    absurd (cc (sym (digits n h) ∙ ap (list_all is_ascii_digit) first))
 
 same-numbers : (a b : List ℕ) → AreShort a → AreShort b → map decimal a ≡ map decimal b → a ≡ b
 same-numbers [] [] p q e = refl

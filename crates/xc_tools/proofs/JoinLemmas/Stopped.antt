@@ -2,10 +2,9 @@
 use Rattle.std.proofs.Common.{arith}
 use Rattle.std.proofs.Common.{◌≡◌, ◌⊎◌, inl, inr, ℕ, ◌+◌, Bool, false, List, [], ◌++◌, Result}
 use Rattle.std.proofs.Common.{Ok, Err}
-use Rattle.std.proofs.Common.{refl, sym, ap, ◌∙◌, append_assoc, append-nil, subst, take}
-use Rattle.std.proofs.Common.{drop, take-append-drop}
+use Rattle.std.proofs.Common.{refl, sym, ap, ◌∙◌, append_assoc, append-nil, subst}
 use Rattle.std.specs.Prelude.{◌==◌, IsTrue, codes, if◌then◌else◌}
-use Rattle.std.specs.Io.KnownBytes.{Appends, Keeps}
+use Rattle.std.specs.Io.KnownBytes.{Keeps}
 use Rattle.xc_input.specs.Calls.{Rose, one_more}
 use Rattle.xc_input.specs.Named.{Named, IsSound}
 use Rattle.xc_input.specs.Pieces.{SourceState, Gave, GaveAll}
@@ -19,35 +18,65 @@ use Rattle.xc_list.specs.Texts.{SinkState, Took, BrokeOff, WasTold}
 use Rattle.xc_list.specs.declared.runs.End.{End}
 use Rattle.xc_list.specs.declared.runs.End.TheVariants.{Done, Limit}
 use Rattle.xc_list.proofs.TextLemmas.{appends_kept}
-use Rattle.xc_tools.specs.Joins.{AreTexts, DidJoin, DoMeet, HasBegun, IsBeginning, SearchedSpan}
+use Rattle.xc_tools.specs.Joins.{IsFirstGap, AreOfOneProblem, AreTexts, DidJoin, DoMeet, ForShapes, ForTexts}
+use Rattle.xc_tools.specs.Joins.{HasBegun, IsBeginning}
+use Rattle.xc_tools.specs.Joins.{OfInput, spans_in}
+use Rattle.xc_tools.proofs.JoinLemmas.ShapeChains.{shapes-apart, shapes-cut, shapes-mixed, shapes-not-faulty}
+use Rattle.xc_tools.proofs.JoinLemmas.ShapeChains.{shapes-open, shapes-unfinished}
+use Rattle.xc_list.specs.SearchedSpans.{SearchedSpan}
 use Rattle.xc_tools.specs.Joins.{joined}
-use Rattle.xc_tools.specs.WholeRuns.{Sinks}
+use Rattle.xc_tools.specs.WholeRuns.{Sinks, TookAll, FailedBehind}
 use Rattle.xc_tools.specs.declared.joining.Stop.{Stop}
-use Rattle.xc_tools.specs.declared.joining.Stop.TheVariants.{NotText, Gap, Device, Memory, WriteFailed}
+use Rattle.xc_tools.specs.declared.joining.Stop.TheVariants.{NotText, Other, Gap, Device, Memory, WriteFailed}
 use Rattle.xc_tools.specs.declared.span_lines.Joint.{Joint}
-use Rattle.xc_tools.specs.inner.SpanLines.{Join, goes, join_of}
+use Rattle.xc_tools.specs.SpanShapes.{AreShapes, SpanText}
+use Rattle.xc_tools.proofs.JoinLemmas.ReadTexts.{ReadAs, meet-read, one-read, read-lines, shapes-read, start-read}
+use Rattle.xc_tools.proofs.JoinLemmas.ReadTexts.{texts_read}
+use Rattle.xc_tools.specs.inner.SpanLines.{Join, goes, join_of, start}
 use Rattle.xc_tools.specs.inner.Joining.{EndsAt, IsLast, JoinsAll, StopsIn, StopsReading, ToldStop, stand_reached}
 use Rattle.xc_tools.specs.inner.Joining.{joined_text}
-use Rattle.xc_tools.specs.inner.Joining.{WriteFails}
+use Rattle.xc_tools.specs.inner.Joining.{says_of, NoWriteFailed, NothingFailed}
+use Rattle.xc_tools.specs.inner.Flushes.{FlushFailed, WasFlushed}
+use Rattle.xc_input.proofs.LineLemmas.Pieces.{gave_none}
+use Rattle.xc_list.proofs.Writing.{took_nothing}
+use Rattle.xc_tools.proofs.RunLemmas.{took_all}
 use Rattle.xc_tools.proofs.JoinLemmas.Chains.{all_lines}
-use Rattle.xc_tools.proofs.JoinLemmas.Ends.{begins, end_of-total, finished, first-lines, never-faulty, never-meets}
+use Rattle.xc_tools.proofs.JoinLemmas.Ends.{begins, end_of-total, finished, first-lines}
 use Rattle.xc_tools.proofs.JoinLemmas.Ends.{no-rest}
-use Rattle.xc_tools.proofs.JoinLemmas.Ends.{none-open, not-finished}
 
--- what is so of spans at such a stop
-abbrev pub so_at : Stop → List SearchedSpan → Type 0
-so_at NotText spans = ⊥
-so_at Gap spans = DoMeet [] spans → ⊥
-so_at Device spans = Unit {0}
-so_at Memory spans = Unit {0}
-so_at WriteFailed spans = Unit {0}
+-- what is so of texts at such a stop
+abbrev pub so_at : Joint → Stop → List SpanText → Type 0
+so_at new NotText texts = ⊥
+so_at new Other texts = AreOfOneProblem texts → ⊥
+so_at new Gap texts = IsFirstGap [] new.met.items new.next.items (spans_in texts)
+so_at new Device texts = Unit {0}
+so_at new Memory texts = Unit {0}
+so_at new WriteFailed texts = Unit {0}
 
-taken-beginning : (text whole : List ℕ) (n : ℕ) → IsBeginning text whole → IsBeginning (take n text) whole
-taken-beginning text whole n h = (
-  drop n text ++ h.0,
-  sym (append_assoc (take n text) (drop n text) h.0)
-      ∙ ap (λ t. t ++ h.0) (take-append-drop n text) ∙ h.1,
-)
+module _ (listed : Bool) (texts : List SpanText) (bytes : List ℕ) (are : AreShapes listed texts bytes)
+    (ls : List (List ℕ)) (rest : List ℕ) (w : AreWhole ls) (e : bytes ≡ ended ls ++ rest) where
+  last-so : (new : Joint) (stop : Stop) → IsLast listed ls new stop → so_at new stop texts
+  last-so new NotText h = shapes-not-faulty listed texts bytes are ls rest w e h
+  last-so new Other h = shapes-mixed listed texts bytes are ls rest w e h
+  last-so new Gap h = shapes-apart listed texts bytes are ls rest w e _ _ h
+  last-so new Device h = tt
+  last-so new Memory h = tt
+  last-so new WriteFailed h = tt
+
+  ends-so : has 10 rest ≡ false → (old new : Joint) → stand_reached listed ls ≡ goes (join_of old) → (stop : Stop)
+      → EndsAt rest old new (Err stop) → so_at new stop texts
+  ends-so free old new at NotText h =
+      h (shapes-cut listed texts bytes are ls rest w e free (join_of old) at)
+      (shapes-open listed texts bytes are ls rest w e free (join_of old) at)
+  ends-so free old new at Other h = absurd h
+  ends-so free old new at Gap h =
+      let met = ap (λ v. v.items) h.3 in
+      subst (λ m. IsFirstGap [] m new.next.items (spans_in texts)) (sym met)
+      (subst (λ n. IsFirstGap [] old.met.items n (spans_in texts)) (sym h.4)
+      (shapes-unfinished listed texts bytes are ls rest w e free (join_of old) at h.1))
+  ends-so free old new at Device h = tt
+  ends-so free old new at Memory h = tt
+  ends-so free old new at WriteFailed h = tt
 
 module _ (a : Named) (listed : Bool) (sound : IsSound a) (spans : List SearchedSpan) (text : List ℕ)
     (are : AreTexts a listed spans text) (ls : List (List ℕ)) (rest : List ℕ) (w : AreWhole ls)
@@ -57,13 +86,6 @@ module _ (a : Named) (listed : Bool) (sound : IsSound a) (spans : List SearchedS
 
   begins-so : IsBeginning (joined_text listed ls) (joined a listed)
   begins-so = begins a listed sound spans text are ls (lines_of rest) lines-first
-
-  last-so : (new : Joint) (stop : Stop) → IsLast listed ls new stop → so_at stop spans
-  last-so new NotText h = never-faulty a listed sound spans text are ls (lines_of rest) lines-first h
-  last-so new Gap h = never-meets a listed sound spans text are ls (lines_of rest) lines-first _ _ h
-  last-so new Device h = tt
-  last-so new Memory h = tt
-  last-so new WriteFailed h = tt
 
   module _ (free : has 10 rest ≡ false) (s : Join) (at : stand_reached listed ls ≡ goes s) where
     none-left : rest ≡ []
@@ -75,15 +97,6 @@ module _ (a : Named) (listed : Bool) (sound : IsSound a) (spans : List SearchedS
     written-all : joined_text listed (all_lines a listed spans) ≡ joined_text listed ls
     written-all = ap (joined_text listed) (lines-first ∙ ap (λ r. ls ++ lines_of r) none-left ∙ append-nil ls)
 
-    ends-so : (stop : Stop) (old new : Joint) → s ≡ join_of old → EndsAt rest old new (Err stop) → so_at stop spans
-    ends-so NotText old new is h =
-        h none-left (ap (λ (j : Join). j.found) (sym is) ∙ none-open a listed sound spans text are s all-read)
-    ends-so Gap old new is h =
-        not-finished a listed sound spans text are s all-read (ap (λ (j : Join). j.finished) is ∙ h.1)
-    ends-so Device old new is h = tt
-    ends-so Memory old new is h = tt
-    ends-so WriteFailed old new is h = tt
-
     joined-so : (old new : Joint) → s ≡ join_of old → EndsAt rest old new (Ok tt) → DoMeet [] spans
         × (joined_text listed ls ≡ joined a listed)
         × ((if new.total == most_counted then Limit new.total else Done new.total) ≡ end_of a most_counted)
@@ -94,86 +107,145 @@ module _ (a : Named) (listed : Bool) (sound : IsSound a) (spans : List SearchedS
 
 -- ---- a run that stopped
 
-module _ (listed : Bool) (new : Joint) (a b : SourceState) (x y z : SinkState) (kept : Keeps y.taken z.taken) where
-  in-lines : (e : Stop) (bytes : List ℕ) → Gave a b bytes → (h : StopsIn listed [] bytes new x y e)
-      → (text : List ℕ) → Appends x.taken y.taken text
-      → ((whole : List ℕ) → IsBeginning (joined_text listed h.lines) whole → IsBeginning text whole)
-      → HasBegun listed (so_at e) a b x z
-  in-lines e bytes g h text took begun = record {
-    text = text;
-    taken = appends_kept x.taken y.taken z.taken text took kept;
+-- the text that was being written, and what is known then
+record Reached (listed : Bool) (new : Joint) (e : Stop) (a b : SourceState) (x y : SinkState) : Type 0 where
+  pub text : List ℕ
+  pub said : says_of e x y text
+  pub of : OfInput (λ bytes. ForTexts listed (λ p _. IsBeginning text (joined p listed)) bytes
+      × ForShapes listed (so_at new e) bytes) a b
+
+module _ (listed : Bool) (new : Joint) (a b : SourceState) (x y : SinkState) where
+  in-lines : (e : Stop) (bytes : List ℕ) → Gave a b bytes → StopsIn listed [] bytes new x y e
+      → Reached listed new e a b x y
+  in-lines e bytes g h = record {
+    text = h.adds.text;
+    said = h.adds.said;
     of = (
       bytes,
       inr (
         g,
-        λ more p spans sound are.
+        λ more.
             let is = ap (λ t. t ++ more) h.front ∙ append_assoc (ended h.lines) h.rest more in (
-              begun (joined p listed) (begins-so p listed sound spans (bytes ++ more) are h.lines (h.rest
-                  ++ more) h.whole is),
-              last-so p listed sound spans (bytes ++ more) are h.lines (h.rest ++ more) h.whole is new e h.last,
+              λ p spans sound are. subst (λ t. IsBeginning t (joined p listed)) h.adds.more
+                  (begins-so p listed sound spans (bytes ++ more) are h.lines (h.rest ++ more) h.whole is),
+              λ texts are. last-so listed texts (bytes ++ more) are h.lines (h.rest ++ more) h.whole is new e h.last,
             ),
       ),
     );
   }
 
-  -- a text that was added to nothing is all
-  same-text : (e : Stop) (bytes : List ℕ) (h : StopsIn listed [] bytes new x y e) (whole : List ℕ)
-      → IsBeginning (joined_text listed h.lines) whole → IsBeginning h.adds.text whole
-  same-text e bytes h whole b = subst (λ t. IsBeginning t whole) h.adds.more b
-
-  pub stopped-reading : (e : Stop) → StopsReading listed new a b x y e → HasBegun listed (so_at e) a b x z
-  stopped-reading NotText (bytes, g, h) =
-      in-lines NotText bytes g h h.adds.text h.adds.said.whole (same-text NotText bytes h)
-  stopped-reading Gap (bytes, g, h) = in-lines Gap bytes g h h.adds.text h.adds.said.whole (same-text Gap bytes h)
-  stopped-reading Memory (bytes, g, h) =
-      in-lines Memory bytes g h h.adds.text h.adds.said.whole (same-text Memory bytes h)
-  stopped-reading WriteFailed (bytes, g, h) =
-      in-lines WriteFailed bytes g h (take h.adds.said.many h.adds.text) h.adds.said.begun
-      (λ whole q. taken-beginning h.adds.text whole h.adds.said.many (same-text WriteFailed bytes h whole q))
+  stopped-reading : (e : Stop) → StopsReading listed new a b x y e → Reached listed new e a b x y
+  stopped-reading NotText (bytes, g, h, same) = in-lines NotText bytes g h
+  stopped-reading Gap (bytes, g, h, same) = in-lines Gap bytes g h
+  stopped-reading Other (bytes, g, h, same) = in-lines Other bytes g h
+  stopped-reading Memory (bytes, g, h, same) = in-lines Memory bytes g h
+  stopped-reading WriteFailed (bytes, g, h, same) = in-lines WriteFailed bytes g h
   stopped-reading Device (ls, rest, g, w, took, rose) = record {
     text = joined_text listed ls;
-    taken = appends_kept x.taken y.taken z.taken (joined_text listed ls) took.whole kept;
+    said = took;
     of = (
       ended ls ++ rest,
       inr (
         g,
-        λ more p spans sound are.
-            (begins-so p listed sound spans _ are ls (rest ++ more) w (append_assoc (ended ls) rest more), tt),
-      ),
-    );
-  }
-
-  pub stopped-ending : (e : Stop) (ls : List (List ℕ)) (rest : List ℕ) (old : Joint) → GaveAll a b (ended ls ++ rest)
-      → AreWhole ls → has 10 rest ≡ false → stand_reached listed ls ≡ goes (join_of old) → EndsAt rest old new (Err e)
-      → Took x y (joined_text listed ls) → HasBegun listed (so_at e) a b x z
-  stopped-ending e ls rest old g w free at ends took = record {
-    text = joined_text listed ls;
-    taken = appends_kept x.taken y.taken z.taken (joined_text listed ls) took.whole kept;
-    of = (
-      ended ls ++ rest,
-      inl (
-        g,
-        λ p spans sound are. (
-          begins-so p listed sound spans _ are ls rest w refl,
-          ends-so p listed sound spans _ are ls rest w refl free (join_of old) at e old new refl ends,
+        λ more. (
+          λ p spans sound are.
+              begins-so p listed sound spans _ are ls (rest ++ more) w (append_assoc (ended ls) rest more),
+          λ texts are. tt,
         ),
       ),
     );
   }
 
-  pub stopped : (e : Stop) → JoinsAll listed new a b x y (Err e) → HasBegun listed (so_at e) a b x z
-  stopped e (inl h) = grind (arith, stopped-reading)
-  stopped e (inr h) = stopped-ending e h.0 h.1 h.2 h.3 h.4 h.5 h.6 h.7 h.8
+  stopped-ending : (e : Stop) (ls : List (List ℕ)) (rest : List ℕ) (old : Joint) → GaveAll a b (ended ls ++ rest)
+      → AreWhole ls → has 10 rest ≡ false → stand_reached listed ls ≡ goes (join_of old) → EndsAt rest old new (Err e)
+      → says_of e x y (joined_text listed ls) → Reached listed new e a b x y
+  stopped-ending e ls rest old g w free at ends said = record {
+    text = joined_text listed ls;
+    said = said;
+    of = (
+      ended ls ++ rest,
+      inl (
+        g,
+        (
+          λ p spans sound are. begins-so p listed sound spans _ are ls rest w refl,
+          λ texts are. ends-so listed texts _ are ls rest w refl free old new at e ends,
+        ),
+      ),
+    );
+  }
 
-pub begun-weaker : (listed : Bool) (says says' : List SearchedSpan → Type 0) (a b : SourceState) (x y : SinkState)
-    → ((spans : List SearchedSpan) → says spans → says' spans) → HasBegun listed says a b x y
-    → HasBegun listed says' a b x y
-begun-weaker listed says says' a b x y f h = record {
+  took-at-end : (e : Stop) (rest : List ℕ) (old : Joint) (text : List ℕ) → EndsAt rest old new (Err e) → Took x y text
+      → says_of e x y text
+  took-at-end NotText rest old text ends took = took
+  took-at-end Gap rest old text ends took = took
+  took-at-end Other rest old text ends took = absurd ends
+  took-at-end Memory rest old text ends took = took
+  took-at-end Device rest old text ends took = absurd ends
+  took-at-end WriteFailed rest old text ends took = absurd ends
+
+  reached : (e : Stop) → JoinsAll listed new a b x y (Err e) → Reached listed new e a b x y
+  reached e (inl h) = grind (arith, stopped-reading)
+  reached e (inr h) =
+      stopped-ending e h.0 h.1 h.2 h.3 h.4 h.5 h.6 h.7 (took-at-end e h.1 h.2 (joined_text listed h.0) h.7 h.8)
+
+  read-failed : JoinsAll listed new a b x y (Err Device) → Rose a.failures b.failures
+  read-failed (inl h) = grind (arith)
+  read-failed (inr h) = absurd h.7
+
+  well-reading : (e : Stop) → NothingFailed e → StopsReading listed new a b x y e → b.failures ≡ a.failures
+  well-reading NotText well h = h.3
+  well-reading Gap well h = h.3
+  well-reading Other well h = h.3
+  well-reading Memory well h = h.3
+  well-reading Device well h = absurd well
+  well-reading WriteFailed well h = absurd well
+
+  read-well : (e : Stop) → NothingFailed e → JoinsAll listed new a b x y (Err e) → b.failures ≡ a.failures
+  read-well e well (inl h) = grind (arith, well-reading)
+  read-well e well (inr h) = h.3.no_failure
+
+-- ---- the output behind a stop
+
+module _ {x y : SinkState} (z : SinkState) {text : List ℕ} where
+  flushed-all : Took x y text → WasFlushed y z → TookAll x z text
+  flushed-all took f = took_all z took f.kept f.flushed_once f.no_failure f.settled
+
+  failed-behind : Took x y text → FlushFailed y z → FailedBehind x z text
+  failed-behind took f = record {
+    failure = f.failure ∙ ap one_more took.no_failure;
+    last = f.last;
+    taken = appends_kept x.taken y.taken z.taken text took.whole f.kept;
+    flushed_once = f.flushed_once ∙ ap (λ n. n + 1) took.unflushed;
+  }
+
+took-unbroken : (e : Stop) (x y : SinkState) (text : List ℕ) → NoWriteFailed e → says_of e x y text → Took x y text
+took-unbroken NotText x y text h said = said
+took-unbroken Gap x y text h said = said
+took-unbroken Device x y text h said = said
+took-unbroken Other x y text h said = said
+took-unbroken Memory x y text h said = said
+took-unbroken WriteFailed x y text h said = absurd h
+
+unbroken-well : (e : Stop) → NothingFailed e → NoWriteFailed e
+unbroken-well NotText h = tt
+unbroken-well Gap h = tt
+unbroken-well Other h = tt
+unbroken-well Memory h = tt
+unbroken-well Device h = absurd h
+unbroken-well WriteFailed h = absurd h
+
+-- what was reached, told in another way
+begun-as : (listed : Bool) (new : Joint) (e : Stop) (says : List SpanText → Type 0) (written : List ℕ
+    → Type 0) (a b : SourceState)
+    (x y : SinkState) → ((texts : List SpanText) → so_at new e texts → says texts)
+    → ((text : List ℕ) → says_of e x y text → written text) → Reached listed new e a b x y
+    → HasBegun listed says a b written
+begun-as listed new e says written a b x y f g h = record {
   text = h.text;
-  taken = h.taken;
+  is_written = g h.text h.said;
   of = elim h.of.1 [
-    | inl q ↦ (h.of.0, inl (q.0, λ p spans sound are. let r = q.1 p spans sound are in (r.0, f spans r.1)))
-    | inr q ↦ (h.of.0, inr (q.0, λ more p spans sound are. let r = q.1 more p spans sound are in (r.0, f spans r.1)))
+    | inl q ↦ (h.of.0, inl (q.0, (q.1.0, λ texts are. f texts (q.1.1 texts are))))
+    | inr q ↦ (h.of.0, inr (q.0, λ more. let r = q.1 more in (r.0, λ texts are. f texts (r.1 texts are))))
   ];
 }
 
@@ -183,106 +255,120 @@ pub joins-as : {new : Joint} {a b : SourceState} {x y : SinkState} {p q : Bool} 
     → JoinsAll p new a b x y r → JoinsAll q new a b x y r
 joins-as {new = new} {a = a} {b = b} {x = x} {y = y} r is h = subst (λ p. JoinsAll p new a b x y r) is h
 
--- ---- what failed in a run that stopped
-
--- the output's failures up to a stop
-abbrev OutFailed : Stop → SinkState → SinkState → Type 0
-OutFailed WriteFailed x y = Rose x.failures y.failures
-OutFailed _ x y = y.failures ≡ x.failures
-
-module _ (listed : Bool) (new : Joint) (a b : SourceState) (x y : SinkState) where
-  out-in-reading : (e : Stop) → StopsReading listed new a b x y e → OutFailed e x y
-  out-in-reading NotText (bytes, g, h) = h.adds.said.no_failure
-  out-in-reading Gap (bytes, g, h) = h.adds.said.no_failure
-  out-in-reading Memory (bytes, g, h) = h.adds.said.no_failure
-  out-in-reading WriteFailed (bytes, g, h) = h.adds.said.failure
-  out-in-reading Device (ls, rest, g, w, took, rose) = took.no_failure
-
-  out-at-end : (e : Stop) (rest : List ℕ) (old : Joint) (text : List ℕ) → EndsAt rest old new (Err e) → Took x y text
-      → OutFailed e x y
-  out-at-end NotText rest old text ends took = took.no_failure
-  out-at-end Gap rest old text ends took = took.no_failure
-  out-at-end Memory rest old text ends took = took.no_failure
-  out-at-end Device rest old text ends took = took.no_failure
-  out-at-end WriteFailed rest old text ends took = absurd ends
-
-  out-failed : (e : Stop) → JoinsAll listed new a b x y (Err e) → OutFailed e x y
-  out-failed e (inl h) = grind (arith, out-in-reading)
-  out-failed e (inr h) = out-at-end e h.1 h.2 (joined_text listed h.0) h.7 h.8
-
-  all-failed : (e : Stop) (z : SinkState) → OutFailed e x y → WriteFails e y z → Rose x.failures z.failures
-  all-failed NotText z same rose = rose ∙ ap one_more same
-  all-failed Gap z same rose = rose ∙ ap one_more same
-  all-failed Memory z same rose = rose ∙ ap one_more same
-  all-failed Device z same rose = rose ∙ ap one_more same
-  all-failed WriteFailed z rose same = same ∙ rose
-
-  read-failed : (e : Stop) → e ≡ Device → JoinsAll listed new a b x y (Err e) → Rose a.failures b.failures
-  read-failed e at (inl h) = grind (arith)
-  read-failed e at (inr h) = absurd (subst (λ s. EndsAt h.1 h.2 new (Err s)) at h.7)
-
-any : (stop : Stop) (spans : List SearchedSpan) → so_at stop spans → Unit {0}
-any stop spans h = tt
-
 -- a run that stopped, by what was told
 pub run-stopped : {O E : Type 0} (listed : Bool) (new : Joint) (y : SinkState) (status : ℕ) (stop : Stop)
     (i j : SourceState) (from to : Sinks O E) (files : List (List ℕ))
-    → JoinsAll listed new i j from.out.state y (Err stop) → Keeps y.taken to.out.state.taken
-    → ToldStop files stop status y to.out.state from.err.state to.err.state → DidJoin listed files status i j from to
-run-stopped listed new y status stop i j from to files h kept (inl t) =
-    let begun = stopped listed new i j from.out.state y to.out.state kept stop h in
-    inr (inl (
+    → JoinsAll listed new i j from.out.state y (Err stop)
+    → ToldStop files new stop status y to.out.state from.err.state to.err.state
+    → DidJoin listed files status i j from to
+run-stopped listed new y status stop i j from to files h (inl t) =
+    let at = subst (λ e. JoinsAll listed new i j from.out.state y (Err e)) t.1 h in
+    let begun = begun-as listed new NotText (λ _. ⊥) (TookAll from.out.state to.out.state) i j from.out.state y
+    (λ _ q. q)
+    (λ text took. flushed-all to.out.state took t.2) (reached listed new i j from.out.state y NotText at) in
+    inr (inl (t.0, (read-well listed new i j from.out.state y NotText tt at, begun), t.3))
+run-stopped listed new y status stop i j from to files h (inr (inl t)) =
+    let at = subst (λ e. JoinsAll listed new i j from.out.state y (Err e)) t.1 h in
+    let begun = begun-as listed new Gap (λ texts. IsFirstGap [] new.met.items new.next.items (spans_in texts))
+    (TookAll from.out.state to.out.state) i j
+    from.out.state y (λ _ q. q) (λ text took. flushed-all to.out.state took t.2)
+    (reached listed new i j from.out.state y Gap at) in
+    inr (inr (inr (inr (inl (
       t.0,
-      begun-weaker listed (so_at stop) (λ _. ⊥) _ _ _ _
-          (λ spans q. subst (λ s. so_at s spans) t.1 q) begun,
-      t.2,
-    ))
-run-stopped listed new y status stop i j from to files h kept (inr (inl t)) =
-    let begun = stopped listed new i j from.out.state y to.out.state kept stop h in
-    inr (inr (inr (inr (
-      t.0,
-      begun-weaker listed (so_at stop) (λ spans. DoMeet [] spans → ⊥) _ _ _ _
-          (λ spans q. subst (λ s. so_at s spans) t.1 q) begun,
-      t.2,
-    ))))
-run-stopped listed new y status stop i j from to files h kept (inr (inr (inl t))) =
-    let begun = stopped listed new i j from.out.state y to.out.state kept stop h in
-    inr (inr (inr (inl (t.0, begun-weaker listed (so_at stop) (λ _. Unit {0}) _ _ _ _ (any stop) begun, t.1))))
-run-stopped listed new y status stop i j from to files h kept (inr (inr (inr (inl t)))) =
-    let begun = stopped listed new i j from.out.state y to.out.state kept stop h in
-    let rose = read-failed listed new i j from.out.state y stop t.1 h in
-    inr (inr (inl (
-      t.0,
-      begun-weaker listed (so_at stop) (λ _. Unit {0}) _ _ _ _ (any stop) begun,
-      inl (rose, t.2),
-    )))
-run-stopped listed new y status stop i j from to files h kept (inr (inr (inr (inr t)))) =
-    let begun = stopped listed new i j from.out.state y to.out.state kept stop h in
-    let out = out-failed listed new i j from.out.state y stop h in
-    let rose = all-failed listed new i j from.out.state y stop to.out.state out t.1 in
-    inr (inr (inl (
-      t.0,
-      begun-weaker listed (so_at stop) (λ _. Unit {0}) _ _ _ _ (any stop) begun,
-      inr (inl (rose, t.2)),
-    )))
+      new.met.items,
+      new.next.items,
+      (
+        read-well listed new i j from.out.state y Gap tt at,
+        begun,
+      ),
+      t.3,
+    )))))
+run-stopped listed new y status stop i j from to files h (inr (inr (inl t))) =
+    let at = subst (λ e. JoinsAll listed new i j from.out.state y (Err e)) t.1 h in
+    let begun = begun-as listed new Other (λ texts. AreOfOneProblem texts → ⊥)
+    (TookAll from.out.state to.out.state) i j from.out.state y (λ _ q. q)
+    (λ text took. flushed-all to.out.state took t.2) (reached listed new i j from.out.state y Other at) in
+    inr (inr (inr (inr (inr (t.0, (read-well listed new i j from.out.state y Other tt at, begun), t.3)))))
+run-stopped listed new y status stop i j from to files h (inr (inr (inr (inl t)))) =
+    let begun = begun-as listed new stop (λ _. Unit {0}) (TookAll from.out.state to.out.state) i j from.out.state y
+    (λ _ _. tt)
+    (λ text said. flushed-all to.out.state (took-unbroken stop from.out.state y text (unbroken-well stop t.1) said)
+    t.2) (reached listed new i j from.out.state y stop h) in
+    inr (inr (inr (inl (t.0, (read-well listed new i j from.out.state y stop t.1 h, begun), t.3))))
+run-stopped listed new y status stop i j from to files h (inr (inr (inr (inr (inl t))))) =
+    let at = subst (λ e. JoinsAll listed new i j from.out.state y (Err e)) t.1 h in
+    let begun = begun-as listed new Device (λ _. Unit {0}) (TookAll from.out.state to.out.state) i j from.out.state y
+    (λ _ q. q)
+    (λ text took. flushed-all to.out.state took t.2) (reached listed new i j from.out.state y Device at) in
+    inr (inr (inl (t.0, inl (read-failed listed new i j from.out.state y at, begun, t.3))))
+run-stopped listed new y status stop i j from to files h (inr (inr (inr (inr (inr (inl t)))))) =
+    let begun = begun-as listed new stop (λ _. Unit {0})
+    (λ text. BrokeOff from.out.state to.out.state text ⊎ FailedBehind from.out.state to.out.state text) i j
+    from.out.state y (λ _ _. tt)
+    (λ text said. inr (failed-behind to.out.state (took-unbroken stop from.out.state y text t.1 said) t.2))
+    (reached listed new i j from.out.state y stop h) in
+    inr (inr (inl (t.0, inr (inl (begun, t.3)))))
+run-stopped listed new y status stop i j from to files h (inr (inr (inr (inr (inr (inr t)))))) =
+    let at = subst (λ e. JoinsAll listed new i j from.out.state y (Err e)) t.1 h in
+    let begun = begun-as listed new WriteFailed (λ _. Unit {0})
+    (λ text. BrokeOff from.out.state to.out.state text ⊎ FailedBehind from.out.state to.out.state text) i j
+    from.out.state y (λ _ q. q)
+    (λ text broke. inl (subst (λ z. BrokeOff from.out.state z text) (sym t.2) broke))
+    (reached listed new i j from.out.state y WriteFailed at) in
+    inr (inr (inl (t.0, inr (inl (begun, t.3)))))
+
+-- a run that couldn't begin for want of memory
+pub run-unstarted : {O E : Type 0} (listed : Bool) (status : ℕ) (i : SourceState) (from to : Sinks O E)
+    (files : List (List ℕ)) → ((status ≡ 4) × WasFlushed from.out.state to.out.state
+    × WasTold from.err.state to.err.state (codes "Out of memory.\n"))
+    ⊎ ((status ≡ 3) × FlushFailed from.out.state to.out.state
+    × WasTold from.err.state to.err.state (codes "Write failed.\n"))
+    → DidJoin listed files status i i from to
+run-unstarted listed status i from to files (inl h) =
+    let of : OfInput (λ bytes. ForTexts listed (λ p _. IsBeginning [] (joined p listed)) bytes
+    × ForShapes listed (λ _. Unit {0}) bytes) i i =
+    ([], inr (gave_none i, λ more. (λ p spans sound are. (joined p listed, refl), λ texts are. tt))) in
+    let all = flushed-all to.out.state (took_nothing from.out.state) h.1 in
+    inr (inr (inr (inl (h.0, (refl, record { text = []; is_written = all; of = of }), h.2))))
+run-unstarted listed status i from to files (inr h) =
+    let of : OfInput (λ bytes. ForTexts listed (λ p _. IsBeginning [] (joined p listed)) bytes
+    × ForShapes listed (λ _. Unit {0}) bytes) i i =
+    ([], inr (gave_none i, λ more. (λ p spans sound are. (joined p listed, refl), λ texts are. tt))) in
+    let failed = failed-behind to.out.state (took_nothing from.out.state) h.1 in
+    inr (inr (inl (h.0, inr (inl (record { text = []; is_written = inr failed; of = of }, h.2)))))
 
 -- a run that came to the end of the input
-module _ {O E : Type 0} (listed : Bool) (status : ℕ) (i j : SourceState) (from to : Sinks O E) (files : List (List ℕ)) (y : SinkState)
+module _ {O E : Type 0} (listed : Bool) (status : ℕ) (i j : SourceState) (from to : Sinks O E) (files : List
+    (List ℕ)) (y : SinkState)
     (ls : List (List ℕ)) (rest : List ℕ) (old new : Joint) (g : GaveAll i j (ended ls ++ rest)) (w : AreWhole ls)
     (free : has 10 rest ≡ false) (at : stand_reached listed ls
     ≡ goes (join_of old)) (ends : EndsAt rest old new (Ok tt))
     (took : Took from.out.state y (joined_text listed ls)) (kept : Keeps y.taken to.out.state.taken)
     (flushed : to.out.state.flushes ≡ y.flushes + 1) (end : End)
     (is : end ≡ (if new.total == most_counted then Limit new.total else Done new.total)) where
-  all-kept : Appends from.out.state.taken to.out.state.taken (joined_text listed ls)
-  all-kept = appends_kept from.out.state.taken y.taken to.out.state.taken (joined_text listed ls) took.whole kept
-
-  begun-whole : HasBegun listed (λ _. Unit {0}) i j from.out.state to.out.state
-  begun-whole = record {
+  begun-whole : (written : List ℕ → Type 0) → written (joined_text listed ls)
+      → HasBegun listed (λ _. Unit {0}) i j written
+  begun-whole written wrote = record {
     text = joined_text listed ls;
-    taken = all-kept;
-    of = (ended ls ++ rest, inl (g, λ p spans sound are. (begins-so p listed sound spans _ are ls rest w refl, tt)));
+    is_written = wrote;
+    of = (
+      ended ls ++ rest,
+      inl (
+        g,
+        (
+          λ p spans sound are. begins-so p listed sound spans _ are ls rest w refl,
+          λ
+              texts are. tt,
+        ),
+      ),
+    );
   }
+
+  read-whole : ReadAs listed ls (join_of old)
+  read-whole = read-lines listed [] ls (start listed) (join_of old) (start-read listed) w at
+
+  all-fed : ended ls ≡ ended ls ++ rest
+  all-fed = sym (append-nil (ended ls)) ∙ ap (λ r. ended ls ++ r) (sym ends.0)
 
   whole-run : ((status ≡ 0) × (to.out.state.failures ≡ y.failures) × IsTrue to.out.state.settled
       × Took from.err.state to.err.state (summary_text end))
@@ -295,13 +381,13 @@ module _ {O E : Type 0} (listed : Bool) (status : ℕ) (i j : SourceState) (from
     record {
       bytes = ended ls ++ rest;
       gave = g;
+      texts = texts_read listed ls (join_of old) read-whole ends.2 ends.1;
+      shapes = subst (AreShapes listed (texts_read listed ls (join_of old) read-whole ends.2 ends.1)) all-fed
+          (shapes-read listed ls (join_of old) read-whole ends.2 ends.1);
+      meet = meet-read listed ls (join_of old) read-whole ends.2 ends.1;
+      one = one-read listed ls (join_of old) read-whole ends.2 ends.1;
       text = joined_text listed ls;
-      taken = record {
-        no_failure = h.1 ∙ took.no_failure;
-        whole = all-kept;
-        settled = h.2;
-        flushed_once = flushed ∙ ap (λ n. n + 1) took.unflushed;
-      };
+      taken = took_all to.out.state took kept flushed h.1 h.2;
       end = end;
       told = h.3;
       whole = λ p spans sound are.
@@ -309,9 +395,23 @@ module _ {O E : Type 0} (listed : Bool) (status : ℕ) (i j : SourceState) (from
           (so.0, so.1, is ∙ so.2);
     },
   )
-  whole-run (inr (inl h)) =
-      inr (inr (inl (h.0, begun-whole, inr (inl (h.1 ∙ ap one_more took.no_failure, h.3)))))
-  whole-run (inr (inr h)) = inr (inr (inl (h.0, begun-whole, inr (inr (end, h.3)))))
+  whole-run (inr (inl h)) = inr (inr (inl (
+    h.0,
+    inr (inl (
+      begun-whole (λ text. BrokeOff from.out.state to.out.state text ⊎ FailedBehind from.out.state to.out.state text)
+          (inr (failed-behind to.out.state took
+          (record { failure = h.1; kept = kept; last = h.2; flushed_once = flushed }))),
+      h.3,
+    )),
+  )))
+  whole-run (inr (inr h)) = inr (inr (inl (
+    h.0,
+    inr (inr (
+      g.no_failure,
+      begun-whole (TookAll from.out.state to.out.state) (took_all to.out.state took kept flushed h.1 h.2),
+      (end, h.3),
+    )),
+  )))
 
 pub run-ended : {O E : Type 0} (listed : Bool) (new : Joint) (y : SinkState) (status : ℕ)
     (i j : SourceState) (from to : Sinks O E) (files : List (List ℕ)) (end : End) (u : Unit {0})

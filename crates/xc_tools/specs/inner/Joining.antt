@@ -5,16 +5,17 @@ use Rattle.xc_input.specs.Words.{has}
 use Rattle.xc_input.specs.inner.EndedLines.{ended, AreWhole}
 use Rattle.xc_input.specs.Pieces.{SourceState, Gave, GaveAll}
 use Rattle.xc_list.specs.Texts.{SinkState, Took, BrokeOff, WasTold}
-use Rattle.xc_tools.specs.Joins.{gap_text, no_text, unread_text}
+use Rattle.xc_tools.specs.Joins.{ToldGap, ToldOther, no_text, unread_text}
 use Rattle.xc_tools.specs.ShownNames.{OfSource}
 use Rattle.std.specs.Prelude.{codes}
 use Rattle.xc_tools.specs.declared.joining.Lines.{Lines}
 use Rattle.xc_tools.specs.declared.joining.Stop.{Stop}
-use Rattle.xc_tools.specs.declared.joining.Stop.TheVariants.{NotText, Gap, Device, Memory, WriteFailed}
+use Rattle.xc_tools.specs.declared.joining.Stop.TheVariants.{NotText, Other, Gap, Device, Memory, WriteFailed}
 use Rattle.xc_tools.specs.declared.span_lines.Joint.{Joint}
 use Rattle.xc_tools.specs.declared.span_lines.Refusal.{Refusal}
 use Rattle.xc_tools.specs.declared.span_lines.Refusal.TheVariants as refusals
-use Rattle.xc_tools.specs.inner.SpanLines.{Stand, goes, faulty, apart, stand_after, join_of, start, wrote}
+use Rattle.xc_tools.specs.inner.Flushes.{FlushFailed, WasFlushed}
+use Rattle.xc_tools.specs.inner.SpanLines.{Stand, goes, faulty, mixed, apart, stand_after, join_of, start, wrote}
 
 -- the state after lines from the beginning on
 abbrev pub stand_reached : Bool → List (List ℕ) → Stand
@@ -43,6 +44,7 @@ pub record Adds (listed : Bool) (before lines : List (List ℕ)) (says : SinkSta
 -- why lines were the last ones
 abbrev pub IsLast : Bool → List (List ℕ) → Joint → Stop → Type 0
 IsLast listed lines new NotText = stand_reached listed lines ≡ faulty
+IsLast listed lines new Other = stand_reached listed lines ≡ mixed
 IsLast listed lines new Gap = stand_reached listed lines ≡ apart new.met.items new.next.items
 IsLast listed lines new Device = ⊥
 IsLast listed lines new Memory = Unit {0}
@@ -66,6 +68,7 @@ pub record StopsIn (listed : Bool) (before : List (List ℕ)) (bytes : List ℕ)
 -- why a line that was refused stops a run
 abbrev pub stop_of : Refusal → Stop
 stop_of refusals.NotText = NotText
+stop_of refusals.Other = Other
 stop_of refusals.Gap = Gap
 stop_of refusals.Memory = Memory
 
@@ -76,12 +79,14 @@ StopsReading listed new old_in new_in out_old out_new Device = (lines : List (Li
     × Rose old_in.failures new_in.failures
 StopsReading listed new old_in new_in out_old out_new e =
     (bytes : List ℕ) × Gave old_in new_in bytes × StopsIn listed [] bytes new out_old out_new e
+    × (new_in.failures ≡ old_in.failures)
 
 -- what is said where the input ended, after what is carried on
 abbrev pub EndsAt : List ℕ → Joint → Joint → Result (Unit {0}) Stop → Type 0
 EndsAt carry old new (Ok u) = (carry ≡ []) × (old.finished ≡ true) × (old.found ≡ None) × (new ≡ old)
 EndsAt carry old new (Err NotText) = (carry ≡ [] → old.found ≡ None → ⊥)
 EndsAt carry old new (Err Gap) = (carry ≡ []) × (old.finished ≡ false) × (old.found ≡ None)
+    × (new.met ≡ old.met) × (new.next.items ≡ codes "-")
 EndsAt carry old new (Err Memory) = Unit {0}
 EndsAt carry old new (Err e) = ⊥
 
@@ -94,17 +99,27 @@ JoinsAll listed new old_in new_in out_old out_new r =
     × AreWhole lines × (has 10 rest ≡ false) × (stand_reached listed lines ≡ goes (join_of old)) × EndsAt rest old new r
     × Took out_old out_new (joined_text listed lines))
 
--- how often the output failed after a stop, if that its write failed was reported
-abbrev pub WriteFails : Stop → SinkState → SinkState → Type 0
-WriteFails WriteFailed old new = new.failures ≡ old.failures
-WriteFails _ old new = Rose old.failures new.failures
+-- no write failed before the stop
+abbrev pub NoWriteFailed : Stop → Type 0
+NoWriteFailed WriteFailed = ⊥
+NoWriteFailed _ = Unit {0}
+
+-- nor a read
+abbrev pub NothingFailed : Stop → Type 0
+NothingFailed WriteFailed = ⊥
+NothingFailed Device = ⊥
+NothingFailed _ = Unit {0}
 
 -- the message of a run that stopped, by its status
-abbrev pub ToldStop : List (List ℕ) → Stop → ℕ → SinkState → SinkState → SinkState → SinkState → Type 0
-ToldStop files stop status out_old out_new old new = let told = WasTold old new in
-    ((status ≡ 2) × (stop ≡ NotText) × OfSource files (λ file. (line : ℕ) × told (no_text file line)))
-    ⊎ ((status ≡ 5) × (stop ≡ Gap)
-    × OfSource files (λ file. (line : ℕ) × (met : List ℕ) × (next : List ℕ) × told (gap_text file line met next)))
-    ⊎ ((status ≡ 4) × told (codes "Out of memory.\n"))
-    ⊎ ((status ≡ 3) × (stop ≡ Device) × OfSource files (λ file. told (unread_text file)))
-    ⊎ ((status ≡ 3) × WriteFails stop out_old out_new × told (codes "Write failed.\n"))
+abbrev pub ToldStop : List (List ℕ) → Joint → Stop → ℕ → SinkState → SinkState → SinkState → SinkState → Type 0
+ToldStop files joint stop status out_old out_new old new =
+    let told = WasTold old new in
+    let flushed = WasFlushed out_old out_new in
+    ((status ≡ 2) × (stop ≡ NotText) × flushed × OfSource files (λ file. (line : ℕ) × told (no_text file line)))
+    ⊎ ((status ≡ 5) × (stop ≡ Gap) × flushed × ToldGap files told joint.met.items joint.next.items)
+    ⊎ ((status ≡ 5) × (stop ≡ Other) × flushed × OfSource files (λ first. OfSource files (ToldOther told first)))
+    ⊎ ((status ≡ 4) × NothingFailed stop × flushed × told (codes "Out of memory.\n"))
+    ⊎ ((status ≡ 3) × (stop ≡ Device) × flushed
+    × (OfSource files (λ file. told (unread_text file)) ⊎ told (codes "Read failed.\n")))
+    ⊎ ((status ≡ 3) × NoWriteFailed stop × FlushFailed out_old out_new × told (codes "Write failed.\n"))
+    ⊎ ((status ≡ 3) × (stop ≡ WriteFailed) × (out_new ≡ out_old) × told (codes "Write failed.\n"))

@@ -17,7 +17,8 @@ returns-in_err-feed-clause-stops g c =
     (stops-from c.requires.none
     (stops-then c.args.lines.now.joint.listed c.args.lines.now.given.lines c.reading.lines.given.lines _ _ _ _ _ e
     i.adds
-    (stops-as i.listed c.in_err-feed.ensures.stops))))
+    (stops-as i.listed c.in_err-feed.ensures.stops)))
+    (c.in_ok-n.ensures.failures ∙ i.no_failure))
 
 pub reading-preserved : goal.reading-preserved
 reading-preserved g c =

@@ -2,7 +2,7 @@ use Rattle.std.proofs.Common.{rules}
 use Rattle.std.specs.Prelude.{◌==◌}
 use Rattle.std.proofs.lemmas.Iterator.Consumers.{map_from_collect}
 use Rattle.std.proofs.lemmas.Iterator.Splits.{YieldsList-from_slice_split}
-use Rattle.xc_tools.proofs.span_lines.words_of.Goals as goal
+use Rattle.xc_tools.proofs.span_words.words_of.Goals as goal
 
 pub returns : goal.returns
 returns c =
