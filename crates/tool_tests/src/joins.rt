@@ -37,8 +37,7 @@ fn joins(alloc: Global, words: &[&[u8]], text: &[u8], status: u8, out: &[u8], er
 }
 
 /// Three equal options in two spans; the search of the first stopped.
-const LISTED: &[u8] =
-    b"from - @\n1:\n A (1 of 3)\nfrom - until 2 of 3 solutions 1 steps 1 @\n\
+const LISTED: &[u8] = b"from - @\n1:\n A (1 of 3)\nfrom - until 2 of 3 solutions 1 steps 1 @\n\
     from 2 @\n1:\n A (2 of 3)\n2:\n A (3 of 3)\nfrom 2 until - solutions 2 steps 2 @\n";
 
 const COUNTED: &[u8] =

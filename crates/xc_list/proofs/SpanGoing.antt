@@ -41,19 +41,19 @@ pub called : (o n : InSpan) (many steps : ℕ) (w : Went) → WentOnBy many step
     → Called o.puzzle o.until o.row n.row o.shown n.shown many steps w
 called o n many steps w h = record {
   passed = subst (λ (s : InSpan). IfSome o.row (λ a. left_of o ≡ between o.puzzle a (reached s) ++ left_of s)) h.still
-      h.passed;
+      h.passes.passed;
   count = subst (λ (s : InSpan). IfSome o.row (λ a. length (between o.puzzle a (reached s)) ≡ w.members)) h.still
-      h.count;
-  later = h.later;
-  member = h.member;
-  end = λ is. (h.end is).0;
-  ran_out = λ is. ((h.ran_out is).2, (h.ran_out is).3);
-  within = h.within.0;
-  ended = λ is. ((h.ended is).0, (h.ended is).1);
-  fewer = h.fewer;
-  stays = h.stays;
+      h.passes.count;
+  later = h.comes.later;
+  member = h.halts.member;
+  end = λ is. (h.halts.end is).0;
+  ran_out = λ is. ((h.halts.ran_out is).2, (h.halts.ran_out is).3);
+  within = h.passes.within.0;
+  ended = λ is. ((h.halts.ended is).0, (h.halts.ended is).1);
+  fewer = h.halts.fewer;
+  stays = h.comes.stays;
   stands = λ is. subst (λ (s : InSpan). IsSomeAnd n.row (λ b. IfSome s.until (λ u. precedes u b ≡ false))) h.still
-      (h.stands is);
+      (h.comes.stands is);
 }
 
 -- what it passed is the front of what was left

@@ -19,12 +19,11 @@ mod option_index;
 mod rotation;
 mod seen_lines;
 
-pub use listing_lines::branch_number;
-
 use crate::checker::cover_counter::CoverCounter;
 use crate::checker::listing_lines::{ListingLine, cut_line, read_line};
 use crate::checker::option_index::OptionIndex;
 use crate::checker::seen_lines::SeenLines;
+pub use listing_lines::branch_number;
 use std::alloc::{AllocError, Global};
 use std::marker::Model;
 use thiserror::Error;

@@ -48,7 +48,7 @@ returns-in_default g c =
     let ahead = c.loop-members.invariant.ahead in
     record {
       still = grind arith;
-      node = c.go_on-went.ensures.node;
+      node = c.go_on-went.ensures.comes.node;
       wrote = (
         elim (halts c.go_on-went.result.halt c.in_default.not-Member) [
           | inl is ↦ to_end _ _ _ _ _ _ _ _ _ _ _ ahead went is
@@ -65,7 +65,7 @@ loop-members-preserved g c =
     let text = rw c.choices.ensures at c.in_ok-write_afresh-in-Member.ensures.written in
     record {
       still = grind arith;
-      node = at.go_on-went.ensures.node;
+      node = at.go_on-went.ensures.comes.node;
       ahead = (to_member _ _ _ _ _ _ _ _ _ _ _ c.loop-members.invariant.ahead (went g at)
           c.in-Member.is).1;
       taken = rw (texts_next (member_text c.args.bodies.now) ms c.loop-members.members (next g at c.in-Member.is))

@@ -142,164 +142,221 @@ overflow_sub-result-in-Steps-2 g c =
           (omega arith),
     )
 
+pub returns-then-self : goal.returns-then-self
+returns-then-self g c =
+    record {
+      still = search rules;
+      passes = record {
+        passed = search rules;
+        count = search rules;
+        within = search rules;
+        begun = search rules;
+        moves = search rules;
+      };
+      halts = record {
+        member = search rules;
+        end = search rules;
+        fewer = search rules;
+        ran_out = search rules;
+        ended = search rules;
+      };
+      comes = record {
+        node = search rules;
+        later = search rules;
+        stays = search rules;
+        stands = search rules;
+        before = search rules;
+      };
+    }
+
 pub returns-then-many-eq0 : goal.returns-then-many-eq0
 returns-then-many-eq0 g c =
     record {
       still = search rules;
-      passed = (told_same c.args.self.now _ _ _ _ _ _ _ _ c.self.view_is c.if-self.false).0;
-      count = (told_same c.args.self.now _ _ _ _ _ _ _ _ c.self.view_is c.if-self.false).1;
-      within = search rules;
-      begun = (0, omega arith, omega arith, λ _. refl);
-      moves = search rules;
-      member = search rules;
-      end = search rules;
-      fewer = search rules;
-      ran_out = search rules;
-      ended = search rules;
-      node = let s = c.self.inside in
-          rw (← c.self.view_is) (rw c.if-self.false (is_row s.state.position.puzzle s.state.position.trail
-          s.state.stack.levels s.unsearched (c.self.invariant.led c.if-self.false)
-          (c.self.invariant.solved c.if-self.false)));
-      later = search rules;
-      stays = search rules;
-      stands = λ _. let s = c.self.inside in
-          rw (← c.self.view_is)
-          (rw c.if-self.false (end_not_from (option_map (λ u. u.now) s.until) s.state.position.puzzle
-          s.state.stack.levels s.unsearched (c.self.invariant.before c.if-self.false)));
-      before = search rules;
+      passes = record {
+        passed = (told_same c.args.self.now _ _ _ _ _ _ _ _ c.self.view_is c.if-self.false).0;
+        count = (told_same c.args.self.now _ _ _ _ _ _ _ _ c.self.view_is c.if-self.false).1;
+        within = search rules;
+        begun = (0, omega arith, omega arith, λ _. refl);
+        moves = search rules;
+      };
+      halts = record {
+        member = search rules;
+        end = search rules;
+        fewer = search rules;
+        ran_out = search rules;
+        ended = search rules;
+      };
+      comes = record {
+        node = let s = c.self.inside in
+            rw (← c.self.view_is) (rw c.if-self.false (is_row s.state.position.puzzle s.state.position.trail
+            s.state.stack.levels s.unsearched (c.self.invariant.led c.if-self.false)
+            (c.self.invariant.solved c.if-self.false)));
+        later = search rules;
+        stays = search rules;
+        stands = λ _. let s = c.self.inside in
+            rw (← c.self.view_is)
+            (rw c.if-self.false (end_not_from (option_map (λ u. u.now) s.until) s.state.position.puzzle
+            s.state.stack.levels s.unsearched (c.self.invariant.before c.if-self.false)));
+        before = search rules;
+      };
     }
 
 pub returns-then-steps-eq0 : goal.returns-then-steps-eq0
 returns-then-steps-eq0 g c =
     record {
       still = search rules;
-      passed = told_still c.args.self.now _ _ _ _ _ _ _ _ c.self.view_is c.if-self.false [];
-      count = told_none c.args.self.now _ _ _ _ _ _ _ _ c.self.view_is c.if-self.false [];
-      within = search rules;
-      begun = (0, omega (arith, ap (λ (s : InSpan). s.begun) c.self.view_is), omega arith, λ _. refl);
-      moves = search rules;
-      member = search rules;
-      end = search rules;
-      fewer = search rules;
-      ran_out = search rules;
-      ended = search rules;
-      node = let s = c.self.inside in
-          rw c.if-self.false (is_row s.state.position.puzzle s.state.position.trail
-          s.state.stack.levels s.unsearched (c.self.invariant.led c.if-self.false)
-          (c.self.invariant.solved c.if-self.false));
-      later = search rules;
-      stays = search rules;
-      stands = λ _. let s = c.self.inside in
-          rw c.if-self.false
-          (end_not_from (option_map (λ u. u.now) s.until) s.state.position.puzzle s.state.stack.levels
-          s.unsearched (c.self.invariant.before c.if-self.false));
-      before = search rules;
+      passes = record {
+        passed = told_still c.args.self.now _ _ _ _ _ _ _ _ c.self.view_is c.if-self.false [];
+        count = told_none c.args.self.now _ _ _ _ _ _ _ _ c.self.view_is c.if-self.false [];
+        within = search rules;
+        begun = (0, omega (arith, ap (λ (s : InSpan). s.begun) c.self.view_is), omega arith, λ _. refl);
+        moves = search rules;
+      };
+      halts = record {
+        member = search rules;
+        end = search rules;
+        fewer = search rules;
+        ran_out = search rules;
+        ended = search rules;
+      };
+      comes = record {
+        node = let s = c.self.inside in
+            rw c.if-self.false (is_row s.state.position.puzzle s.state.position.trail
+            s.state.stack.levels s.unsearched (c.self.invariant.led c.if-self.false)
+            (c.self.invariant.solved c.if-self.false));
+        later = search rules;
+        stays = search rules;
+        stands = λ _. let s = c.self.inside in
+            rw c.if-self.false
+            (end_not_from (option_map (λ u. u.now) s.until) s.state.position.puzzle s.state.stack.levels
+            s.unsearched (c.self.invariant.before c.if-self.false));
+        before = search rules;
+      };
     }
 
 pub returns-in-Member : goal.returns-in-Member
 returns-in-Member g c =
     record {
       still = search rules;
-      passed = let r = (goal.at.returns-in-Member g c).After-go_over-ran in
-          told_passed c.args.self.now _ _ _ _ _ _ _ _ c.self.view_is c.if-self.false
-          c.go_over-ran.new.state.position.puzzle
-          _ c.args.many
-          c.show.new.shown.items (moved g r (inl c.in-Member.is)) (to_member g r c.in-Member.is);
-      count = let r = (goal.at.returns-in-Member g c).After-go_over-ran in
-          told_count c.args.self.now _ _ _ _ _ _ _ _ c.self.view_is c.if-self.false
-          c.go_over-ran.new.state.position.puzzle
-          _ c.args.many
-          c.show.new.shown.items (moved g r (inl c.in-Member.is)) (to_member g r c.in-Member.is);
-      within = search rules;
-      begun = search rules;
-      moves = rw (← c.self.view_is) (few g (goal.at.returns-in-Member g c).After-go_over-ran);
-      member = λ _. let r = (goal.at.returns-in-Member g c).After-go_over-ran in (
-        refl,
-        c.show.ensures.items
-            ∙ told_shown c.args.self.now _ _ _ _ _ _ _ _ c.self.view_is c.if-self.false c.args.many _
-            (there g r c.in-Member.is),
-      );
-      end = search rules;
-      fewer = search rules;
-      ran_out = search rules;
-      ended = search rules;
-      node = let at = c.go_over-ran.new.state in
-          rw c.if-self.false (is_row at.position.puzzle at.position.trail at.stack.levels false
-          (c.go_over-ran.ensures.ran.halts (inl c.in-Member.is)).led
-          (λ _. (c.go_over-ran.ensures.ran.solved c.in-Member.is).1));
-      later = λ _ _. let r = (goal.at.returns-in-Member g c).After-go_over-ran in
-          told_later c.args.self.now _ _ _ _ _ _ _ _ c.self.view_is c.if-self.false
-          c.go_over-ran.new.state.position.puzzle
-          _ c.args.many
-          c.show.new.shown.items (moved g r (inl c.in-Member.is)) (to_member g r c.in-Member.is);
-      stays = search rules;
-      stands = λ _. let r = (goal.at.returns-in-Member g c).After-go_over-ran in
-          let p = c.go_over-ran.new.state.position.puzzle in
-          let ls = c.go_over-ran.new.state.stack.levels in
-          rw c.if-self.false
-          (end_not_from (until g r) p ls false (c.go_over-ran.ensures.ran.before (inl c.in-Member.is)));
-      before = search rules;
+      passes = record {
+        passed = let r = (goal.at.returns-in-Member g c).After-go_over-ran in
+            told_passed c.args.self.now _ _ _ _ _ _ _ _ c.self.view_is c.if-self.false
+            c.go_over-ran.new.state.position.puzzle
+            _ c.args.many
+            c.show.new.shown.items (moved g r (inl c.in-Member.is)) (to_member g r c.in-Member.is);
+        count = let r = (goal.at.returns-in-Member g c).After-go_over-ran in
+            told_count c.args.self.now _ _ _ _ _ _ _ _ c.self.view_is c.if-self.false
+            c.go_over-ran.new.state.position.puzzle
+            _ c.args.many
+            c.show.new.shown.items (moved g r (inl c.in-Member.is)) (to_member g r c.in-Member.is);
+        within = search rules;
+        begun = search rules;
+        moves = rw (← c.self.view_is) (few g (goal.at.returns-in-Member g c).After-go_over-ran);
+      };
+      halts = record {
+        member = λ _. let r = (goal.at.returns-in-Member g c).After-go_over-ran in (
+          refl,
+          c.show.ensures.items
+              ∙ told_shown c.args.self.now _ _ _ _ _ _ _ _ c.self.view_is c.if-self.false c.args.many _
+              (there g r c.in-Member.is),
+        );
+        end = search rules;
+        fewer = search rules;
+        ran_out = search rules;
+        ended = search rules;
+      };
+      comes = record {
+        node = let at = c.go_over-ran.new.state in
+            rw c.if-self.false (is_row at.position.puzzle at.position.trail at.stack.levels false
+            (c.go_over-ran.ensures.ran.halts (inl c.in-Member.is)).led
+            (λ _. (c.go_over-ran.ensures.ran.solved c.in-Member.is).1));
+        later = λ _ _. let r = (goal.at.returns-in-Member g c).After-go_over-ran in
+            told_later c.args.self.now _ _ _ _ _ _ _ _ c.self.view_is c.if-self.false
+            c.go_over-ran.new.state.position.puzzle
+            _ c.args.many
+            c.show.new.shown.items (moved g r (inl c.in-Member.is)) (to_member g r c.in-Member.is);
+        stays = search rules;
+        stands = λ _. let r = (goal.at.returns-in-Member g c).After-go_over-ran in
+            let p = c.go_over-ran.new.state.position.puzzle in
+            let ls = c.go_over-ran.new.state.stack.levels in
+            rw c.if-self.false
+            (end_not_from (until g r) p ls false (c.go_over-ran.ensures.ran.before (inl c.in-Member.is)));
+        before = search rules;
+      };
     }
 
 pub returns-in-Row : goal.returns-in-Row
 returns-in-Row g c =
     record {
       still = search rules;
-      passed = search rules;
-      count = let r = (goal.at.returns-in-Row g c).After-go_over-ran in
-          told_end c.args.self.now _ _ _ _ _ _ _ _ c.self.view_is c.if-self.false
-          c.go_over-ran.new.state.position.puzzle
-          c.clear-in-Row.new.self.items _ (to_end g r c.in-Row.is).1;
-      within = search rules;
-      begun = search rules;
-      moves = rw (← c.self.view_is) (few g (goal.at.returns-in-Row g c).After-go_over-ran);
-      member = search rules;
-      end = search rules;
-      fewer = search rules;
-      ran_out = search rules;
-      ended = search rules;
-      node = search rules;
-      later = search rules;
-      stays = search rules;
-      stands = search rules;
-      before = search rules;
+      passes = record {
+        passed = search rules;
+        count = let r = (goal.at.returns-in-Row g c).After-go_over-ran in
+            told_end c.args.self.now _ _ _ _ _ _ _ _ c.self.view_is c.if-self.false
+            c.go_over-ran.new.state.position.puzzle
+            c.clear-in-Row.new.self.items _ (to_end g r c.in-Row.is).1;
+        within = search rules;
+        begun = search rules;
+        moves = rw (← c.self.view_is) (few g (goal.at.returns-in-Row g c).After-go_over-ran);
+      };
+      halts = record {
+        member = search rules;
+        end = search rules;
+        fewer = search rules;
+        ran_out = search rules;
+        ended = search rules;
+      };
+      comes = record {
+        node = search rules;
+        later = search rules;
+        stays = search rules;
+        stands = search rules;
+        before = search rules;
+      };
     }
 
 pub returns-in-Steps : goal.returns-in-Steps
 returns-in-Steps g c =
     record {
       still = search rules;
-      passed = let r = (goal.at.returns-in-Steps g c).After-go_over-ran in
-          told_passed c.args.self.now _ _ _ _ _ _ _ _ c.self.view_is c.if-self.false
-          c.go_over-ran.new.state.position.puzzle
-          _ _
-          c.clear-in-Steps.new.self.items (moved g r (inr c.in-Steps.is)) (to_row g r c.in-Steps.is (omega arith));
-      count = let r = (goal.at.returns-in-Steps g c).After-go_over-ran in
-          told_count c.args.self.now _ _ _ _ _ _ _ _ c.self.view_is c.if-self.false
-          c.go_over-ran.new.state.position.puzzle
-          _ _
-          c.clear-in-Steps.new.self.items (moved g r (inr c.in-Steps.is)) (to_row g r c.in-Steps.is (omega arith));
-      within = search rules;
-      begun = search rules;
-      moves = rw (← c.self.view_is) (few g (goal.at.returns-in-Steps g c).After-go_over-ran);
-      member = search rules;
-      end = search rules;
-      fewer = search rules;
-      ran_out = search rules;
-      ended = search rules;
-      node = let at = c.go_over-ran.new.state in
-          rw c.if-self.false (is_row at.position.puzzle at.position.trail at.stack.levels true
-          (c.go_over-ran.ensures.ran.halts (inr c.in-Steps.is)).led (λ h. absurd (cc h)));
-      later = λ _ _. let r = (goal.at.returns-in-Steps g c).After-go_over-ran in
-          told_later c.args.self.now _ _ _ _ _ _ _ _ c.self.view_is c.if-self.false
-          c.go_over-ran.new.state.position.puzzle
-          _ _
-          c.clear-in-Steps.new.self.items (moved g r (inr c.in-Steps.is)) (to_row g r c.in-Steps.is (omega arith));
-      stays = search rules;
-      stands = λ _. let r = (goal.at.returns-in-Steps g c).After-go_over-ran in
-          let p = c.go_over-ran.new.state.position.puzzle in
-          let ls = c.go_over-ran.new.state.stack.levels in
-          rw c.if-self.false
-          (end_not_from (until g r) p ls true (c.go_over-ran.ensures.ran.before (inr c.in-Steps.is)));
-      before = search rules;
+      passes = record {
+        passed = let r = (goal.at.returns-in-Steps g c).After-go_over-ran in
+            told_passed c.args.self.now _ _ _ _ _ _ _ _ c.self.view_is c.if-self.false
+            c.go_over-ran.new.state.position.puzzle
+            _ _
+            c.clear-in-Steps.new.self.items (moved g r (inr c.in-Steps.is)) (to_row g r c.in-Steps.is (omega arith));
+        count = let r = (goal.at.returns-in-Steps g c).After-go_over-ran in
+            told_count c.args.self.now _ _ _ _ _ _ _ _ c.self.view_is c.if-self.false
+            c.go_over-ran.new.state.position.puzzle
+            _ _
+            c.clear-in-Steps.new.self.items (moved g r (inr c.in-Steps.is)) (to_row g r c.in-Steps.is (omega arith));
+        within = search rules;
+        begun = search rules;
+        moves = rw (← c.self.view_is) (few g (goal.at.returns-in-Steps g c).After-go_over-ran);
+      };
+      halts = record {
+        member = search rules;
+        end = search rules;
+        fewer = search rules;
+        ran_out = search rules;
+        ended = search rules;
+      };
+      comes = record {
+        node = let at = c.go_over-ran.new.state in
+            rw c.if-self.false (is_row at.position.puzzle at.position.trail at.stack.levels true
+            (c.go_over-ran.ensures.ran.halts (inr c.in-Steps.is)).led (λ h. absurd (cc h)));
+        later = λ _ _. let r = (goal.at.returns-in-Steps g c).After-go_over-ran in
+            told_later c.args.self.now _ _ _ _ _ _ _ _ c.self.view_is c.if-self.false
+            c.go_over-ran.new.state.position.puzzle
+            _ _
+            c.clear-in-Steps.new.self.items (moved g r (inr c.in-Steps.is)) (to_row g r c.in-Steps.is (omega arith));
+        stays = search rules;
+        stands = λ _. let r = (goal.at.returns-in-Steps g c).After-go_over-ran in
+            let p = c.go_over-ran.new.state.position.puzzle in
+            let ls = c.go_over-ran.new.state.stack.levels in
+            rw c.if-self.false
+            (end_not_from (until g r) p ls true (c.go_over-ran.ensures.ran.before (inr c.in-Steps.is)));
+        before = search rules;
+      };
     }
