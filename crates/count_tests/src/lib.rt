@@ -1,0 +1,7 @@
+//! Tests of numbers of any size and of counts of covers. They use public calls alone.
+#![tactic(auto)]
+
+#[cfg(test)]
+mod counting;
+#[cfg(test)]
+mod numbers;

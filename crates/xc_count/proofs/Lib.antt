@@ -1,0 +1,11 @@
+pub mod AnyItem
+pub mod Apart
+pub mod Below
+pub mod HolderLemmas
+pub mod KeyLemmas
+pub mod LeftBy
+pub mod Matched
+pub mod Number
+pub mod PlanLemmas
+pub mod Split
+pub mod WorthLemmas

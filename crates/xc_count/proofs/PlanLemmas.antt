@@ -1,0 +1,186 @@
+-- What a sweep goes by.
+use Rattle.std.proofs.Common.{ℕ, zero, suc, ◌≡◌, ◌≢◌, ◌<◌, ◌≤◌, ◌+◌, ◌-◌, Bool, true, false, not, ◌&&◌, cond, List, []}
+use Rattle.std.proofs.Common.{◌∷◌, length}
+use Rattle.std.proofs.Common.{Option, Some, None, refl, sym, ap, ap₂, ◌∙◌, arith, subst, eqb, eq-eqb, drop, take}
+use Rattle.std.proofs.Common.{ltb-true, ltb-false, lt-ltb, inl, inr, ◌⊎◌}
+use Rattle.std.proofs.Math.ListN.{get_or}
+use Rattle.std.specs.Prelude.{is_some, nat_lt, Contains}
+use Rattle.std.specs.List.{list_all}
+use Rattle.std.specs.Option.{option_or}
+use Rattle.std.proofs.lemmas.List.{get_or-take, take_all}
+use Rattle.std.proofs.lemmas.List.Elements.{recursion_from_All}
+use Rattle.xc_input.specs.declared.problem.Use.{Use}
+use Rattle.xc_input.specs.Problem.{Puzzle, IsPrimary, IsItem, IsValid, colour_in, uses_of}
+use Rattle.xc_input.proofs.FaultLemmas.BooleanTests.{and_left, and_right}
+use Rattle.xc_input.proofs.Cases.{by_bool}
+use Rattle.xc_input.proofs.lists.Members.{IsIn, in-contains, contains-in, in-take, each_in, list_all-each}
+use Rattle.xc_count.specs.declared.plan.Plan.{Plan}
+use Rattle.xc_count.specs.declared.sweeping.Step.{Step}
+use Rattle.xc_count.specs.inner.Held.{Held, agree, below, holding_uses}
+use Rattle.xc_count.specs.inner.Keys.{held_in, rank_of}
+use Rattle.xc_count.specs.inner.Plans.{IsPlan, IsStep, IsOver, options_with}
+use Rattle.xc_count.specs.inner.Worth.{holds_first, key_below, says, with_number}
+use Rattle.xc_count.proofs.Below.{below_over, below_same}
+use Rattle.xc_count.proofs.HolderLemmas.{option_known}
+use Rattle.xc_count.proofs.KeyLemmas.{held_dropped}
+
+-- an item at a place of the order
+pub past_at : (order : List ℕ) (past place x item : ℕ) → place < past → place < length order → x ≡ get_or order place x
+    → x ≡ item → Contains (take past order) item
+past_at order past place x item h l at e =
+    let here : get_or order place item ≡ item = subst (λ z. get_or order place z ≡ z) e (sym at) in
+    (place, within order past place h l, get_or-take past order place item h ∙ here)
+  where
+    within : (xs : List ℕ) (n k : ℕ) → k < n → k < length xs → k < length (take n xs)
+    within xs zero k h l = absurd (omega (arith, h))
+    within [] (suc n) k h l = l
+    within (x ∷ xs) (suc n) zero h l = omega arith
+    within (x ∷ xs) (suc n) (suc k) h l = let i =
+        within xs n k (omega (arith, h)) (omega (arith, l)) in omega (arith, i)
+
+-- uses hold the item of one of them
+pub use_there : (us : List Use) (k : ℕ) (d : Use) → k < length us → is_some (colour_in us (get_or us k d).item) ≡ true
+use_there [] k d h = absurd (omega (arith, h))
+use_there (u ∷ us) zero d h = let e = eq-eqb u.item u.item refl in rw e refl
+use_there (u ∷ us) (suc k) d h =
+    let rest = use_there us k d (omega (arith, h)) in
+    by_bool (eqb u.item (get_or us k d).item) (λ e. rw e refl) (λ e. rw e rest)
+
+-- the items up to a place and the one there
+pub take_next : (xs : List ℕ) (k i : ℕ) → k < length xs → IsIn (take (k + 1) xs) i
+    → IsIn (take k xs) i ⊎ (get_or xs k 0 ≡ i)
+take_next xs k i h in_it = next xs k i h (subst (λ n. IsIn (take n xs) i) (let e : k + 1 ≡ suc k =
+    omega arith in e) in_it)
+  where
+    next : (xs : List ℕ) (k i : ℕ) → k < length xs → IsIn (take (suc k) xs) i → IsIn (take k xs) i ⊎ (get_or xs k 0 ≡ i)
+    next [] k i h m = absurd (omega (arith, h))
+    next (x ∷ xs) zero i h (inl e) = inr e
+    next (x ∷ xs) zero i h (inr m) = absurd m
+    next (x ∷ xs) (suc k) i h (inl e) = inl (inl e)
+    next (x ∷ xs) (suc k) i h (inr m) = elim (next xs k i (omega (arith, h)) m) [ inl a ↦ inl (inr a) | inr b ↦ inr b ]
+
+some_not_none : (o : Option ℕ) → is_some o ≡ true → o ≢ None
+some_not_none o s e = cc
+
+not_none_some : (o : Option ℕ) → o ≢ None → is_some o ≡ true
+not_none_some None h = absurd (h refl)
+not_none_some (Some c) h = refl
+
+module _ (p : Puzzle) (plan : Plan) (is : IsPlan p plan) where
+  pub past_primary : (k j : ℕ) → Contains (take k plan.order.items) j → IsPrimary p j
+  past_primary k j c = each_in (IsPrimary p) plan.order.items j (recursion_from_All _ _ is.order.primary)
+      (in-take k plan.order.items j (in-contains _ _ c))
+
+  pub order_at : (k : ℕ) → k < length plan.order.items → IsPrimary p (get_or plan.order.items k 0)
+  order_at k h = is.order.primary k 0 h
+
+  -- the items that a key says are held
+  pub first_held : (k from : ℕ) (key : List ℕ) → holds_first plan k from key ≡ true → (j : ℕ)
+      → Contains (take k plan.order.items) j → is_some (says plan from key j) ≡ true
+  first_held k from key h j c =
+      passes (λ i. is_some (says plan from key i)) (take k plan.order.items) j h (in-contains _ _ c)
+    where
+      passes : (f : ℕ → Bool) (xs : List ℕ) (x : ℕ) → list_all f xs ≡ true → IsIn xs x → f x ≡ true
+      passes f [] x a m = absurd m
+      passes f (y ∷ ys) x a (inl e) = subst (λ z. f z ≡ true) e (and_left _ _ a)
+      passes f (y ∷ ys) x a (inr m) = passes f ys x (and_right (f y) _ a) m
+
+  -- where the whole order is held, each primary item is
+  pub all_held : (from : ℕ) (key : List ℕ) → holds_first plan (length plan.order.items) from key ≡ true → (i : ℕ)
+      → IsPrimary p i → says plan from key i ≢ None
+  all_held from key h i primary =
+      let whole : take (length plan.order.items) plan.order.items ≡ plan.order.items =
+      take_all _ plan.order.items (omega arith) in
+      some_not_none _ (first_held (length plan.order.items) from key h i
+      (subst (λ xs. Contains xs i) (sym whole) (is.order.each i primary)))
+
+  module _ (step : Step) (at : IsStep p plan step) (key : List ℕ) where
+    abbrev ranks : List ℕ
+    ranks = plan.ranking.ranks.items
+
+    abbrev past : List ℕ
+    past = take (step.place + 1) plan.order.items
+
+    abbrev gone : ℕ → Bool
+    gone i = not (nat_lt (rank_of ranks i) step.from) && nat_lt (rank_of ranks i) step.next
+
+    moved_says : (i : ℕ) → says plan step.next (drop (step.next - step.from) key) i
+        ≡ cond (gone i) (Some 0) (says plan step.from key i)
+    moved_says i = held_dropped ranks step.from step.next key i at.rises ∙ by_bool (nat_lt (rank_of ranks i) step.from)
+        (λ e.
+        let before = ltb-true _ _ e in
+        let soon : nat_lt (rank_of ranks i) step.next ≡ true = lt-ltb _ _ (omega (arith, before, at.rises)) in
+        rw (e, soon) refl)
+        (λ e. by_bool (nat_lt (rank_of ranks i) step.next) (λ f. rw (e, f) refl) (λ f. rw (e, f) refl))
+
+    over : (i : ℕ) → IsItem p i → gone i ≡ true → IsOver p past i
+    over i item e =
+        let after : nat_lt (rank_of ranks i) step.from ≡ false = not_false _ (and_left _ _ e) in
+        at.over i item (ltb-false _ _ after) (ltb-true _ _ (and_right (not (nat_lt (rank_of ranks i) step.from)) _ e))
+      where
+        not_false : (b : Bool) → not b ≡ true → b ≡ false
+        not_false true e = cc
+        not_false false e = refl
+
+    -- what is left is the same once the marks are left out that are needed no more
+    pub key_moved : IsValid p → holds_first plan (step.place + 1) step.from key ≡ true
+        → key_below p plan step.next (drop (step.next - step.from) key) ≡ key_below p plan step.from key
+    key_moved v held = below_over p v (says plan step.from key)
+        (says plan step.next (drop (step.next - step.from) key)) past
+        gone (past_primary (step.place + 1))
+        (λ j c. some_not_none _ (first_held (step.place + 1) step.from key held j c)) over (λ i item. moved_says i)
+
+    pub held_moved : holds_first plan (step.place + 1) step.from key ≡ true
+        → holds_first plan (step.place + 1) step.next (drop (step.next - step.from) key) ≡ true
+    held_moved held = list_all-each _ past (λ j m. subst (λ o. is_some o ≡ true) (sym (moved_says j))
+        (by_bool (gone j) (λ e. rw e refl)
+        (λ e. rw e (first_held (step.place + 1) step.from key held j (contains-in _ _ m)))))
+
+    -- an option is taken
+    pub held_taken : (new : List ℕ) (o : ℕ) (us : List Use) → uses_of p o ≡ us
+        → holds_first plan step.place step.from key ≡ true
+        → Contains (options_with p (get_or plan.order.items step.place 0)) o
+        → ((i : ℕ) → IsItem p i → says plan step.from new i ≡ holding_uses us (says plan step.from key) i)
+        → holds_first plan (step.place + 1) step.from new ≡ true
+    held_taken new o us uses held listed is_new = list_all-each _ past (λ j m.
+        let primary = past_primary (step.place + 1) j (contains-in _ _ m) in
+        subst (λ z. is_some z ≡ true) (sym (is_new j (item_of j primary)))
+        (elim (take_next plan.order.items step.place j at.within m) [
+          | inl a ↦ kept (colour_in us j) _ (first_held step.place step.from key held j (contains-in _ _ a))
+          | inr b ↦ taken (colour_in us j) _ (subst (λ i. is_some (colour_in us i) ≡ true) b
+              (subst (λ vs. is_some (colour_in vs (get_or plan.order.items step.place 0)) ≡ true) uses
+              (option_known p _ o listed).1))
+        ]))
+      where
+        item_of : (j : ℕ) → IsPrimary p j → IsItem p j
+        item_of j h = (h.0, omega (arith, h.1))
+
+        kept : (a b : Option ℕ) → is_some b ≡ true → is_some (option_or a b) ≡ true
+        kept None b h = h
+        kept (Some c) b h = refl
+
+        taken : (a b : Option ℕ) → is_some a ≡ true → is_some (option_or a b) ≡ true
+        taken None b h = cc
+        taken (Some c) b h = refl
+
+    pub below_taken : IsValid p → (new : List ℕ) (o : ℕ) (us : List Use) (b : Bool) → uses_of p o ≡ us
+        → b ≡ agree (says plan step.from key) us → b ≡ true
+        → ((i : ℕ) → IsItem p i → says plan step.from new i ≡ holding_uses us (says plan step.from key) i)
+        → key_below p plan step.from new ≡ with_number p (says plan step.from key) o
+    below_taken v new o us b uses test agreed is_new =
+        let s : Held = says plan step.from key in
+        below_same p v (holding_uses us s) (says plan step.from new) is_new
+        ∙ sym (ap (λ vs. cond (agree s vs) (below p (holding_uses vs s)) 0) uses
+        ∙ ap (λ t. cond t (below p (holding_uses us s)) 0) (sym test ∙ agreed))
+
+    -- what a key says in which the uses of an option were marked
+    pub taken_says : (rs old new out : List ℕ) (us : List Use) → rs ≡ ranks → old ≡ key → out ≡ new
+        → ((i : ℕ) → 1 ≤ i → i ≤ length rs
+        → held_in rs step.from new i ≡ holding_uses us (held_in rs step.from old) i)
+        → (i : ℕ) → IsItem p i → says plan step.from out i ≡ holding_uses us (says plan step.from key) i
+    taken_says rs old new out us same before after marked i item =
+        let one : held_in rs step.from new i ≡ holding_uses us (held_in rs step.from old) i =
+        marked i item.0 (omega (arith, item.1, is.ranks.0, ap length same)) in
+        ap (λ k. held_in ranks step.from k i) after
+        ∙ ap (λ r. held_in r step.from new i) (sym same) ∙ one
+        ∙ ap₂ (λ r k. holding_uses us (held_in r step.from k) i) same before

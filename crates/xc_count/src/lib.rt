@@ -1,0 +1,16 @@
+//! How many covers a problem has, found without making each.
+#![tactic(auto)]
+
+mod counting;
+mod errors;
+mod holders;
+mod keys;
+mod layer;
+mod narrow;
+mod order;
+mod plan;
+mod ranking;
+mod sweeping;
+
+pub use counting::{count, one_number_of_covers};
+pub use errors::CountError;

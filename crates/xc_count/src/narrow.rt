@@ -1,0 +1,94 @@
+//! A narrow order of the primary items, found from the problem alone.
+//!
+//! A sweep keeps a state for each way in which the items between those that are over and those that no option has come
+//! to may be held. So an order is good in which these are few at each place. From some items on, it takes next the item
+//! whose options reach the fewest new ones, and of several the one that was near the longest. Of the orders that come
+//! so, and that of the file, it takes the one with the least sum, over its places, of 2 to the number of open items.
+
+mod near;
+mod reach;
+mod values;
+
+use crate::errors::CountError;
+use crate::narrow::near::neighbours;
+use crate::narrow::reach::Reach;
+use std::alloc::Global;
+use xc_input::Problem;
+
+/// How many steps orders may take in all: about a tenth of a second.
+const MOST_STEPS: u64 = 30_000_000;
+/// From how many items on orders are tried.
+const STARTS: u32 = 12;
+
+/// The order of the file, as far as so many steps go.
+fn file_order(
+    alloc: Global,
+    problem: &Problem,
+    holders: &[Vec<u32>],
+    near: &[Vec<u32>],
+) -> Result<Reach, CountError> {
+    let mut reach = Reach::new(alloc, problem, holders, near)?;
+    for i in 0..problem.primary() {
+        reach.take(problem, holders, near, i + 1)?;
+        if reach.steps > MOST_STEPS {
+            break;
+        }
+    }
+    Ok(reach)
+}
+
+/// The order from an item on, if it takes no more than so many steps.
+fn order_from(
+    alloc: Global,
+    problem: &Problem,
+    holders: &[Vec<u32>],
+    near: &[Vec<u32>],
+    start: u32,
+    most: u64,
+) -> Result<Option<Reach>, CountError> {
+    let mut reach = Reach::new(alloc, problem, holders, near)?;
+    let mut item = start;
+    for _ in 0..problem.primary() {
+        reach.take(problem, holders, near, item)?;
+        if reach.steps > most {
+            return Ok(None);
+        }
+        match reach.next(problem.primary()) {
+            Some(next) => item = next,
+            None => break,
+        }
+    }
+    Ok(Some(reach))
+}
+
+/// The item of this number among so many that are spread over the primary items.
+fn start(primary: u32, number: u32, many: u32) -> u32 {
+    let place = u64::from(number) * u64::from(primary) / u64::from(many.max(1));
+    u32::try_from(place).unwrap_or(0).saturating_add(1)
+}
+
+/// A narrow order of the primary items; none, or a part of one, where it would take too many steps.
+pub fn narrow_order(
+    alloc: Global,
+    problem: &Problem,
+    holders: &[Vec<u32>],
+) -> Result<Vec<u32>, CountError> {
+    let Some(near) = neighbours(alloc, problem, holders, MOST_STEPS)? else {
+        return Ok(Vec::new(alloc));
+    };
+    let near = near.as_slice();
+    let mut best = file_order(alloc, problem, holders, near)?;
+    let mut left = MOST_STEPS.saturating_sub(best.steps);
+    let starts = STARTS.min(problem.primary());
+    for number in 0..starts {
+        let item = start(problem.primary(), number, starts);
+        let Some(found) = order_from(alloc, problem, holders, near, item, left)? else {
+            break;
+        };
+        left = left.saturating_sub(found.steps);
+        if found.cost < best.cost {
+            best = found;
+        }
+    }
+    Ok(best.order)
+}

@@ -1,0 +1,245 @@
+//! The sweep.
+ghost use Rattle.std.specs.Prelude.{ℕ, ◌≡◌, ◌<◌, ◌≤◌, ◌+◌, ◌*◌, [], All, Contains, length, slice_index, true, None};
+ghost use Rattle.std.specs.Prelude.{IfOk, OnOk};
+ghost use Rattle.xc_input.specs.Problem.{IsOption, IsValid};
+ghost use Rattle.xc_search.specs.Cover.{members};
+ghost use Rattle.xc_count.specs.inner.Held.{HoldsOnce};
+ghost use Rattle.xc_count.specs.inner.Plans.{IsPlan, IsStep, options_with};
+ghost use Rattle.xc_count.specs.inner.Worth.{EachKey, holds_first, key_below, says, with_number, worth};
+
+use crate::errors::CountError;
+use crate::holders::options_of;
+use crate::keys::{do_agree, mark_of, mark_uses, without_first};
+use crate::layer::{Layer, State, pop_state};
+use crate::plan::Plan;
+use natural::Natural;
+use std::alloc::Global;
+use xc_input::Problem;
+
+/// One step of a sweep: the place in the order of the item that it holds, and from which ranks on the keys before and
+/// after it have marks.
+#[derive(Clone, Copy)]
+pub struct Step {
+    pub place: usize,
+    pub from: usize,
+    pub next: usize,
+}
+
+/// Adds ways to a state in which the step's item is held.
+fn add_held(
+    problem: &Problem,
+    plan: &Plan,
+    step: Step,
+    layer: &mut Layer,
+    key: &[u32],
+    ways: &Natural,
+) -> Result<(), CountError>
+    requires plan { IsPlan problem.now.puzzle plan.now }
+    requires step { IsStep problem.now.puzzle plan.now step }
+    requires valid { IsValid problem.now.puzzle }
+    requires held { holds_first plan.now (step.place + 1) step.from key.now ≡ true }
+    ensures worth { OnOk result (worth problem.now.puzzle plan.now step.next layer.new.states.items
+        ≡ worth problem.now.puzzle plan.now step.next layer.old.states.items
+        + ways.now * key_below problem.now.puzzle plan.now step.from key.now) }
+    ensures held { OnOk result (EachKey (holds_first plan.now (step.place + 1) step.next) layer.old.states.items
+        → EachKey (holds_first plan.now (step.place + 1) step.next) layer.new.states.items) }
+{
+    layer.add(without_first(key, step.next - step.from), ways)
+}
+
+/// Adds what a state becomes once an option of the step's item is taken, if it fits.
+fn take(
+    problem: &Problem,
+    plan: &Plan,
+    step: Step,
+    layer: &mut Layer,
+    scratch: &mut Vec<u32>,
+    state: &State,
+    option: u32,
+) -> Result<(), CountError>
+    requires plan { IsPlan problem.now.puzzle plan.now }
+    requires step { IsStep problem.now.puzzle plan.now step }
+    requires known { IsOption problem.now.puzzle option }
+    requires option { Contains (options_with problem.now.puzzle (slice_index plan.now.order.items step.place)) option }
+    requires held { holds_first plan.now step.place step.from state.now.key.items ≡ true }
+    ensures worth { OnOk result (worth problem.now.puzzle plan.now step.next layer.new.states.items
+        ≡ worth problem.now.puzzle plan.now step.next layer.old.states.items
+        + state.now.ways * with_number problem.now.puzzle (says plan.now step.from state.now.key.items) option) }
+    ensures held { OnOk result (EachKey (holds_first plan.now (step.place + 1) step.next) layer.old.states.items
+        → EachKey (holds_first plan.now (step.place + 1) step.next) layer.new.states.items) }
+{
+    let uses = problem.option(option);
+    let ranks = plan.ranking.ranks.as_slice();
+    if !do_agree(ranks, step.from, state.key.as_slice(), uses) {
+        return Ok(());
+    }
+    scratch.clear();
+    scratch.extend_from_slice(state.key.as_slice())?;
+    mark_uses(ranks, step.from, scratch, uses)?;
+    add_held(problem, plan, step, layer, scratch.as_slice(), &state.ways)
+}
+
+/// Adds what a state becomes in which the step's item is free: a state for each option of it that fits.
+fn split(
+    problem: &Problem,
+    plan: &Plan,
+    step: Step,
+    layer: &mut Layer,
+    scratch: &mut Vec<u32>,
+    state: &State,
+    options: &[u32],
+) -> Result<(), CountError>
+    requires once { HoldsOnce problem.now.puzzle }
+    requires plan { IsPlan problem.now.puzzle plan.now }
+    requires step { IsStep problem.now.puzzle plan.now step }
+    requires valid { IsValid problem.now.puzzle }
+    requires options { options.now ≡ options_with problem.now.puzzle (slice_index plan.now.order.items step.place) }
+    requires free { says plan.now step.from state.now.key.items (slice_index plan.now.order.items step.place) ≡ None }
+    requires held { holds_first plan.now step.place step.from state.now.key.items ≡ true }
+    requires others { EachKey (holds_first plan.now (step.place + 1) step.next) layer.old.states.items }
+    ensures worth { OnOk result (worth problem.now.puzzle plan.now step.next layer.new.states.items
+        ≡ worth problem.now.puzzle plan.now step.next layer.old.states.items
+        + state.now.ways * key_below problem.now.puzzle plan.now step.from state.now.key.items) }
+    ensures others { OnOk result (EachKey (holds_first plan.now (step.place + 1) step.next) layer.new.states.items) }
+{
+    for k in 0..options.len() {
+        take(problem, plan, step, layer, scratch, state, options[k])?;
+    }
+    Ok(())
+}
+
+/// Adds what a state becomes once the step's item is held.
+fn hold(
+    problem: &Problem,
+    plan: &Plan,
+    step: Step,
+    layer: &mut Layer,
+    scratch: &mut Vec<u32>,
+    state: &State,
+) -> Result<(), CountError>
+    requires once { HoldsOnce problem.now.puzzle }
+    requires plan { IsPlan problem.now.puzzle plan.now }
+    requires step { IsStep problem.now.puzzle plan.now step }
+    requires valid { IsValid problem.now.puzzle }
+    requires held { holds_first plan.now step.place step.from state.now.key.items ≡ true }
+    requires others { EachKey (holds_first plan.now (step.place + 1) step.next) layer.old.states.items }
+    ensures worth { OnOk result (worth problem.now.puzzle plan.now step.next layer.new.states.items
+        ≡ worth problem.now.puzzle plan.now step.next layer.old.states.items
+        + state.now.ways * key_below problem.now.puzzle plan.now step.from state.now.key.items) }
+    ensures others { OnOk result (EachKey (holds_first plan.now (step.place + 1) step.next) layer.new.states.items) }
+{
+    let item = plan.order[step.place];
+    if mark_of(
+        plan.ranking.ranks.as_slice(),
+        step.from,
+        state.key.as_slice(),
+        item,
+    ) > 0
+    {
+        return add_held(
+            problem,
+            plan,
+            step,
+            layer,
+            state.key.as_slice(),
+            &state.ways,
+        );
+    }
+    let options = options_of(problem, plan.holders.as_slice(), item);
+    split(problem, plan, step, layer, scratch, state, options)
+}
+
+/// What the states of a layer become once the step's item is held.
+fn pass(
+    alloc: Global,
+    problem: &Problem,
+    plan: &Plan,
+    step: Step,
+    layer: Layer,
+    bound: usize,
+) -> Result<Layer, CountError>
+    requires once { HoldsOnce problem.now.puzzle }
+    requires plan { IsPlan problem.now.puzzle plan.now }
+    requires step { IsStep problem.now.puzzle plan.now step }
+    requires valid { IsValid problem.now.puzzle }
+    requires held { EachKey (holds_first plan.now step.place step.from) layer.states.items }
+    ensures worth { IfOk result (λ l. worth problem.now.puzzle plan.now step.next l.states.items
+        ≡ worth problem.now.puzzle plan.now step.from layer.states.items) }
+    ensures held { IfOk result (λ l. EachKey (holds_first plan.now (step.place + 1) step.next) l.states.items) }
+{
+    let mut next = Layer::new(alloc, layer.beside(bound));
+    let mut scratch = Vec::new(alloc);
+    let mut states = layer.states;
+    while let Some(state) = pop_state(&mut states) {
+        hold(problem, plan, step, &mut next, &mut scratch, &state)?;
+    }
+    Ok(next)
+}
+
+/// The first layer: one state, in which no item is held.
+fn first_layer(
+    alloc: Global,
+    problem: &Problem,
+    plan: &Plan,
+    bound: usize,
+) -> Result<Layer, CountError>
+    ensures worth { IfOk result (λ l. worth problem.now.puzzle plan.now 0 l.states.items
+        ≡ length (members problem.now.puzzle)) }
+    ensures held { IfOk result (λ l. EachKey (holds_first plan.now 0 0) l.states.items) }
+{
+    let mut layer = Layer::new(alloc, bound);
+    layer.add(&[], &Natural::from_u64(alloc, 1))?;
+    Ok(layer)
+}
+
+/// The ways to all states, in which each item of the order is held.
+fn total(
+    alloc: Global,
+    problem: &Problem,
+    plan: &Plan,
+    from: usize,
+    layer: Layer,
+) -> Result<Natural, CountError>
+    requires once { HoldsOnce problem.now.puzzle }
+    requires plan { IsPlan problem.now.puzzle plan.now }
+    requires valid { IsValid problem.now.puzzle }
+    requires held { EachKey (holds_first plan.now (length plan.now.order.items) from) layer.states.items }
+    ensures { IfOk result (λ n. n ≡ worth problem.now.puzzle plan.now from layer.states.items) }
+{
+    let mut states = layer.states;
+    let mut sum = Natural::zero(alloc);
+    while let Some(state) = pop_state(&mut states) {
+        sum.add_assign(&state.ways)?;
+    }
+    Ok(sum)
+}
+
+/// How many covers a problem has whose primary items are each to be held exactly once. Its states take no more than so
+/// many bytes at once.
+pub fn sweep(
+    alloc: Global,
+    problem: &Problem,
+    plan: &Plan,
+    bound: usize,
+) -> Result<Natural, CountError>
+    requires once { HoldsOnce problem.now.puzzle }
+    requires plan { IsPlan problem.now.puzzle plan.now }
+    requires valid { IsValid problem.now.puzzle }
+    ensures { IfOk result (λ n. n ≡ length (members problem.now.puzzle)) }
+{
+    let mut layer = first_layer(alloc, problem, plan, bound)?;
+    let mut from = 0;
+    for place in 0..plan.order.len() {
+        let next = plan.window(problem, place + 1, from);
+        layer = pass(
+            alloc,
+            problem,
+            plan,
+            Step { place, from, next },
+            layer,
+            bound,
+        )?;
+        from = next;
+    }
+    total(alloc, problem, plan, from, layer)
+}

@@ -1,0 +1,14 @@
+//! A whole run that counts the covers of a problem.
+//!
+//! ```text
+//! let mut input = Incoming::new(Some(rt.stdin()), random_seed(&rt));
+//! let mut err = Direct::new(rt.stderr());
+//! let status = count_covers(rt.alloc(), &words(&rt)?, &mut input, &mut err);
+//! ```
+#![tactic(auto)]
+
+mod asked;
+mod messages;
+mod running;
+
+pub use running::count_covers;
