@@ -1,12 +1,12 @@
 //! Texts of spans that are joined.
 use crate::failed_runs::{Unflushed, is_unflushed};
-use crate::told::run_gives;
+use crate::told::{Told, run_gives};
 use fixtures::{THREE_LISTING, gathered, on_one};
 use std::alloc::{AllocError, Global};
 use std::test::Fail;
-use xc_input::Feed;
+use xc_input::{Feed, Seed};
 use xc_list::Tray;
-use xc_tools::join_spans;
+use xc_tools::{join_spans, span_files};
 
 /// Of which problem a text is.
 const PROBLEM: &[u8] = b"problem 0123456789abcdef";
@@ -364,4 +364,26 @@ fn failed_joins(rt: HostRuntime) {
     assert!(rt; status_of(rt.alloc(), None, 100) == Some(0));
     assert!(rt; status_of(rt.alloc(), Some(3), 100) == Some(3));
     assert!(rt; status_of(rt.alloc(), None, 20) == Some(3));
+}
+
+/// Whether a join of a file that isn't there reports that.
+fn misses_its_file(rt: &HostRuntime, told: &mut Told) -> bool {
+    let Ok(words) = gathered(rt.alloc(), &[b"m0", b"missing.span"]) else {
+        return false;
+    };
+    let Ok(mut input) = span_files(rt.alloc(), rt, &words[1..], rt.stdin(), Seed::FIXED) else {
+        return false;
+    };
+    join_spans(rt.alloc(), &words, &mut input, &mut told.out, &mut told.err) == 3
+        && told.err.bytes() == b"missing.span: read failed.\n".as_slice()
+}
+
+#[test]
+fn a_missing_file(rt: HostRuntime) {
+    assert!(rt;
+        on_one(
+            Told::new(rt.alloc(), 100, 100),
+            |told| misses_its_file(&rt, told)
+        )
+    );
 }
