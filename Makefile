@@ -38,7 +38,7 @@ test: bin ## the merge gate: proofs, wrong bodies, tests, programs
 	@$(MAKE) -s --no-print-directory bin
 	@sh tests/guide.sh docs/GUIDE.md
 	@sh tests/python.sh
-test-mutants: ## plant the wrong bodies of crates/*/mutants
+test-mutants: ## plant the wrong bodies of crates/*/mutants.edits
 	@python3 tests/wrong_bodies.py
 test-hostile: ## the programs on hostile inputs
 	@python3 tests/hostile/programs.py

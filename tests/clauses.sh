@@ -17,8 +17,7 @@ function place(told,    file, goal) {
 function wanted(edit,    at, file, line, found) {
     split(edit, at, "/")
     file = "crates/" at[1] "/must-fail/" at[2]
-    if ((getline line < file) < 0) { file = "crates/" at[1] "/mutants/" at[2]; getline line < file }
-    do if (line ~ /^# clause: /) found = substr(line, 11); while ((getline line < file) > 0)
+    while ((getline line < file) > 0) if (line ~ /^# clause: /) found = substr(line, 11)
     close(file)
     return found
 }

@@ -17,7 +17,7 @@ jobs=${RT_JOBS:-$(nproc)}
 begun=$(date +%s)
 if [ "${CI-}" != true ]; then
     mkdir "$folder/tree" "$folder/tmp"
-    tar -c --exclude='crates/*/must-fail' --exclude='crates/*/mutants' --exclude='crates/*/out' crates crates.txt HANDLES |
+    tar -c --exclude='crates/*/must-fail' --exclude='crates/*/mutants.edits' --exclude='crates/*/out' crates crates.txt HANDLES |
         tar -x -C "$folder/tree"
     (cd "$folder/tree" && unset RT_JOBS && TMPDIR=$folder/tmp exec rt ci xc_tools) >"$folder/log" 2>&1 </dev/null &
     ahead=$!

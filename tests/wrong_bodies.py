@@ -1,7 +1,7 @@
 #!/usr/bin/env python3
-"""Plants the wrong bodies of crates/*/mutants, or of the crates named, in copies of the libraries, where the prover has
-to refuse each by the goal that its line `# clause: FILE GOAL` names; with --gate those of must-fail/. Prints each that
-isn't refused by it, with -v each one. The last line is `N passed, M failed`.
+"""Plants the wrong bodies of crates/*/mutants.edits, or of the crates named, in copies of the libraries, where the
+prover has to refuse each by the goal that its line `# clause: FILE GOAL` names; with --gate those of must-fail/. Prints
+each that isn't refused by it, with -v each one. The last line is `N passed, M failed`.
 
 A check takes ten seconds and more before its first function. So a dozen wrong bodies that change different functions
 stand in one check, which goes on past open goals and prints each; one that isn't refused there has one of its own.
@@ -24,7 +24,7 @@ from typing import NamedTuple
 
 TOP = Path(__file__).resolve().parent.parent
 # Each uses some of those before it.
-LIBRARIES = ["xc_input", "xc_dance", "xc_search", "xc_list", "xc_tools", "xc_c"]
+LIBRARIES = ["xc_input", "xc_dance", "xc_search", "xc_list", "xc_tools", "xc_c", "natural", "xc_count", "xc_count_run"]
 AT_ONCE = 12
 # A header of methods, or a function with its attributes.
 FUNCTION = re.compile(
@@ -55,15 +55,25 @@ class Group(NamedTuple):
     texts: Texts
 
 
-def read(crate: str, path: Path) -> Edit:
+def edits_of(crate: str, gate: bool) -> list[Edit]:
+    """Those of must-fail/, a file each, or of mutants.edits, where each begins with a line `# NAME`."""
+    at = TOP / "crates" / crate
+    if gate:
+        return [read(crate, it.stem, it.read_text()) for it in sorted((at / "must-fail").glob("*.edit"))]
+    file = at / "mutants.edits"
+    parts = re.split(r"^# (\w+)\n", file.read_text() if file.exists() else "", flags=re.MULTILINE)
+    return [read(crate, name, text) for name, text in zip(parts[1::2], parts[2::2])]
+
+
+def read(crate: str, name: str, text: str) -> Edit:
     said = {"# clause": " "}
     changes = []
-    for key, text in re.findall(r"^(# clause|file|old|new): ?(.*)", path.read_text(), re.MULTILINE):
-        said[key] = text
+    for key, value in re.findall(r"^(# clause|file|old|new): ?(.*)", text, re.MULTILINE):
+        said[key] = value
         if key == "new":
-            changes.append((said["file"], said["old"], text))
+            changes.append((said["file"], said["old"], value))
     file, _, goal = said["# clause"].partition(" ")
-    return Edit(crate, path.stem, file, goal, changes)
+    return Edit(crate, name, file, goal, changes)
 
 
 def owner(header: str) -> str:
@@ -127,7 +137,7 @@ class Tree:
 
     def __init__(self, folder: str, source: Path = TOP) -> None:
         self.folder, self.is_ended = Path(folder) / "libraries", False
-        made = shutil.ignore_patterns("out", "must-fail", "mutants")
+        made = shutil.ignore_patterns("out", "must-fail", "mutants.edits")
         for name in LIBRARIES:
             shutil.copytree(source / "crates" / name, self.folder / "crates" / name, ignore=made)
         lines = (source / "crates.txt").read_text().splitlines(keepends=True)
@@ -188,8 +198,7 @@ def main() -> int:
     with tempfile.TemporaryDirectory() as folder:
         tree, runs = Tree(folder), []
         for crate in words.crates or LIBRARIES:
-            at = TOP / "crates" / crate / ("must-fail" if words.gate else "mutants")
-            edits = [read(crate, it) for it in sorted(at.glob("*.edit"))]
+            edits = edits_of(crate, words.gate)
             if edits and tree.check(crate).returncode:
                 print(f"{crate} isn't proved as it stands", flush=True)
                 failed += len(edits)

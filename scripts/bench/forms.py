@@ -1,15 +1,15 @@
 #!/usr/bin/env python3
 """forms.py [--check] [--page PAGE] [NAME..]: what each form that was decided by speed gains today.
 
-forms/NAME.edit has the road not taken, in the format of must-fail/: `file:`, `old:`, a text that stands there once, and
-`new:`. Here several lines `old:` or `new:` in a row are a text of so many lines. In front stand three lines more: what
-stands in the code, what instead, and the set of runs (instructions.py) that it is counted on. Each edit is planted in a
-copy, which is built without proofs and counted. The ratio is that of the instructions of the code as it stands to those
-with the edit, the geometric mean over the set: below 1 the form gains, and from 0.995 to 1.005 it could go. Both have
-to end with the same last line. Builds and counts are kept in scripts/bench/out by the checksums of what they are made
-of, so after a run that was broken off only the rest is made. --check only looks whether each file is there and has the
-old text once, which is looked at first in any case. --page puts the table in the place of that with the same head in a
-page.
+forms.edits has for each, after a line `# NAME`, the road not taken, in the format of must-fail/: `file:`, `old:`, a
+text that stands there once, and `new:`. Here several lines `old:` or `new:` in a row are a text of so many lines. In
+front stand three lines more: what stands in the code, what instead, and the set of runs (instructions.py) that it is
+counted on. Each edit is planted in a copy, which is built without proofs and counted. The ratio is that of the
+instructions of the code as it stands to those with the edit, the geometric mean over the set: below 1 the form gains,
+and from 0.995 to 1.005 it could go. Both have to end with the same last line. Builds and counts are kept in
+scripts/bench/out by the checksums of what they are made of, so after a run that was broken off only the rest is made.
+--check only looks whether each file is there and has the old text once, which is looked at first in any case. --page
+puts the table in the place of that with the same head in a page.
 """
 
 from __future__ import annotations
@@ -49,13 +49,13 @@ class Form(NamedTuple):
     changes: list[Change]
 
 
-def read(file: Path) -> Form:
+def read(name: str, block: str) -> Form:
     said: dict[str, str] = {}
     changes: list[Change] = []
     before = ""
-    for line in file.read_text().splitlines():
+    for line in block.rstrip("\n").splitlines():
         if not (found := LINE.fullmatch(line)):
-            raise SystemExit(f"{file}: what is {line!r}?")
+            raise SystemExit(f"forms.edits: {name}: what is {line!r}?")
         key, text = found[1], found[2] or ""
         if key == "new" and before == "new":
             changes[-1] = changes[-1]._replace(new=f"{changes[-1].new}\n{text}")
@@ -64,7 +64,12 @@ def read(file: Path) -> Form:
         else:
             said[key] = f"{said[key]}\n{text}" if key == before == "old" else text
         before = key
-    return Form(file.stem, said["# form"], said["# instead"], said["# set"], changes)
+    return Form(name, said["# form"], said["# instead"], said["# set"], changes)
+
+
+def read_all() -> list[Form]:
+    parts = re.split(r"^# (\w+)\n", (HERE / "forms.edits").read_text(), flags=re.MULTILINE)
+    return [read(name, block) for name, block in zip(parts[1::2], parts[2::2])]
 
 
 def planted(form: Form, tree: Path) -> dict[Path, str]:
@@ -136,7 +141,7 @@ def main() -> None:
     parser.add_argument("--page")
     parser.add_argument("name", nargs="*")
     given = parser.parse_args()
-    forms = [read(it) for it in sorted((HERE / "forms").glob("*.edit")) if not given.name or it.stem in given.name]
+    forms = [it for it in read_all() if not given.name or it.name in given.name]
     if (faults := stale(forms)) or given.check:
         sys.exit("\n".join(faults) or 0)
     lines, failed = [HEAD, "|---|---|---|---|---|---|"], 0
