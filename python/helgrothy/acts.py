@@ -10,7 +10,7 @@ import time
 from collections.abc import Callable, Sequence
 from typing import TYPE_CHECKING, Any
 
-from . import console
+from . import console, count_command
 from .console import write
 from .draw import drawing_of
 from .errors import HelgrothyError, NoPicture, OutOfTime, TableFault
@@ -67,8 +67,8 @@ def _show_found(found: Found, arguments: argparse.Namespace) -> int:
 
 def _check_one(arguments: argparse.Namespace) -> None:
     """Raises `ValueError` where more is asked for than a search of another kind finds."""
-    if arguments.all or arguments.limit or arguments.number:
-        raise ValueError("this search finds one solution: without --all, --limit and --number")
+    if arguments.all or arguments.limit or arguments.number or arguments.count:
+        raise ValueError("this search finds one solution: without --all, --limit, --number and --count")
     if arguments.shuffle is not None or arguments.up_to_symmetry:
         raise ValueError("this search has an order of its own: without --shuffle and --up-to-symmetry")
 
@@ -76,6 +76,9 @@ def _check_one(arguments: argparse.Namespace) -> None:
 def _show(problem: Problem[Any], arguments: argparse.Namespace) -> int:
     if arguments.cost is not None:
         return _show_least(problem, arguments)
+    if arguments.count:
+        count_command.check(arguments)
+        return count_command.show(problem, arguments)
     number = arguments.number or 1
     limit = None if arguments.all else arguments.limit or number
     if arguments.svg and limit != number:
@@ -310,7 +313,7 @@ def _drawn_or(drawing: Drawing, otherwise: Callable[[Sequence[str]], Any]) -> Ca
     return draw
 
 
-# ---- lint, export, why
+# ---- lint, export, why, count
 
 
 def lint(arguments: argparse.Namespace) -> int:
@@ -352,6 +355,10 @@ def why(arguments: argparse.Namespace) -> int:
         return _fail("there is a solution", 1)
     write(f"{line}\n" for line in conflict.lines(problem))
     return 0
+
+
+def count(arguments: argparse.Namespace) -> int:
+    return count_command.show(_problem(arguments.problem), arguments)
 
 
 # ---- what commands have in common

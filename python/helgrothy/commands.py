@@ -13,7 +13,7 @@ import argparse
 from collections.abc import Callable, Sequence
 from typing import TYPE_CHECKING, Any
 
-from . import __version__, console
+from . import __version__, console, count_command
 from .console import Parser, limited, number, positive, seconds
 from .make import KINDS
 
@@ -149,6 +149,7 @@ def _add_solving(parser: argparse.ArgumentParser) -> Any:
     which.add_argument("--number", type=positive, metavar="K", help="the K-th solution instead of the first")
     which.add_argument("--limit", type=positive, metavar="N", help="the first N solutions")
     which.add_argument("--all", action="store_true", help="all solutions")
+    count_command.add_option(which)
     _add_forms(parser, "a picture as SVG, of one solution")
     parser.add_argument("--seconds", type=seconds, metavar="S", help="give up after S seconds")
     way = parser.add_mutually_exclusive_group()
@@ -222,7 +223,7 @@ def _add_patterns(parser: argparse.ArgumentParser) -> None:
     )
 
 
-# ---- lint, export, why, page
+# ---- lint, export, why, count, page
 
 
 def _add_lint(commands: Any) -> None:
@@ -281,6 +282,10 @@ def _add_why(commands: Any) -> None:
     parser.set_defaults(command=_by("why"))
 
 
+def _add_count(commands: Any) -> None:
+    count_command.add(commands, _by("count"))
+
+
 def _add_page(commands: Any) -> None:
     from .page import commands as pages
 
@@ -309,6 +314,7 @@ _ADDS: dict[str, Callable[[Any], None]] = {
     "export": _add_export,
     "import": _add_import,
     "why": _add_why,
+    "count": _add_count,
     "page": _add_page,
     **{name: _add_searching(name) for name in ("search", "status", "result", "rows")},
 }

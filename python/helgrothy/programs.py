@@ -15,16 +15,17 @@ import stat
 import subprocess
 import time
 from collections.abc import Iterable, Iterator, Sequence
-from contextlib import contextmanager
+from contextlib import contextmanager, suppress
 from typing import IO
 
 from .errors import OutOfTime, ProgramFailed, ProgramNotFound
 
-PROGRAMS = ("dlx1", "dlx2", "dlx3", "dlxcheck", "dlx-span", "dlx-join")
+PROGRAMS = ("dlx1", "dlx2", "dlx3", "dlxcheck", "dlx-span", "dlx-join", "dlx-count")
 VARIABLE = "HELGROTHY_BIN"
 _CHUNK = 1 << 18
 # The system takes no longer times.
 _LONGEST = 1e9
+_NICE = 10
 _LAST_LINE = re.compile(r"Altogether (\d+) solutions?( \(limit\))?\.\Z")
 
 
@@ -125,6 +126,8 @@ class Run:
 
         path = find(program) if path is None else path
         self.program = program
+        # Whether its output came to an end.
+        self.has_ended = False
         self._deadline = None if seconds is None else time.monotonic() + min(seconds, _LONGEST)
         with tempfile.TemporaryFile() as given:
             given.writelines(text)
@@ -148,23 +151,37 @@ class Run:
             self._process.stdout.close()
         self._told.close()
 
-    def chunks(self) -> Iterator[bytes]:
-        """What the program prints, as it comes. Raises `OutOfTime`."""
-        assert self._process.stdout is not None
-        out = self._process.stdout.fileno()
+    def chunks(self, until: Run | None = None) -> Iterator[bytes]:
+        """What the program prints, as it comes, until it ends or another run does. Raises `OutOfTime`."""
+        out = self.fileno()
         _widen(out)
         while True:
-            if self._deadline is not None:
-                self._wait_for(out)
+            if (self._deadline is not None or until is not None) and not self._is_first(until):
+                return
             chunk = os.read(out, _CHUNK)
             if not chunk:
+                self.has_ended = True
                 return
             yield chunk
 
-    def _wait_for(self, out: int) -> None:
+    def _is_first(self, other: Run | None) -> bool:
+        """Waits for the program's output or the other's, and says whether it is the program's."""
         left = self._time_left()
-        if left <= 0 or not select.select([out], [], [], left)[0]:
+        both = [self] if other is None else [self, other]
+        ready = select.select(both, [], [], None if left == float("inf") else max(left, 0))[0] if left > 0 else []
+        if not ready:
             raise OutOfTime(f"{self.program} took longer than it was given")
+        return self in ready
+
+    def fileno(self) -> int:
+        """The program's output."""
+        assert self._process.stdout is not None
+        return self._process.stdout.fileno()
+
+    def go_behind(self) -> None:
+        """Lets processes of the usual priority go before this one, which loses nothing on a processor of its own."""
+        with suppress(OSError):
+            os.setpriority(os.PRIO_PROCESS, self._process.pid, os.getpriority(os.PRIO_PROCESS, 0) + _NICE)
 
     def _time_left(self) -> float:
         return float("inf") if self._deadline is None else self._deadline - time.monotonic()
