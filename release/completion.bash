@@ -55,7 +55,7 @@ _dlx() {
 _dlx_options() {
     options=
     case $1 in
-        'dlx1' | 'dlx2' | 'dlx3' | 'dlxcheck' | 'dlx-span' | 'dlx-join')
+        'dlx1' | 'dlx2' | 'dlx3' | 'dlxcheck' | 'dlx-span' | 'dlx-join' | 'dlx-count')
             options='' ;;
         'dlx-progress' | 'helgrothy')
             options='--help --version' ;;
@@ -76,13 +76,15 @@ _dlx_options() {
         'helgrothy make timetable')
             options='--help --daily' ;;
         'helgrothy solve')
-            options='--help --number --limit --all --svg --html --json --csv --seconds --shuffle --up-to-symmetry --cost --cell --row --column --label' ;;
+            options='--help --number --limit --all --count --svg --html --json --csv --seconds --shuffle --up-to-symmetry --cost --cell --row --column --label' ;;
         'helgrothy draw')
             options='--help --number --svg --html --json --csv --cell --row --column --label' ;;
         'helgrothy lint')
             options='--help --for' ;;
         'helgrothy why')
             options='--help --seconds' ;;
+        'helgrothy count')
+            options='--help --json --megabytes --seconds' ;;
         'helgrothy page')
             options='--help --port' ;;
         'helgrothy search')
@@ -92,21 +94,21 @@ _dlx_options() {
         'helgrothy rows')
             options='--help --count --for' ;;
         'helgrothy sudoku')
-            options='--help --regions --cages --number --limit --all --svg --html --json --csv --seconds --shuffle --up-to-symmetry' ;;
+            options='--help --regions --cages --number --limit --all --count --svg --html --json --csv --seconds --shuffle --up-to-symmetry' ;;
         'helgrothy queens' | 'helgrothy langford' | 'helgrothy words' | 'helgrothy nonogram' | 'helgrothy kakuro')
-            options='--help --number --limit --all --svg --html --json --csv --seconds --shuffle --up-to-symmetry' ;;
+            options='--help --number --limit --all --count --svg --html --json --csv --seconds --shuffle --up-to-symmetry' ;;
         'helgrothy polyominoes')
-            options='--help --no-turns --no-mirrors --number --limit --all --svg --html --json --csv --seconds --shuffle --up-to-symmetry' ;;
+            options='--help --no-turns --no-mirrors --number --limit --all --count --svg --html --json --csv --seconds --shuffle --up-to-symmetry' ;;
         'helgrothy polycubes')
-            options='--help --mirrors --some --number --limit --all --svg --html --json --csv --seconds --shuffle --up-to-symmetry' ;;
+            options='--help --mirrors --some --number --limit --all --count --svg --html --json --csv --seconds --shuffle --up-to-symmetry' ;;
         'helgrothy roster')
-            options='--help --rest --number --limit --all --svg --html --json --csv --seconds --shuffle --up-to-symmetry' ;;
+            options='--help --rest --number --limit --all --count --svg --html --json --csv --seconds --shuffle --up-to-symmetry' ;;
         'helgrothy roundrobin')
-            options='--help --double --number --limit --all --svg --html --json --csv --seconds --shuffle --up-to-symmetry' ;;
+            options='--help --double --number --limit --all --count --svg --html --json --csv --seconds --shuffle --up-to-symmetry' ;;
         'helgrothy tests')
-            options='--help --tests --strength --least --number --limit --all --svg --html --json --csv --seconds --shuffle --up-to-symmetry' ;;
+            options='--help --tests --strength --least --number --limit --all --count --svg --html --json --csv --seconds --shuffle --up-to-symmetry' ;;
         'helgrothy timetable')
-            options='--help --daily --number --limit --all --svg --html --json --csv --seconds --shuffle --up-to-symmetry' ;;
+            options='--help --daily --number --limit --all --count --svg --html --json --csv --seconds --shuffle --up-to-symmetry' ;;
         *) return 1 ;;
     esac
 }
@@ -117,7 +119,7 @@ _dlx_value() {
     case $1 in
         'helgrothy make sudoku --regions' | 'helgrothy make sudoku --cages' | 'helgrothy solve --cost' | 'helgrothy sudoku --regions' | 'helgrothy sudoku --cages')
             value='file' ;;
-        'helgrothy make tests --tests' | 'helgrothy make tests --strength' | 'helgrothy make timetable --daily' | 'helgrothy solve --number' | 'helgrothy solve --limit' | 'helgrothy solve --seconds' | 'helgrothy solve --shuffle' | 'helgrothy solve --cell' | 'helgrothy solve --row' | 'helgrothy solve --column' | 'helgrothy solve --label' | 'helgrothy draw --number' | 'helgrothy draw --cell' | 'helgrothy draw --row' | 'helgrothy draw --column' | 'helgrothy draw --label' | 'helgrothy why --seconds' | 'helgrothy page --port' | 'helgrothy search --jobs' | 'helgrothy search --dask' | 'helgrothy search --seconds' | 'helgrothy rows --count' | 'helgrothy sudoku --number' | 'helgrothy sudoku --limit' | 'helgrothy sudoku --seconds' | 'helgrothy sudoku --shuffle' | 'helgrothy queens --number' | 'helgrothy queens --limit' | 'helgrothy queens --seconds' | 'helgrothy queens --shuffle' | 'helgrothy langford --number' | 'helgrothy langford --limit' | 'helgrothy langford --seconds' | 'helgrothy langford --shuffle' | 'helgrothy polyominoes --number' | 'helgrothy polyominoes --limit' | 'helgrothy polyominoes --seconds' | 'helgrothy polyominoes --shuffle' | 'helgrothy polycubes --number' | 'helgrothy polycubes --limit' | 'helgrothy polycubes --seconds' | 'helgrothy polycubes --shuffle' | 'helgrothy words --number' | 'helgrothy words --limit' | 'helgrothy words --seconds' | 'helgrothy words --shuffle' | 'helgrothy nonogram --number' | 'helgrothy nonogram --limit' | 'helgrothy nonogram --seconds' | 'helgrothy nonogram --shuffle' | 'helgrothy kakuro --number' | 'helgrothy kakuro --limit' | 'helgrothy kakuro --seconds' | 'helgrothy kakuro --shuffle' | 'helgrothy roster --number' | 'helgrothy roster --limit' | 'helgrothy roster --seconds' | 'helgrothy roster --shuffle' | 'helgrothy roundrobin --number' | 'helgrothy roundrobin --limit' | 'helgrothy roundrobin --seconds' | 'helgrothy roundrobin --shuffle' | 'helgrothy tests --tests' | 'helgrothy tests --strength' | 'helgrothy tests --number' | 'helgrothy tests --limit' | 'helgrothy tests --seconds' | 'helgrothy tests --shuffle' | 'helgrothy timetable --daily' | 'helgrothy timetable --number' | 'helgrothy timetable --limit' | 'helgrothy timetable --seconds' | 'helgrothy timetable --shuffle')
+        'helgrothy make tests --tests' | 'helgrothy make tests --strength' | 'helgrothy make timetable --daily' | 'helgrothy solve --number' | 'helgrothy solve --limit' | 'helgrothy solve --seconds' | 'helgrothy solve --shuffle' | 'helgrothy solve --cell' | 'helgrothy solve --row' | 'helgrothy solve --column' | 'helgrothy solve --label' | 'helgrothy draw --number' | 'helgrothy draw --cell' | 'helgrothy draw --row' | 'helgrothy draw --column' | 'helgrothy draw --label' | 'helgrothy why --seconds' | 'helgrothy count --megabytes' | 'helgrothy count --seconds' | 'helgrothy page --port' | 'helgrothy search --jobs' | 'helgrothy search --dask' | 'helgrothy search --seconds' | 'helgrothy rows --count' | 'helgrothy sudoku --number' | 'helgrothy sudoku --limit' | 'helgrothy sudoku --seconds' | 'helgrothy sudoku --shuffle' | 'helgrothy queens --number' | 'helgrothy queens --limit' | 'helgrothy queens --seconds' | 'helgrothy queens --shuffle' | 'helgrothy langford --number' | 'helgrothy langford --limit' | 'helgrothy langford --seconds' | 'helgrothy langford --shuffle' | 'helgrothy polyominoes --number' | 'helgrothy polyominoes --limit' | 'helgrothy polyominoes --seconds' | 'helgrothy polyominoes --shuffle' | 'helgrothy polycubes --number' | 'helgrothy polycubes --limit' | 'helgrothy polycubes --seconds' | 'helgrothy polycubes --shuffle' | 'helgrothy words --number' | 'helgrothy words --limit' | 'helgrothy words --seconds' | 'helgrothy words --shuffle' | 'helgrothy nonogram --number' | 'helgrothy nonogram --limit' | 'helgrothy nonogram --seconds' | 'helgrothy nonogram --shuffle' | 'helgrothy kakuro --number' | 'helgrothy kakuro --limit' | 'helgrothy kakuro --seconds' | 'helgrothy kakuro --shuffle' | 'helgrothy roster --number' | 'helgrothy roster --limit' | 'helgrothy roster --seconds' | 'helgrothy roster --shuffle' | 'helgrothy roundrobin --number' | 'helgrothy roundrobin --limit' | 'helgrothy roundrobin --seconds' | 'helgrothy roundrobin --shuffle' | 'helgrothy tests --tests' | 'helgrothy tests --strength' | 'helgrothy tests --number' | 'helgrothy tests --limit' | 'helgrothy tests --seconds' | 'helgrothy tests --shuffle' | 'helgrothy timetable --daily' | 'helgrothy timetable --number' | 'helgrothy timetable --limit' | 'helgrothy timetable --seconds' | 'helgrothy timetable --shuffle')
             value='words' ;;
         'helgrothy lint --for' | 'helgrothy search --for' | 'helgrothy rows --for')
             value='words dlx1 dlx2 dlx3' ;;
@@ -131,14 +133,16 @@ _dlx_value() {
 _dlx_place() {
     value=
     case $1:$2 in
-        'dlxcheck:1' | 'helgrothy solve:1' | 'helgrothy draw:1' | 'helgrothy lint:1' | 'helgrothy export:2' | 'helgrothy import:2' | 'helgrothy why:1' | 'helgrothy search:1' | 'helgrothy rows:1')
+        'dlxcheck:1' | 'helgrothy solve:1' | 'helgrothy draw:1' | 'helgrothy lint:1' | 'helgrothy export:2' | 'helgrothy import:2' | 'helgrothy why:1' | 'helgrothy count:1' | 'helgrothy search:1' | 'helgrothy rows:1')
             value='problem' ;;
-        'dlxcheck:2' | 'dlx-span:1')
+        'dlxcheck:2' | 'dlx-span:1' | 'dlx-count:1')
             value='words 1 2 3' ;;
         'dlx-span:2' | 'dlx-join:1')
             value='words m0 m1' ;;
+        'dlx-count:2')
+            value='words b512' ;;
         'helgrothy:1')
-            value='words make solve draw lint export import why page search status result rows sudoku queens langford polyominoes polycubes words nonogram kakuro roster roundrobin tests timetable' ;;
+            value='words make solve draw lint export import why count page search status result rows sudoku queens langford polyominoes polycubes words nonogram kakuro roster roundrobin tests timetable' ;;
         'helgrothy make:1')
             value='words sudoku queens langford polyominoes polycubes words nonogram kakuro roster roundrobin tests timetable' ;;
         'helgrothy make polyominoes:1' | 'helgrothy polyominoes:1')
@@ -158,4 +162,4 @@ _dlx_place() {
     esac
 }
 
-complete -F _dlx dlx1 dlx2 dlx3 dlxcheck dlx-span dlx-join dlx-progress helgrothy
+complete -F _dlx dlx1 dlx2 dlx3 dlxcheck dlx-span dlx-join dlx-count dlx-progress helgrothy

@@ -41,6 +41,7 @@ set -g __helgrothy_commands \
     'dlxcheck' \
     'dlx-span' \
     'dlx-join' \
+    'dlx-count' \
     'dlx-progress' \
     'helgrothy' \
     'helgrothy make' \
@@ -62,6 +63,7 @@ set -g __helgrothy_commands \
     'helgrothy export' \
     'helgrothy import' \
     'helgrothy why' \
+    'helgrothy count' \
     'helgrothy page' \
     'helgrothy search' \
     'helgrothy status' \
@@ -102,6 +104,8 @@ set -g __helgrothy_valued \
     'helgrothy draw --label' \
     'helgrothy lint --for' \
     'helgrothy why --seconds' \
+    'helgrothy count --megabytes' \
+    'helgrothy count --seconds' \
     'helgrothy page --port' \
     'helgrothy search --jobs' \
     'helgrothy search --dask' \
@@ -170,6 +174,7 @@ complete -c dlx3 -f
 complete -c dlxcheck -f
 complete -c dlx-span -f
 complete -c dlx-join -f
+complete -c dlx-count -f
 complete -c dlx-progress -f
 complete -c helgrothy -f
 complete -c dlx-progress -n '__helgrothy_is \'dlx-progress\'' -s h -l help -d 'show this help message and exit'
@@ -183,6 +188,7 @@ complete -c helgrothy -n '__helgrothy_is \'helgrothy\' 1' -a lint -d 'tell all f
 complete -c helgrothy -n '__helgrothy_is \'helgrothy\' 1' -a export -d 'write a problem for another solver'
 complete -c helgrothy -n '__helgrothy_is \'helgrothy\' 1' -a import -d 'read another solver\'s answer as a listing'
 complete -c helgrothy -n '__helgrothy_is \'helgrothy\' 1' -a why -d 'tell which items conflict where there is no solution'
+complete -c helgrothy -n '__helgrothy_is \'helgrothy\' 1' -a count -d 'count the solutions of a problem'
 complete -c helgrothy -n '__helgrothy_is \'helgrothy\' 1' -a page -d 'a local page to type a problem in'
 complete -c helgrothy -n '__helgrothy_is \'helgrothy\' 1' -a search -d 'count or list all solutions, by all processors or many machines'
 complete -c helgrothy -n '__helgrothy_is \'helgrothy\' 1' -a status -d 'tell how far a search is'
@@ -240,6 +246,7 @@ complete -c helgrothy -n '__helgrothy_is \'helgrothy solve\'' -s h -l help -d 's
 complete -c helgrothy -n '__helgrothy_is \'helgrothy solve\'' -l number -r -f -d 'the K-th solution instead of the first'
 complete -c helgrothy -n '__helgrothy_is \'helgrothy solve\'' -l limit -r -f -d 'the first N solutions'
 complete -c helgrothy -n '__helgrothy_is \'helgrothy solve\'' -l all -d 'all solutions'
+complete -c helgrothy -n '__helgrothy_is \'helgrothy solve\'' -l count -d 'only how many solutions there are'
 complete -c helgrothy -n '__helgrothy_is \'helgrothy solve\'' -l svg -d 'a picture as SVG, of one solution'
 complete -c helgrothy -n '__helgrothy_is \'helgrothy solve\'' -l html -d 'a page for a browser: the solutions, their pictures, and the search\'s way'
 complete -c helgrothy -n '__helgrothy_is \'helgrothy solve\'' -l json -d 'a line of JSON for each solution: its number, the numbers of its options, their items, and the colours'
@@ -268,6 +275,10 @@ complete -c helgrothy -n '__helgrothy_is \'helgrothy export\'' -s h -l help -d '
 complete -c helgrothy -n '__helgrothy_is \'helgrothy import\'' -s h -l help -d 'show this help message and exit'
 complete -c helgrothy -n '__helgrothy_is \'helgrothy why\'' -s h -l help -d 'show this help message and exit'
 complete -c helgrothy -n '__helgrothy_is \'helgrothy why\'' -l seconds -r -f -d 'the time (default: 10)'
+complete -c helgrothy -n '__helgrothy_is \'helgrothy count\'' -s h -l help -d 'show this help message and exit'
+complete -c helgrothy -n '__helgrothy_is \'helgrothy count\'' -l json -d 'a line of JSON: the number, and the program that counted'
+complete -c helgrothy -n '__helgrothy_is \'helgrothy count\'' -l megabytes -r -f -d 'the memory of dlx-count (default: 512)'
+complete -c helgrothy -n '__helgrothy_is \'helgrothy count\'' -l seconds -r -f -d 'give up after S seconds'
 complete -c helgrothy -n '__helgrothy_is \'helgrothy page\'' -s h -l help -d 'show this help message and exit'
 complete -c helgrothy -n '__helgrothy_is \'helgrothy page\'' -l port -r -f -d 'the port (default: one that is free)'
 complete -c helgrothy -n '__helgrothy_is \'helgrothy search\'' -s h -l help -d 'show this help message and exit'
@@ -289,6 +300,7 @@ complete -c helgrothy -n '__helgrothy_is \'helgrothy sudoku\'' -l cages -r -F -d
 complete -c helgrothy -n '__helgrothy_is \'helgrothy sudoku\'' -l number -r -f -d 'the K-th solution instead of the first'
 complete -c helgrothy -n '__helgrothy_is \'helgrothy sudoku\'' -l limit -r -f -d 'the first N solutions'
 complete -c helgrothy -n '__helgrothy_is \'helgrothy sudoku\'' -l all -d 'all solutions'
+complete -c helgrothy -n '__helgrothy_is \'helgrothy sudoku\'' -l count -d 'only how many solutions there are'
 complete -c helgrothy -n '__helgrothy_is \'helgrothy sudoku\'' -l svg -d 'a picture as SVG, of one solution'
 complete -c helgrothy -n '__helgrothy_is \'helgrothy sudoku\'' -l html -d 'a page for a browser: the solutions, their pictures, and the search\'s way'
 complete -c helgrothy -n '__helgrothy_is \'helgrothy sudoku\'' -l json -d 'a line of JSON for each solution: its number, the numbers of its options, their items, and the colours'
@@ -300,6 +312,7 @@ complete -c helgrothy -n '__helgrothy_is \'helgrothy queens\'' -s h -l help -d '
 complete -c helgrothy -n '__helgrothy_is \'helgrothy queens\'' -l number -r -f -d 'the K-th solution instead of the first'
 complete -c helgrothy -n '__helgrothy_is \'helgrothy queens\'' -l limit -r -f -d 'the first N solutions'
 complete -c helgrothy -n '__helgrothy_is \'helgrothy queens\'' -l all -d 'all solutions'
+complete -c helgrothy -n '__helgrothy_is \'helgrothy queens\'' -l count -d 'only how many solutions there are'
 complete -c helgrothy -n '__helgrothy_is \'helgrothy queens\'' -l svg -d 'a picture as SVG, of one solution'
 complete -c helgrothy -n '__helgrothy_is \'helgrothy queens\'' -l html -d 'a page for a browser: the solutions, their pictures, and the search\'s way'
 complete -c helgrothy -n '__helgrothy_is \'helgrothy queens\'' -l json -d 'a line of JSON for each solution: its number, the numbers of its options, their items, and the colours'
@@ -311,6 +324,7 @@ complete -c helgrothy -n '__helgrothy_is \'helgrothy langford\'' -s h -l help -d
 complete -c helgrothy -n '__helgrothy_is \'helgrothy langford\'' -l number -r -f -d 'the K-th solution instead of the first'
 complete -c helgrothy -n '__helgrothy_is \'helgrothy langford\'' -l limit -r -f -d 'the first N solutions'
 complete -c helgrothy -n '__helgrothy_is \'helgrothy langford\'' -l all -d 'all solutions'
+complete -c helgrothy -n '__helgrothy_is \'helgrothy langford\'' -l count -d 'only how many solutions there are'
 complete -c helgrothy -n '__helgrothy_is \'helgrothy langford\'' -l svg -d 'a picture as SVG, of one solution'
 complete -c helgrothy -n '__helgrothy_is \'helgrothy langford\'' -l html -d 'a page for a browser: the solutions, their pictures, and the search\'s way'
 complete -c helgrothy -n '__helgrothy_is \'helgrothy langford\'' -l json -d 'a line of JSON for each solution: its number, the numbers of its options, their items, and the colours'
@@ -324,6 +338,7 @@ complete -c helgrothy -n '__helgrothy_is \'helgrothy polyominoes\'' -l no-mirror
 complete -c helgrothy -n '__helgrothy_is \'helgrothy polyominoes\'' -l number -r -f -d 'the K-th solution instead of the first'
 complete -c helgrothy -n '__helgrothy_is \'helgrothy polyominoes\'' -l limit -r -f -d 'the first N solutions'
 complete -c helgrothy -n '__helgrothy_is \'helgrothy polyominoes\'' -l all -d 'all solutions'
+complete -c helgrothy -n '__helgrothy_is \'helgrothy polyominoes\'' -l count -d 'only how many solutions there are'
 complete -c helgrothy -n '__helgrothy_is \'helgrothy polyominoes\'' -l svg -d 'a picture as SVG, of one solution'
 complete -c helgrothy -n '__helgrothy_is \'helgrothy polyominoes\'' -l html -d 'a page for a browser: the solutions, their pictures, and the search\'s way'
 complete -c helgrothy -n '__helgrothy_is \'helgrothy polyominoes\'' -l json -d 'a line of JSON for each solution: its number, the numbers of its options, their items, and the colours'
@@ -337,6 +352,7 @@ complete -c helgrothy -n '__helgrothy_is \'helgrothy polycubes\'' -l some -d 'pi
 complete -c helgrothy -n '__helgrothy_is \'helgrothy polycubes\'' -l number -r -f -d 'the K-th solution instead of the first'
 complete -c helgrothy -n '__helgrothy_is \'helgrothy polycubes\'' -l limit -r -f -d 'the first N solutions'
 complete -c helgrothy -n '__helgrothy_is \'helgrothy polycubes\'' -l all -d 'all solutions'
+complete -c helgrothy -n '__helgrothy_is \'helgrothy polycubes\'' -l count -d 'only how many solutions there are'
 complete -c helgrothy -n '__helgrothy_is \'helgrothy polycubes\'' -l svg -d 'a picture as SVG, of one solution'
 complete -c helgrothy -n '__helgrothy_is \'helgrothy polycubes\'' -l html -d 'a page for a browser: the solutions, their pictures, and the search\'s way'
 complete -c helgrothy -n '__helgrothy_is \'helgrothy polycubes\'' -l json -d 'a line of JSON for each solution: its number, the numbers of its options, their items, and the colours'
@@ -348,6 +364,7 @@ complete -c helgrothy -n '__helgrothy_is \'helgrothy words\'' -s h -l help -d 's
 complete -c helgrothy -n '__helgrothy_is \'helgrothy words\'' -l number -r -f -d 'the K-th solution instead of the first'
 complete -c helgrothy -n '__helgrothy_is \'helgrothy words\'' -l limit -r -f -d 'the first N solutions'
 complete -c helgrothy -n '__helgrothy_is \'helgrothy words\'' -l all -d 'all solutions'
+complete -c helgrothy -n '__helgrothy_is \'helgrothy words\'' -l count -d 'only how many solutions there are'
 complete -c helgrothy -n '__helgrothy_is \'helgrothy words\'' -l svg -d 'a picture as SVG, of one solution'
 complete -c helgrothy -n '__helgrothy_is \'helgrothy words\'' -l html -d 'a page for a browser: the solutions, their pictures, and the search\'s way'
 complete -c helgrothy -n '__helgrothy_is \'helgrothy words\'' -l json -d 'a line of JSON for each solution: its number, the numbers of its options, their items, and the colours'
@@ -359,6 +376,7 @@ complete -c helgrothy -n '__helgrothy_is \'helgrothy nonogram\'' -s h -l help -d
 complete -c helgrothy -n '__helgrothy_is \'helgrothy nonogram\'' -l number -r -f -d 'the K-th solution instead of the first'
 complete -c helgrothy -n '__helgrothy_is \'helgrothy nonogram\'' -l limit -r -f -d 'the first N solutions'
 complete -c helgrothy -n '__helgrothy_is \'helgrothy nonogram\'' -l all -d 'all solutions'
+complete -c helgrothy -n '__helgrothy_is \'helgrothy nonogram\'' -l count -d 'only how many solutions there are'
 complete -c helgrothy -n '__helgrothy_is \'helgrothy nonogram\'' -l svg -d 'a picture as SVG, of one solution'
 complete -c helgrothy -n '__helgrothy_is \'helgrothy nonogram\'' -l html -d 'a page for a browser: the solutions, their pictures, and the search\'s way'
 complete -c helgrothy -n '__helgrothy_is \'helgrothy nonogram\'' -l json -d 'a line of JSON for each solution: its number, the numbers of its options, their items, and the colours'
@@ -370,6 +388,7 @@ complete -c helgrothy -n '__helgrothy_is \'helgrothy kakuro\'' -s h -l help -d '
 complete -c helgrothy -n '__helgrothy_is \'helgrothy kakuro\'' -l number -r -f -d 'the K-th solution instead of the first'
 complete -c helgrothy -n '__helgrothy_is \'helgrothy kakuro\'' -l limit -r -f -d 'the first N solutions'
 complete -c helgrothy -n '__helgrothy_is \'helgrothy kakuro\'' -l all -d 'all solutions'
+complete -c helgrothy -n '__helgrothy_is \'helgrothy kakuro\'' -l count -d 'only how many solutions there are'
 complete -c helgrothy -n '__helgrothy_is \'helgrothy kakuro\'' -l svg -d 'a picture as SVG, of one solution'
 complete -c helgrothy -n '__helgrothy_is \'helgrothy kakuro\'' -l html -d 'a page for a browser: the solutions, their pictures, and the search\'s way'
 complete -c helgrothy -n '__helgrothy_is \'helgrothy kakuro\'' -l json -d 'a line of JSON for each solution: its number, the numbers of its options, their items, and the colours'
@@ -382,6 +401,7 @@ complete -c helgrothy -n '__helgrothy_is \'helgrothy roster\'' -l rest -d 'no sh
 complete -c helgrothy -n '__helgrothy_is \'helgrothy roster\'' -l number -r -f -d 'the K-th solution instead of the first'
 complete -c helgrothy -n '__helgrothy_is \'helgrothy roster\'' -l limit -r -f -d 'the first N solutions'
 complete -c helgrothy -n '__helgrothy_is \'helgrothy roster\'' -l all -d 'all solutions'
+complete -c helgrothy -n '__helgrothy_is \'helgrothy roster\'' -l count -d 'only how many solutions there are'
 complete -c helgrothy -n '__helgrothy_is \'helgrothy roster\'' -l svg -d 'a picture as SVG, of one solution'
 complete -c helgrothy -n '__helgrothy_is \'helgrothy roster\'' -l html -d 'a page for a browser: the solutions, their pictures, and the search\'s way'
 complete -c helgrothy -n '__helgrothy_is \'helgrothy roster\'' -l json -d 'a line of JSON for each solution: its number, the numbers of its options, their items, and the colours'
@@ -394,6 +414,7 @@ complete -c helgrothy -n '__helgrothy_is \'helgrothy roundrobin\'' -l double -d 
 complete -c helgrothy -n '__helgrothy_is \'helgrothy roundrobin\'' -l number -r -f -d 'the K-th solution instead of the first'
 complete -c helgrothy -n '__helgrothy_is \'helgrothy roundrobin\'' -l limit -r -f -d 'the first N solutions'
 complete -c helgrothy -n '__helgrothy_is \'helgrothy roundrobin\'' -l all -d 'all solutions'
+complete -c helgrothy -n '__helgrothy_is \'helgrothy roundrobin\'' -l count -d 'only how many solutions there are'
 complete -c helgrothy -n '__helgrothy_is \'helgrothy roundrobin\'' -l svg -d 'a picture as SVG, of one solution'
 complete -c helgrothy -n '__helgrothy_is \'helgrothy roundrobin\'' -l html -d 'a page for a browser: the solutions, their pictures, and the search\'s way'
 complete -c helgrothy -n '__helgrothy_is \'helgrothy roundrobin\'' -l json -d 'a line of JSON for each solution: its number, the numbers of its options, their items, and the colours'
@@ -408,6 +429,7 @@ complete -c helgrothy -n '__helgrothy_is \'helgrothy tests\'' -l least -d 'as fe
 complete -c helgrothy -n '__helgrothy_is \'helgrothy tests\'' -l number -r -f -d 'the K-th solution instead of the first'
 complete -c helgrothy -n '__helgrothy_is \'helgrothy tests\'' -l limit -r -f -d 'the first N solutions'
 complete -c helgrothy -n '__helgrothy_is \'helgrothy tests\'' -l all -d 'all solutions'
+complete -c helgrothy -n '__helgrothy_is \'helgrothy tests\'' -l count -d 'only how many solutions there are'
 complete -c helgrothy -n '__helgrothy_is \'helgrothy tests\'' -l svg -d 'a picture as SVG, of one solution'
 complete -c helgrothy -n '__helgrothy_is \'helgrothy tests\'' -l html -d 'a page for a browser: the solutions, their pictures, and the search\'s way'
 complete -c helgrothy -n '__helgrothy_is \'helgrothy tests\'' -l json -d 'a line of JSON for each solution: its number, the numbers of its options, their items, and the colours'
@@ -420,6 +442,7 @@ complete -c helgrothy -n '__helgrothy_is \'helgrothy timetable\'' -l daily -r -f
 complete -c helgrothy -n '__helgrothy_is \'helgrothy timetable\'' -l number -r -f -d 'the K-th solution instead of the first'
 complete -c helgrothy -n '__helgrothy_is \'helgrothy timetable\'' -l limit -r -f -d 'the first N solutions'
 complete -c helgrothy -n '__helgrothy_is \'helgrothy timetable\'' -l all -d 'all solutions'
+complete -c helgrothy -n '__helgrothy_is \'helgrothy timetable\'' -l count -d 'only how many solutions there are'
 complete -c helgrothy -n '__helgrothy_is \'helgrothy timetable\'' -l svg -d 'a picture as SVG, of one solution'
 complete -c helgrothy -n '__helgrothy_is \'helgrothy timetable\'' -l html -d 'a page for a browser: the solutions, their pictures, and the search\'s way'
 complete -c helgrothy -n '__helgrothy_is \'helgrothy timetable\'' -l json -d 'a line of JSON for each solution: its number, the numbers of its options, their items, and the colours'
@@ -436,6 +459,8 @@ complete -c dlx-span -n '__helgrothy_is \'dlx-span\' 1' -f -a '1 2 3'
 complete -c dlx-span -n '__helgrothy_is \'dlx-span\' 2' -f -a 'm0 m1'
 complete -c dlx-join -n '__helgrothy_is \'dlx-join\' 1' -f -a 'm0 m1'
 complete -c dlx-join -n '__helgrothy_is \'dlx-join\' 2+' -F
+complete -c dlx-count -n '__helgrothy_is \'dlx-count\' 1' -f -a '1 2 3'
+complete -c dlx-count -n '__helgrothy_is \'dlx-count\' 2' -f -a 'b512'
 complete -c helgrothy -n '__helgrothy_is \'helgrothy make sudoku\' 1' -F
 complete -c helgrothy -n '__helgrothy_is \'helgrothy make queens\' 1' -F
 complete -c helgrothy -n '__helgrothy_is \'helgrothy make polyominoes\' 1' -F -a 'pentominoes tetrominoes'
@@ -458,6 +483,7 @@ complete -c helgrothy -n '__helgrothy_is \'helgrothy export\' 2' -f -a '(__fish_
 complete -c helgrothy -n '__helgrothy_is \'helgrothy import\' 1' -f -a 'cadical clasp'
 complete -c helgrothy -n '__helgrothy_is \'helgrothy import\' 2' -f -a '(__fish_complete_suffix .dlx)'
 complete -c helgrothy -n '__helgrothy_is \'helgrothy why\' 1' -f -a '(__fish_complete_suffix .dlx)'
+complete -c helgrothy -n '__helgrothy_is \'helgrothy count\' 1' -f -a '(__fish_complete_suffix .dlx)'
 complete -c helgrothy -n '__helgrothy_is \'helgrothy search\' 1' -f -a '(__fish_complete_suffix .dlx)'
 complete -c helgrothy -n '__helgrothy_is \'helgrothy status\' 1' -f -a '(__fish_complete_directories)'
 complete -c helgrothy -n '__helgrothy_is \'helgrothy result\' 1' -f -a '(__fish_complete_directories)'
