@@ -28,7 +28,7 @@ from importlib import import_module
 from typing import TYPE_CHECKING, Any
 
 if TYPE_CHECKING:
-    from . import answers, cost, data, draw, export, lint, make, shuffle, symmetry, table, why
+    from . import answers, cost, data, draw, engines, export, lint, make, shuffle, symmetry, table, why
     from .errors import (
         AnswerFault,
         Fault,
@@ -76,6 +76,7 @@ __all__ = [
     "cost",
     "data",
     "draw",
+    "engines",
     "export",
     "lint",
     "make",

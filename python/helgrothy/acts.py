@@ -95,6 +95,7 @@ def _show(problem: Problem[Any], arguments: argparse.Namespace) -> int:
         most *= _SHARE_OF_PAGE
     last = float("inf") if most is None else time.monotonic() + most
     shown = 0
+    from . import engines
     from .watch import Watch
 
     solutions, among = _search(problem, arguments, limit, number, most)
@@ -113,6 +114,13 @@ def _show(problem: Problem[Any], arguments: argparse.Namespace) -> int:
         if page is not None:
             write([page.text(reached, False, [f"{error}"])])
         return _fail(f"{error}; {_counted(reached)} till then")
+    except engines.Claimed as claim:
+        # The bounds were counted beside the search.
+        told = f"{claim}; `helgrothy why` may say which items conflict"
+        console.say(told)
+        if page is not None:
+            write([page.text(0, False, [told])])
+        return 1
     # None where the page was full before.
     total = shown if solutions.total is None else solutions.total
     console.say(f"Altogether {_counted(total)}{among}{'.' if solutions.complete else ' (limit).'}")
@@ -139,6 +147,10 @@ def _search(
 
         return shuffle.solve(problem, arguments.shuffle, limit, spacing, seconds=seconds), ""
     if not arguments.up_to_symmetry:
+        if limit == 1 and arguments.number is None:
+            from . import engines
+
+            return engines.solve(problem, seconds, console.say), ""
         return problem.solve(limit, spacing, seconds=seconds), ""
     kind = KINDS.get(kind_of(problem.comments) or "")
     cell = arguments.cell or (kind.cell if kind else None)
@@ -348,7 +360,7 @@ def why(arguments: argparse.Namespace) -> int:
 
     problem = _problem(arguments.problem)
     try:
-        conflict = reasons.find(problem, arguments.seconds * _SHARE)
+        conflict = reasons.find(problem, arguments.seconds * _SHARE, console.say)
     except OutOfTime:
         return _fail(f"in {arguments.seconds:g} seconds it isn't known whether there is a solution")
     if conflict is None:

@@ -313,8 +313,12 @@ class Problem(Generic[Option]):
         spacing: int = 1,
         nulls: bool = False,
         seconds: float | None = None,
+        meanwhile: Callable[[Run], object] | None = None,
     ) -> Solutions[Option]:
-        """The solutions that have options of these places alone, searched in their order."""
+        """The solutions that have options of these places alone, searched in their order.
+
+        meanwhile: is called some times a second while the program finds none.
+        """
         check_numbers(limit, spacing)
 
         def begin(outcome: Outcome) -> Generator[Solution[Option], None, None]:
@@ -323,7 +327,7 @@ class Problem(Generic[Option]):
             with Run(f"dlx{self.kind}", _words(limit, spacing), _ended(wire.lines), seconds) as run:
                 try:
                     is_cut = yield from listings.stream(
-                        run.chunks(), give, lambda lines: self._is_whole(wire.all(lines)), outcome.count
+                        run.chunks(meanwhile), give, lambda lines: self._is_whole(wire.all(lines)), outcome.count
                     )
                     ending = Ending(run)
                 except OutOfTime as error:

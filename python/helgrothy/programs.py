@@ -14,9 +14,9 @@ import signal
 import stat
 import subprocess
 import time
-from collections.abc import Iterable, Iterator, Sequence
+from collections.abc import Callable, Iterable, Iterator, Sequence
 from contextlib import contextmanager, suppress
-from typing import IO
+from typing import IO, Protocol
 
 from .errors import OutOfTime, ProgramFailed, ProgramNotFound
 
@@ -26,6 +26,7 @@ _CHUNK = 1 << 18
 # The system takes no longer times.
 _LONGEST = 1e9
 _NICE = 10
+_LOOK_SECONDS = 0.1
 _LAST_LINE = re.compile(r"Altogether (\d+) solutions?( \(limit\))?\.\Z")
 
 
@@ -95,7 +96,15 @@ def undisturbed() -> Iterator[None]:
         signal.pthread_sigmask(signal.SIG_SETMASK, before)
 
 
-_running: set[subprocess.Popen[bytes]] = set()
+class Running(Protocol):
+    """A process that can be ended."""
+
+    def kill(self) -> None: ...
+
+    def wait(self) -> object: ...
+
+
+_running: set[Running] = set()
 
 
 def end_all() -> None:
@@ -128,7 +137,8 @@ class Run:
         self.program = program
         # Whether its output came to an end.
         self.has_ended = False
-        self._deadline = None if seconds is None else time.monotonic() + min(seconds, _LONGEST)
+        self._begun = time.monotonic()
+        self._deadline = None if seconds is None else self._begun + min(seconds, _LONGEST)
         with tempfile.TemporaryFile() as given:
             given.writelines(text)
             given.seek(0)
@@ -151,12 +161,18 @@ class Run:
             self._process.stdout.close()
         self._told.close()
 
-    def chunks(self, until: Run | None = None) -> Iterator[bytes]:
-        """What the program prints, as it comes, until it ends or another run does. Raises `OutOfTime`."""
+    def chunks(
+        self, meanwhile: Callable[[Run], object] | None = None, until: Run | None = None
+    ) -> Iterator[bytes]:
+        """What the program prints, as it comes, until it ends or another run does. Raises `OutOfTime`.
+
+        meanwhile: is called with this run some times a second while neither prints anything.
+        """
         out = self.fileno()
         _widen(out)
+        is_watched = self._deadline is not None or meanwhile is not None or until is not None
         while True:
-            if (self._deadline is not None or until is not None) and not self._is_first(until):
+            if is_watched and not self._is_first(until, meanwhile):
                 return
             chunk = os.read(out, _CHUNK)
             if not chunk:
@@ -164,14 +180,19 @@ class Run:
                 return
             yield chunk
 
-    def _is_first(self, other: Run | None) -> bool:
+    def _is_first(self, other: Run | None, meanwhile: Callable[[Run], object] | None) -> bool:
         """Waits for the program's output or the other's, and says whether it is the program's."""
-        left = self._time_left()
         both = [self] if other is None else [self, other]
-        ready = select.select(both, [], [], None if left == float("inf") else max(left, 0))[0] if left > 0 else []
-        if not ready:
-            raise OutOfTime(f"{self.program} took longer than it was given")
-        return self in ready
+        while True:
+            left = self._time_left()
+            if left <= 0:
+                raise OutOfTime(f"{self.program} took longer than it was given")
+            most = left if meanwhile is None else min(left, _LOOK_SECONDS)
+            ready = select.select(both, [], [], None if most == float("inf") else most)[0]
+            if ready:
+                return self in ready
+            if meanwhile is not None:
+                meanwhile(self)
 
     def fileno(self) -> int:
         """The program's output."""
@@ -193,6 +214,16 @@ class Run:
             return self._process.wait(left)
         except subprocess.TimeoutExpired:
             raise OutOfTime(f"{self.program} took longer than it was given") from None
+
+    def worked(self) -> float:
+        """How many seconds of a processor it has had; since its start, where the system doesn't tell that."""
+        try:
+            with open(f"/proc/{self._process.pid}/stat", "rb") as file:
+                # A name may have any byte in it.
+                words = file.read().rpartition(b")")[2].split()
+            return (int(words[11]) + int(words[12])) / os.sysconf("SC_CLK_TCK")
+        except (OSError, ValueError, IndexError):
+            return time.monotonic() - self._begun
 
     def messages(self) -> str:
         """What the program said on standard error."""
