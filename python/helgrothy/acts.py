@@ -28,8 +28,9 @@ if TYPE_CHECKING:
     from .page.file import File
     from .stream import Solutions
 
-# A reason is looked for so long where a problem turns out to have no solution.
+# A reason is looked for so long where a problem turns out to have no solution, and `lint` looks for a solution so long.
 _REASON_SECONDS = 2.0
+_SEARCH_SECONDS = 5.0
 # Of the time that a command is given, so that what was found by then can be told; a page is put together at the end.
 _SHARE = 0.9
 _SHARE_OF_PAGE = 0.7
@@ -331,7 +332,8 @@ def _drawn_or(drawing: Drawing, otherwise: Callable[[Sequence[str]], Any]) -> Ca
 def lint(arguments: argparse.Namespace) -> int:
     from .lint import lint as remarks_of
 
-    remarks = remarks_of(console.read(arguments.problem), int(arguments.program[-1]))
+    text = console.read(arguments.problem)
+    remarks = remarks_of(text, int(arguments.program[-1]), searching=_SEARCH_SECONDS, tell=console.say)
     write(f"{remark}\n" for remark in remarks)
     return 1 if remarks else 0
 

@@ -231,7 +231,8 @@ def _add_lint(commands: Any) -> None:
         "lint",
         help="tell all faults and slips of a problem",
         description="Tells each fault of a problem with its line and token, and what is no fault and yet often a slip: "
-        "items in no option, equal options, bounds whose sums can't work. Status 1 says that there was something.",
+        "items in no option, equal options, bounds whose sums can't work, and that there is no solution where a search "
+        "of a few seconds shows that. Status 1 says that there was something.",
     )
     console.add_problem(parser)
     parser.add_argument("--for", dest="program", choices=["dlx1", "dlx2", "dlx3"], default="dlx3", help="default: dlx3")

@@ -13,7 +13,7 @@ from unittest import mock
 from folders import InFolder
 from test_commands import run, run_until
 
-from helgrothy import Problem, console, engines, make, programs, sat_solver
+from helgrothy import Problem, commands, console, engines, make, programs, sat_solver
 
 # A problem with one solution, options 1, 4 and 5; and one without, of which no sum says so.
 TEXT = "A B C D | x\nA C x:1\nA B x:2\nC D x:1\nB\nD\n"
@@ -254,7 +254,7 @@ class Solving(WithEngines):
 
 
 class Whys(WithEngines):
-    """The same for `why`."""
+    """The same for `why` and `lint`."""
 
     def test_why_with_a_right_one(self):
         self.program("/bin/sleep 1000")
@@ -292,6 +292,28 @@ class Whys(WithEngines):
         self.program("exec /bin/sleep 1000")
         told = run_until("isn't known", "why", self.problem)[2]
         self.assertIn(f"{engines._HELP}\nhelgrothy: in ", told)
+
+    @mock.patch.object(commands, "_SEARCH_SECONDS", 60.0)
+    def test_lint(self):
+        self.assertEqual(run("lint", self.none)[:2], (1, "line 3: dlx1 finds that there is no solution\n"))
+        forget = self.after_the_engine()
+        self.engine("echo s UNSATISFIABLE; exit 20")
+        told = "line 1: cadical reports that there is no solution; dlx2 hasn't proved it\n"
+        self.assertEqual(run("lint", self.problem), (1, told, ""))
+        for name in ("nonsense", "a wrong solution", "dies", "floods"):
+            with self.subTest(name):
+                forget()
+                self.engine(FALSE[name][0])
+                status, out, told = run("lint", self.problem)
+                self.assertEqual((status, out), (0, ""))
+                self.assertIn(FALSE[name][1], told)
+                self.nothing_is_left()
+
+    @mock.patch.object(commands, "_SEARCH_SECONDS", 1.0)
+    def test_lint_with_one_that_hangs(self):
+        self.program("exec /bin/sleep 1000")
+        self.engine(HANG)
+        self.assertEqual(run("lint", self.problem), (0, "", ""))
 
 
 if __name__ == "__main__":
