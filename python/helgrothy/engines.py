@@ -1,9 +1,9 @@
 """One solution, by the programs or by another engine beside them: cadical or clasp, where the path has one.
 
-The program searches alone first. Where it has no solution soon the engine is given the problem too, and both go on
-until one of them answers. What the engine calls a solution is written as a listing and is one where dlxcheck judges it
-to be one; that there is none is what the engine reports, and no proof. Which solution is the first in their order, how
-many there are and that these are all is for the programs alone to say.
+The program searches alone first. Where it has no solution soon the engine is given the problem, and has a short turn of
+its own; then both go on until one of them answers. What the engine calls a solution is written as a listing and is one
+where dlxcheck judges it to be one; that there is none is what the engine reports, and no proof. Which solution is the
+first in their order, how many there are and that these are all is for the programs alone to say.
 """
 
 from __future__ import annotations
@@ -28,6 +28,8 @@ Option = TypeVar("Option", bound=Any)
 # The program is alone for so many seconds of a processor, with what this process takes beside it, or for this part of
 # its time where that is less.
 _ALONE_SECONDS, _ALONE_SHARE = 2.0, 0.25
+# Then the engine is, for so many seconds of a processor, or by the clock where it has had less; and both are.
+_TURN_SECONDS, _MOST_TURN = 2.0, 10.0
 # The engine may take so long, and the writing of the problem for it.
 _MOST_SECONDS, _MOST_WRITING = 600.0, 8.0
 # Behind so many seconds without a solution, and without an engine, a line says what would help.
@@ -103,7 +105,7 @@ class _Beside:
         if self._is_over:
             return
         if self._asked is not None:
-            self._look_at(self._asked)
+            self._look_at(self._asked, run)
         elif self._engine is None:
             if self._passed() > _LONG_SECONDS:
                 self.help()
@@ -113,6 +115,7 @@ class _Beside:
                 self._is_over = True
             else:
                 self._asked = Asked(self._engine, self._problem, sat_solver.text(self._engine, self._problem))
+                run.pause()
 
     def help(self) -> None:
         """Says what would help, where there is no engine."""
@@ -126,14 +129,18 @@ class _Beside:
     def _worked(self, run: Run) -> float:
         return run.worked() + time.process_time() - self._used
 
-    def _look_at(self, asked: Asked) -> None:
+    def _look_at(self, asked: Asked, run: Run) -> None:
+        passed = time.monotonic() - asked.begun
         try:
             if asked.has_ended():
                 self._end(asked.name, asked.numbers())
-            elif self._passed() > _MOST_SECONDS:
+            elif passed > _MOST_SECONDS:
                 raise NoAnswer(f"{asked.name} gave no answer in its time")
+            elif passed > _MOST_TURN or asked.worked() > _TURN_SECONDS:
+                run.go_on()
         except NoAnswer as error:
             self.__exit__()
+            run.go_on()
             self._tell(f"{error}; {self._program} goes on")
 
     def _end(self, name: str, numbers: list[int] | None) -> None:

@@ -18,6 +18,7 @@ from collections.abc import Callable, Iterable, Iterator, Sequence
 from contextlib import contextmanager, suppress
 from typing import IO, Protocol
 
+from . import guard
 from .errors import OutOfTime, ProgramFailed, ProgramNotFound
 
 PROGRAMS = ("dlx1", "dlx2", "dlx3", "dlxcheck", "dlx-span", "dlx-join", "dlx-count")
@@ -115,6 +116,17 @@ def end_all() -> None:
         _running.discard(process)
 
 
+def worked(program: int, begun: float) -> float:
+    """How many seconds of a processor a program has had; since it was begun, where the system doesn't tell that."""
+    try:
+        with open(f"/proc/{program}/stat", "rb") as file:
+            # A name may have any byte in it.
+            words = file.read().rpartition(b")")[2].split()
+        return (int(words[11]) + int(words[12])) / os.sysconf("SC_CLK_TCK")
+    except (OSError, ValueError, IndexError):
+        return time.monotonic() - begun
+
+
 class Run:
     """A run of a program over a text. As a context manager it leaves no process behind, however it is left.
 
@@ -138,6 +150,7 @@ class Run:
         # Whether its output came to an end.
         self.has_ended = False
         self._begun = time.monotonic()
+        self._is_paused = False
         self._deadline = None if seconds is None else self._begun + min(seconds, _LONGEST)
         with tempfile.TemporaryFile() as given:
             given.writelines(text)
@@ -156,6 +169,7 @@ class Run:
         if self._process.poll() is None:
             self._process.kill()
             self._process.wait()
+        self.go_on()
         _running.discard(self._process)
         if self._process.stdout is not None:
             self._process.stdout.close()
@@ -217,13 +231,20 @@ class Run:
 
     def worked(self) -> float:
         """How many seconds of a processor it has had; since its start, where the system doesn't tell that."""
-        try:
-            with open(f"/proc/{self._process.pid}/stat", "rb") as file:
-                # A name may have any byte in it.
-                words = file.read().rpartition(b")")[2].split()
-            return (int(words[11]) + int(words[12])) / os.sysconf("SC_CLK_TCK")
-        except (OSError, ValueError, IndexError):
-            return time.monotonic() - self._begun
+        return worked(self._process.pid, self._begun)
+
+    def pause(self) -> None:
+        """Stops it until it goes on, or this process ends."""
+        guard.watch(self._process.pid)
+        self._is_paused = True
+        self._process.send_signal(signal.SIGSTOP)
+
+    def go_on(self) -> None:
+        """Has it go on, where it was stopped."""
+        if self._is_paused:
+            self._process.send_signal(signal.SIGCONT)
+            self._is_paused = False
+            guard.let_go(self._process.pid)
 
     def messages(self) -> str:
         """What the program said on standard error."""

@@ -86,7 +86,7 @@ def judge(engine: str, problem: Problem[Any], options: Iterable[Any]) -> None:
 class Asked:
     """An engine at work on a problem. As a context manager it leaves no process behind, however it is left.
 
-    name: the engine's.
+    name: the engine's. begun: when it was begun, by the clock that only goes on.
     """
 
     def __init__(self, engine: Engine, problem: Problem[Any], text: Iterable[bytes]) -> None:
@@ -95,6 +95,7 @@ class Asked:
         self._problem = problem
         with tempfile.TemporaryFile() as given:
             given.writelines(text)
+            self.begun = time.monotonic()
             output = _OUTPUT + 2 * given.tell()
             given.seek(0)
             limits = [str(_MEMORY >> 10), str(output // _BLOCK)]
@@ -127,6 +128,10 @@ class Asked:
         status = self._process.wait()
         guard.let_go(-self._process.pid)
         return status
+
+    def worked(self) -> float:
+        """How many seconds of a processor it has had."""
+        return programs.worked(self._process.pid, self.begun)
 
     def has_ended(self) -> bool:
         """Whether the engine has ended by itself."""

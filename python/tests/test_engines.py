@@ -61,7 +61,7 @@ class WithEngines(InFolder):
         self.addCleanup(stack.close)
         stack.enter_context(mock.patch.dict(os.environ, PATH=os.path.join(self.folder, "path")))
         # The engine begins at once, and needs no 4 GB before it swells too much.
-        stack.enter_context(mock.patch.multiple(engines, _ALONE_SECONDS=-1.0, _ALONE_SHARE=-1.0))
+        stack.enter_context(mock.patch.multiple(engines, _ALONE_SECONDS=-1.0, _ALONE_SHARE=-1.0, _MOST_TURN=0.3))
         stack.enter_context(mock.patch.object(sat_solver, "_MEMORY", 1 << 28))
         self.addCleanup(self.nothing_is_left)
 
