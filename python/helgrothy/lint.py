@@ -9,7 +9,7 @@ from itertools import islice
 from typing import Any
 
 from . import engines, sat_solver
-from .errors import OutOfTime, ProgramFailed, ProgramNotFound
+from .errors import ProgramFailed, ProgramNotFound
 from .problem import Problem
 from .shown import shown
 from .sums import search
@@ -82,7 +82,8 @@ def _searched(problem: Problem[Any], seconds: float, tell: Callable[[str], objec
                 yield f"dlx{problem.kind} finds that there is no solution"
     except engines.Claimed as claim:
         yield str(claim)
-    except (OutOfTime, ProgramFailed, ProgramNotFound):
+    except (OSError, ProgramFailed, ProgramNotFound):
+        # That the time is over is an `OSError` too.
         pass
 
 
