@@ -94,21 +94,21 @@ _dlx_options() {
         'helgrothy rows')
             options='--help --count --for' ;;
         'helgrothy sudoku')
-            options='--help --regions --cages --number --limit --all --count --svg --html --json --csv --seconds --shuffle --up-to-symmetry' ;;
+            options='--help --regions --cages --number --limit --all --count --svg --html --json --csv --seconds --shuffle --up-to-symmetry --cost' ;;
         'helgrothy queens' | 'helgrothy langford' | 'helgrothy words' | 'helgrothy nonogram' | 'helgrothy kakuro')
-            options='--help --number --limit --all --count --svg --html --json --csv --seconds --shuffle --up-to-symmetry' ;;
+            options='--help --number --limit --all --count --svg --html --json --csv --seconds --shuffle --up-to-symmetry --cost' ;;
         'helgrothy polyominoes')
-            options='--help --no-turns --no-mirrors --number --limit --all --count --svg --html --json --csv --seconds --shuffle --up-to-symmetry' ;;
+            options='--help --no-turns --no-mirrors --number --limit --all --count --svg --html --json --csv --seconds --shuffle --up-to-symmetry --cost' ;;
         'helgrothy polycubes')
-            options='--help --mirrors --some --number --limit --all --count --svg --html --json --csv --seconds --shuffle --up-to-symmetry' ;;
+            options='--help --mirrors --some --number --limit --all --count --svg --html --json --csv --seconds --shuffle --up-to-symmetry --cost' ;;
         'helgrothy roster')
-            options='--help --rest --number --limit --all --count --svg --html --json --csv --seconds --shuffle --up-to-symmetry' ;;
+            options='--help --rest --number --limit --all --count --svg --html --json --csv --seconds --shuffle --up-to-symmetry --cost' ;;
         'helgrothy roundrobin')
-            options='--help --double --number --limit --all --count --svg --html --json --csv --seconds --shuffle --up-to-symmetry' ;;
+            options='--help --double --number --limit --all --count --svg --html --json --csv --seconds --shuffle --up-to-symmetry --cost' ;;
         'helgrothy tests')
-            options='--help --tests --strength --least --number --limit --all --count --svg --html --json --csv --seconds --shuffle --up-to-symmetry' ;;
+            options='--help --tests --strength --least --number --limit --all --count --svg --html --json --csv --seconds --shuffle --up-to-symmetry --cost' ;;
         'helgrothy timetable')
-            options='--help --daily --number --limit --all --count --svg --html --json --csv --seconds --shuffle --up-to-symmetry' ;;
+            options='--help --daily --number --limit --all --count --svg --html --json --csv --seconds --shuffle --up-to-symmetry --cost' ;;
         *) return 1 ;;
     esac
 }
@@ -117,7 +117,7 @@ _dlx_options() {
 _dlx_value() {
     value=
     case $1 in
-        'helgrothy make sudoku --regions' | 'helgrothy make sudoku --cages' | 'helgrothy solve --cost' | 'helgrothy sudoku --regions' | 'helgrothy sudoku --cages')
+        'helgrothy make sudoku --regions' | 'helgrothy make sudoku --cages' | 'helgrothy solve --cost' | 'helgrothy sudoku --regions' | 'helgrothy sudoku --cages' | 'helgrothy sudoku --cost' | 'helgrothy queens --cost' | 'helgrothy langford --cost' | 'helgrothy polyominoes --cost' | 'helgrothy polycubes --cost' | 'helgrothy words --cost' | 'helgrothy nonogram --cost' | 'helgrothy kakuro --cost' | 'helgrothy roster --cost' | 'helgrothy roundrobin --cost' | 'helgrothy tests --cost' | 'helgrothy timetable --cost')
             value='file' ;;
         'helgrothy make tests --tests' | 'helgrothy make tests --strength' | 'helgrothy make timetable --daily' | 'helgrothy solve --number' | 'helgrothy solve --limit' | 'helgrothy solve --seconds' | 'helgrothy solve --shuffle' | 'helgrothy solve --cell' | 'helgrothy solve --row' | 'helgrothy solve --column' | 'helgrothy solve --label' | 'helgrothy draw --number' | 'helgrothy draw --cell' | 'helgrothy draw --row' | 'helgrothy draw --column' | 'helgrothy draw --label' | 'helgrothy why --seconds' | 'helgrothy count --megabytes' | 'helgrothy count --seconds' | 'helgrothy page --port' | 'helgrothy search --jobs' | 'helgrothy search --dask' | 'helgrothy search --seconds' | 'helgrothy rows --count' | 'helgrothy sudoku --number' | 'helgrothy sudoku --limit' | 'helgrothy sudoku --seconds' | 'helgrothy sudoku --shuffle' | 'helgrothy queens --number' | 'helgrothy queens --limit' | 'helgrothy queens --seconds' | 'helgrothy queens --shuffle' | 'helgrothy langford --number' | 'helgrothy langford --limit' | 'helgrothy langford --seconds' | 'helgrothy langford --shuffle' | 'helgrothy polyominoes --number' | 'helgrothy polyominoes --limit' | 'helgrothy polyominoes --seconds' | 'helgrothy polyominoes --shuffle' | 'helgrothy polycubes --number' | 'helgrothy polycubes --limit' | 'helgrothy polycubes --seconds' | 'helgrothy polycubes --shuffle' | 'helgrothy words --number' | 'helgrothy words --limit' | 'helgrothy words --seconds' | 'helgrothy words --shuffle' | 'helgrothy nonogram --number' | 'helgrothy nonogram --limit' | 'helgrothy nonogram --seconds' | 'helgrothy nonogram --shuffle' | 'helgrothy kakuro --number' | 'helgrothy kakuro --limit' | 'helgrothy kakuro --seconds' | 'helgrothy kakuro --shuffle' | 'helgrothy roster --number' | 'helgrothy roster --limit' | 'helgrothy roster --seconds' | 'helgrothy roster --shuffle' | 'helgrothy roundrobin --number' | 'helgrothy roundrobin --limit' | 'helgrothy roundrobin --seconds' | 'helgrothy roundrobin --shuffle' | 'helgrothy tests --tests' | 'helgrothy tests --strength' | 'helgrothy tests --number' | 'helgrothy tests --limit' | 'helgrothy tests --seconds' | 'helgrothy tests --shuffle' | 'helgrothy timetable --daily' | 'helgrothy timetable --number' | 'helgrothy timetable --limit' | 'helgrothy timetable --seconds' | 'helgrothy timetable --shuffle')
             value='words' ;;

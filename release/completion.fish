@@ -120,53 +120,65 @@ set -g __helgrothy_valued \
     'helgrothy sudoku --limit' \
     'helgrothy sudoku --seconds' \
     'helgrothy sudoku --shuffle' \
+    'helgrothy sudoku --cost' \
     'helgrothy queens --number' \
     'helgrothy queens --limit' \
     'helgrothy queens --seconds' \
     'helgrothy queens --shuffle' \
+    'helgrothy queens --cost' \
     'helgrothy langford --number' \
     'helgrothy langford --limit' \
     'helgrothy langford --seconds' \
     'helgrothy langford --shuffle' \
+    'helgrothy langford --cost' \
     'helgrothy polyominoes --number' \
     'helgrothy polyominoes --limit' \
     'helgrothy polyominoes --seconds' \
     'helgrothy polyominoes --shuffle' \
+    'helgrothy polyominoes --cost' \
     'helgrothy polycubes --number' \
     'helgrothy polycubes --limit' \
     'helgrothy polycubes --seconds' \
     'helgrothy polycubes --shuffle' \
+    'helgrothy polycubes --cost' \
     'helgrothy words --number' \
     'helgrothy words --limit' \
     'helgrothy words --seconds' \
     'helgrothy words --shuffle' \
+    'helgrothy words --cost' \
     'helgrothy nonogram --number' \
     'helgrothy nonogram --limit' \
     'helgrothy nonogram --seconds' \
     'helgrothy nonogram --shuffle' \
+    'helgrothy nonogram --cost' \
     'helgrothy kakuro --number' \
     'helgrothy kakuro --limit' \
     'helgrothy kakuro --seconds' \
     'helgrothy kakuro --shuffle' \
+    'helgrothy kakuro --cost' \
     'helgrothy roster --number' \
     'helgrothy roster --limit' \
     'helgrothy roster --seconds' \
     'helgrothy roster --shuffle' \
+    'helgrothy roster --cost' \
     'helgrothy roundrobin --number' \
     'helgrothy roundrobin --limit' \
     'helgrothy roundrobin --seconds' \
     'helgrothy roundrobin --shuffle' \
+    'helgrothy roundrobin --cost' \
     'helgrothy tests --tests' \
     'helgrothy tests --strength' \
     'helgrothy tests --number' \
     'helgrothy tests --limit' \
     'helgrothy tests --seconds' \
     'helgrothy tests --shuffle' \
+    'helgrothy tests --cost' \
     'helgrothy timetable --daily' \
     'helgrothy timetable --number' \
     'helgrothy timetable --limit' \
     'helgrothy timetable --seconds' \
-    'helgrothy timetable --shuffle'
+    'helgrothy timetable --shuffle' \
+    'helgrothy timetable --cost'
 
 complete -c dlx1 -f
 complete -c dlx2 -f
@@ -254,7 +266,7 @@ complete -c helgrothy -n '__helgrothy_is \'helgrothy solve\'' -l csv -d 'a table
 complete -c helgrothy -n '__helgrothy_is \'helgrothy solve\'' -l seconds -r -f -d 'give up after S seconds'
 complete -c helgrothy -n '__helgrothy_is \'helgrothy solve\'' -l shuffle -r -f -d 'solutions in a random order of the options, the same for the same number'
 complete -c helgrothy -n '__helgrothy_is \'helgrothy solve\'' -l up-to-symmetry -d 'one solution of those that are images of each other by turns and mirrors of the board or box'
-complete -c helgrothy -n '__helgrothy_is \'helgrothy solve\'' -l cost -r -F -d 'the solution of least cost, from a file with a number for each option: by clasp where the path has it, else by dlx3'
+complete -c helgrothy -n '__helgrothy_is \'helgrothy solve\'' -l cost -r -F -d 'the solution of least cost, from a file: lines of names of items (or patterns) and a number, which each option that has them costs, or a number for each option; by clasp where the path has it, else by dlx3'
 complete -c helgrothy -n '__helgrothy_is \'helgrothy solve\'' -l cell -r -f -d 'a regular expression that finds the cells, as whole words, in an option\'s line; its first two groups (or those named row and column) are row and column, a number or a single letter, and a third one its label'
 complete -c helgrothy -n '__helgrothy_is \'helgrothy solve\'' -l row -r -f -d 'a regular expression that finds the name of a row in the words of an option: the picture is a table of these names, in the order of the file'
 complete -c helgrothy -n '__helgrothy_is \'helgrothy solve\'' -l column -r -f -d 'a regular expression that finds the name of a column in the words of an option: the picture is a table of these names, in the order of the file'
@@ -308,6 +320,7 @@ complete -c helgrothy -n '__helgrothy_is \'helgrothy sudoku\'' -l csv -d 'a tabl
 complete -c helgrothy -n '__helgrothy_is \'helgrothy sudoku\'' -l seconds -r -f -d 'give up after S seconds'
 complete -c helgrothy -n '__helgrothy_is \'helgrothy sudoku\'' -l shuffle -r -f -d 'solutions in a random order of the options, the same for the same number'
 complete -c helgrothy -n '__helgrothy_is \'helgrothy sudoku\'' -l up-to-symmetry -d 'one solution of those that are images of each other by turns and mirrors of the board or box'
+complete -c helgrothy -n '__helgrothy_is \'helgrothy sudoku\'' -l cost -r -F -d 'the solution of least cost, from a file: lines of names of items (or patterns) and a number, which each option that has them costs, or a number for each option; by clasp where the path has it, else by dlx3'
 complete -c helgrothy -n '__helgrothy_is \'helgrothy queens\'' -s h -l help -d 'show this help message and exit'
 complete -c helgrothy -n '__helgrothy_is \'helgrothy queens\'' -l number -r -f -d 'the K-th solution instead of the first'
 complete -c helgrothy -n '__helgrothy_is \'helgrothy queens\'' -l limit -r -f -d 'the first N solutions'
@@ -320,6 +333,7 @@ complete -c helgrothy -n '__helgrothy_is \'helgrothy queens\'' -l csv -d 'a tabl
 complete -c helgrothy -n '__helgrothy_is \'helgrothy queens\'' -l seconds -r -f -d 'give up after S seconds'
 complete -c helgrothy -n '__helgrothy_is \'helgrothy queens\'' -l shuffle -r -f -d 'solutions in a random order of the options, the same for the same number'
 complete -c helgrothy -n '__helgrothy_is \'helgrothy queens\'' -l up-to-symmetry -d 'one solution of those that are images of each other by turns and mirrors of the board or box'
+complete -c helgrothy -n '__helgrothy_is \'helgrothy queens\'' -l cost -r -F -d 'the solution of least cost, from a file: lines of names of items (or patterns) and a number, which each option that has them costs, or a number for each option; by clasp where the path has it, else by dlx3'
 complete -c helgrothy -n '__helgrothy_is \'helgrothy langford\'' -s h -l help -d 'show this help message and exit'
 complete -c helgrothy -n '__helgrothy_is \'helgrothy langford\'' -l number -r -f -d 'the K-th solution instead of the first'
 complete -c helgrothy -n '__helgrothy_is \'helgrothy langford\'' -l limit -r -f -d 'the first N solutions'
@@ -332,6 +346,7 @@ complete -c helgrothy -n '__helgrothy_is \'helgrothy langford\'' -l csv -d 'a ta
 complete -c helgrothy -n '__helgrothy_is \'helgrothy langford\'' -l seconds -r -f -d 'give up after S seconds'
 complete -c helgrothy -n '__helgrothy_is \'helgrothy langford\'' -l shuffle -r -f -d 'solutions in a random order of the options, the same for the same number'
 complete -c helgrothy -n '__helgrothy_is \'helgrothy langford\'' -l up-to-symmetry -d 'one solution of those that are images of each other by turns and mirrors of the board or box'
+complete -c helgrothy -n '__helgrothy_is \'helgrothy langford\'' -l cost -r -F -d 'the solution of least cost, from a file: lines of names of items (or patterns) and a number, which each option that has them costs, or a number for each option; by clasp where the path has it, else by dlx3'
 complete -c helgrothy -n '__helgrothy_is \'helgrothy polyominoes\'' -s h -l help -d 'show this help message and exit'
 complete -c helgrothy -n '__helgrothy_is \'helgrothy polyominoes\'' -l no-turns -d 'pieces may not be turned'
 complete -c helgrothy -n '__helgrothy_is \'helgrothy polyominoes\'' -l no-mirrors -d 'pieces may not be mirrored'
@@ -346,6 +361,7 @@ complete -c helgrothy -n '__helgrothy_is \'helgrothy polyominoes\'' -l csv -d 'a
 complete -c helgrothy -n '__helgrothy_is \'helgrothy polyominoes\'' -l seconds -r -f -d 'give up after S seconds'
 complete -c helgrothy -n '__helgrothy_is \'helgrothy polyominoes\'' -l shuffle -r -f -d 'solutions in a random order of the options, the same for the same number'
 complete -c helgrothy -n '__helgrothy_is \'helgrothy polyominoes\'' -l up-to-symmetry -d 'one solution of those that are images of each other by turns and mirrors of the board or box'
+complete -c helgrothy -n '__helgrothy_is \'helgrothy polyominoes\'' -l cost -r -F -d 'the solution of least cost, from a file: lines of names of items (or patterns) and a number, which each option that has them costs, or a number for each option; by clasp where the path has it, else by dlx3'
 complete -c helgrothy -n '__helgrothy_is \'helgrothy polycubes\'' -s h -l help -d 'show this help message and exit'
 complete -c helgrothy -n '__helgrothy_is \'helgrothy polycubes\'' -l mirrors -d 'mirror images of pieces may be used too'
 complete -c helgrothy -n '__helgrothy_is \'helgrothy polycubes\'' -l some -d 'pieces may be left over'
@@ -360,6 +376,7 @@ complete -c helgrothy -n '__helgrothy_is \'helgrothy polycubes\'' -l csv -d 'a t
 complete -c helgrothy -n '__helgrothy_is \'helgrothy polycubes\'' -l seconds -r -f -d 'give up after S seconds'
 complete -c helgrothy -n '__helgrothy_is \'helgrothy polycubes\'' -l shuffle -r -f -d 'solutions in a random order of the options, the same for the same number'
 complete -c helgrothy -n '__helgrothy_is \'helgrothy polycubes\'' -l up-to-symmetry -d 'one solution of those that are images of each other by turns and mirrors of the board or box'
+complete -c helgrothy -n '__helgrothy_is \'helgrothy polycubes\'' -l cost -r -F -d 'the solution of least cost, from a file: lines of names of items (or patterns) and a number, which each option that has them costs, or a number for each option; by clasp where the path has it, else by dlx3'
 complete -c helgrothy -n '__helgrothy_is \'helgrothy words\'' -s h -l help -d 'show this help message and exit'
 complete -c helgrothy -n '__helgrothy_is \'helgrothy words\'' -l number -r -f -d 'the K-th solution instead of the first'
 complete -c helgrothy -n '__helgrothy_is \'helgrothy words\'' -l limit -r -f -d 'the first N solutions'
@@ -372,6 +389,7 @@ complete -c helgrothy -n '__helgrothy_is \'helgrothy words\'' -l csv -d 'a table
 complete -c helgrothy -n '__helgrothy_is \'helgrothy words\'' -l seconds -r -f -d 'give up after S seconds'
 complete -c helgrothy -n '__helgrothy_is \'helgrothy words\'' -l shuffle -r -f -d 'solutions in a random order of the options, the same for the same number'
 complete -c helgrothy -n '__helgrothy_is \'helgrothy words\'' -l up-to-symmetry -d 'one solution of those that are images of each other by turns and mirrors of the board or box'
+complete -c helgrothy -n '__helgrothy_is \'helgrothy words\'' -l cost -r -F -d 'the solution of least cost, from a file: lines of names of items (or patterns) and a number, which each option that has them costs, or a number for each option; by clasp where the path has it, else by dlx3'
 complete -c helgrothy -n '__helgrothy_is \'helgrothy nonogram\'' -s h -l help -d 'show this help message and exit'
 complete -c helgrothy -n '__helgrothy_is \'helgrothy nonogram\'' -l number -r -f -d 'the K-th solution instead of the first'
 complete -c helgrothy -n '__helgrothy_is \'helgrothy nonogram\'' -l limit -r -f -d 'the first N solutions'
@@ -384,6 +402,7 @@ complete -c helgrothy -n '__helgrothy_is \'helgrothy nonogram\'' -l csv -d 'a ta
 complete -c helgrothy -n '__helgrothy_is \'helgrothy nonogram\'' -l seconds -r -f -d 'give up after S seconds'
 complete -c helgrothy -n '__helgrothy_is \'helgrothy nonogram\'' -l shuffle -r -f -d 'solutions in a random order of the options, the same for the same number'
 complete -c helgrothy -n '__helgrothy_is \'helgrothy nonogram\'' -l up-to-symmetry -d 'one solution of those that are images of each other by turns and mirrors of the board or box'
+complete -c helgrothy -n '__helgrothy_is \'helgrothy nonogram\'' -l cost -r -F -d 'the solution of least cost, from a file: lines of names of items (or patterns) and a number, which each option that has them costs, or a number for each option; by clasp where the path has it, else by dlx3'
 complete -c helgrothy -n '__helgrothy_is \'helgrothy kakuro\'' -s h -l help -d 'show this help message and exit'
 complete -c helgrothy -n '__helgrothy_is \'helgrothy kakuro\'' -l number -r -f -d 'the K-th solution instead of the first'
 complete -c helgrothy -n '__helgrothy_is \'helgrothy kakuro\'' -l limit -r -f -d 'the first N solutions'
@@ -396,6 +415,7 @@ complete -c helgrothy -n '__helgrothy_is \'helgrothy kakuro\'' -l csv -d 'a tabl
 complete -c helgrothy -n '__helgrothy_is \'helgrothy kakuro\'' -l seconds -r -f -d 'give up after S seconds'
 complete -c helgrothy -n '__helgrothy_is \'helgrothy kakuro\'' -l shuffle -r -f -d 'solutions in a random order of the options, the same for the same number'
 complete -c helgrothy -n '__helgrothy_is \'helgrothy kakuro\'' -l up-to-symmetry -d 'one solution of those that are images of each other by turns and mirrors of the board or box'
+complete -c helgrothy -n '__helgrothy_is \'helgrothy kakuro\'' -l cost -r -F -d 'the solution of least cost, from a file: lines of names of items (or patterns) and a number, which each option that has them costs, or a number for each option; by clasp where the path has it, else by dlx3'
 complete -c helgrothy -n '__helgrothy_is \'helgrothy roster\'' -s h -l help -d 'show this help message and exit'
 complete -c helgrothy -n '__helgrothy_is \'helgrothy roster\'' -l rest -d 'no shift on the next day that stands higher in the table'
 complete -c helgrothy -n '__helgrothy_is \'helgrothy roster\'' -l number -r -f -d 'the K-th solution instead of the first'
@@ -409,6 +429,7 @@ complete -c helgrothy -n '__helgrothy_is \'helgrothy roster\'' -l csv -d 'a tabl
 complete -c helgrothy -n '__helgrothy_is \'helgrothy roster\'' -l seconds -r -f -d 'give up after S seconds'
 complete -c helgrothy -n '__helgrothy_is \'helgrothy roster\'' -l shuffle -r -f -d 'solutions in a random order of the options, the same for the same number'
 complete -c helgrothy -n '__helgrothy_is \'helgrothy roster\'' -l up-to-symmetry -d 'one solution of those that are images of each other by turns and mirrors of the board or box'
+complete -c helgrothy -n '__helgrothy_is \'helgrothy roster\'' -l cost -r -F -d 'the solution of least cost, from a file: lines of names of items (or patterns) and a number, which each option that has them costs, or a number for each option; by clasp where the path has it, else by dlx3'
 complete -c helgrothy -n '__helgrothy_is \'helgrothy roundrobin\'' -s h -l help -d 'show this help message and exit'
 complete -c helgrothy -n '__helgrothy_is \'helgrothy roundrobin\'' -l double -d 'each two teams meet twice, once at each one\'s home'
 complete -c helgrothy -n '__helgrothy_is \'helgrothy roundrobin\'' -l number -r -f -d 'the K-th solution instead of the first'
@@ -422,6 +443,7 @@ complete -c helgrothy -n '__helgrothy_is \'helgrothy roundrobin\'' -l csv -d 'a 
 complete -c helgrothy -n '__helgrothy_is \'helgrothy roundrobin\'' -l seconds -r -f -d 'give up after S seconds'
 complete -c helgrothy -n '__helgrothy_is \'helgrothy roundrobin\'' -l shuffle -r -f -d 'solutions in a random order of the options, the same for the same number'
 complete -c helgrothy -n '__helgrothy_is \'helgrothy roundrobin\'' -l up-to-symmetry -d 'one solution of those that are images of each other by turns and mirrors of the board or box'
+complete -c helgrothy -n '__helgrothy_is \'helgrothy roundrobin\'' -l cost -r -F -d 'the solution of least cost, from a file: lines of names of items (or patterns) and a number, which each option that has them costs, or a number for each option; by clasp where the path has it, else by dlx3'
 complete -c helgrothy -n '__helgrothy_is \'helgrothy tests\'' -s h -l help -d 'show this help message and exit'
 complete -c helgrothy -n '__helgrothy_is \'helgrothy tests\'' -l tests -r -f -d 'so many tests'
 complete -c helgrothy -n '__helgrothy_is \'helgrothy tests\'' -l strength -r -f -d 'the values of any T factors come together (default: 2)'
@@ -437,6 +459,7 @@ complete -c helgrothy -n '__helgrothy_is \'helgrothy tests\'' -l csv -d 'a table
 complete -c helgrothy -n '__helgrothy_is \'helgrothy tests\'' -l seconds -r -f -d 'give up after S seconds'
 complete -c helgrothy -n '__helgrothy_is \'helgrothy tests\'' -l shuffle -r -f -d 'solutions in a random order of the options, the same for the same number'
 complete -c helgrothy -n '__helgrothy_is \'helgrothy tests\'' -l up-to-symmetry -d 'one solution of those that are images of each other by turns and mirrors of the board or box'
+complete -c helgrothy -n '__helgrothy_is \'helgrothy tests\'' -l cost -r -F -d 'the solution of least cost, from a file: lines of names of items (or patterns) and a number, which each option that has them costs, or a number for each option; by clasp where the path has it, else by dlx3'
 complete -c helgrothy -n '__helgrothy_is \'helgrothy timetable\'' -s h -l help -d 'show this help message and exit'
 complete -c helgrothy -n '__helgrothy_is \'helgrothy timetable\'' -l daily -r -f -d 'nobody has more than N lessons a day'
 complete -c helgrothy -n '__helgrothy_is \'helgrothy timetable\'' -l number -r -f -d 'the K-th solution instead of the first'
@@ -450,6 +473,7 @@ complete -c helgrothy -n '__helgrothy_is \'helgrothy timetable\'' -l csv -d 'a t
 complete -c helgrothy -n '__helgrothy_is \'helgrothy timetable\'' -l seconds -r -f -d 'give up after S seconds'
 complete -c helgrothy -n '__helgrothy_is \'helgrothy timetable\'' -l shuffle -r -f -d 'solutions in a random order of the options, the same for the same number'
 complete -c helgrothy -n '__helgrothy_is \'helgrothy timetable\'' -l up-to-symmetry -d 'one solution of those that are images of each other by turns and mirrors of the board or box'
+complete -c helgrothy -n '__helgrothy_is \'helgrothy timetable\'' -l cost -r -F -d 'the solution of least cost, from a file: lines of names of items (or patterns) and a number, which each option that has them costs, or a number for each option; by clasp where the path has it, else by dlx3'
 complete -c dlx1 -n '__helgrothy_is \'dlx1\' 1+' -f -a 'm1 m1000 t1 t2'
 complete -c dlx2 -n '__helgrothy_is \'dlx2\' 1+' -f -a 'm1 m1000 t1 t2'
 complete -c dlx3 -n '__helgrothy_is \'dlx3\' 1+' -f -a 'm1 m1000 t1 t2'

@@ -21,12 +21,11 @@ from .problem import Problem
 
 if TYPE_CHECKING:
     import argparse
-    from fractions import Fraction
-
     from .draw import Drawing
     from .make.kind import Kind
     from .page.file import File
     from .stream import Solutions
+    from .wishes import Costs
 
 # A reason is looked for so long where a problem turns out to have no solution, and `lint` looks for a solution so long.
 _REASON_SECONDS = 2.0
@@ -51,18 +50,21 @@ def make_and_solve(arguments: argparse.Namespace) -> int:
     if search is None:
         return _show(kind.make(arguments), arguments)
     _check_one(arguments)
+    if arguments.cost is not None:
+        raise ValueError("this search has no costs: without --cost")
     return _show_found(search(None if arguments.seconds is None else arguments.seconds * _SHARE), arguments)
 
 
-def _show_found(found: Found, arguments: argparse.Namespace) -> int:
-    """Shows the one solution that a search of another kind found."""
+def _show_found(found: Found, arguments: argparse.Namespace, notes: Sequence[str] = ()) -> int:
+    """Shows the one solution that a search of another kind found, and what is to be said of it."""
     options = found.problem.options
     page = _page(found.problem, arguments)
     show = _showing(found.problem, arguments, _listed_options, page)
     show(1, [options[number] for number in found.numbers], lambda _: found.numbers, lambda: untold(found.numbers))
-    console.say(found.remark)
+    for line in [found.remark, *notes]:
+        console.say(line)
     if page is not None:
-        write([page.text(1, False, [found.remark])])
+        write([page.text(1, False, [found.remark, *notes])])
     return 0
 
 
@@ -75,8 +77,9 @@ def _check_one(arguments: argparse.Namespace) -> None:
 
 
 def _show(problem: Problem[Any], arguments: argparse.Namespace) -> int:
-    if arguments.cost is not None:
-        return _show_least(problem, arguments)
+    costs = _costs(problem, arguments)
+    if costs is not None:
+        return _show_least(problem, costs, arguments)
     if arguments.count:
         count_command.check(arguments)
         return count_command.show(problem, arguments)
@@ -169,39 +172,56 @@ def _search(
     return symmetry.solve(problem, plan, limit, spacing, seconds=seconds), told
 
 
-def _show_least(problem: Problem[Any], arguments: argparse.Namespace) -> int:
-    from . import cost
+def _costs(problem: Problem[Any], arguments: argparse.Namespace) -> Costs | None:
+    """What the options cost, by the file of --cost and the wishes of a table; None without either."""
+    if arguments.cost is None and kind_of(problem.comments) is None:
+        return None
+    from . import wishes
 
+    of_table = wishes.of_table(problem)
+    if arguments.cost is None:
+        if of_table is None or not _asks_for_others(arguments):
+            return of_table
+        console.say("The wishes of the table don't count here: only where the cheapest solution is asked for.")
+        return None
     _check_one(arguments)
-    if arguments.problem == arguments.cost == "-":
+    if getattr(arguments, "problem", "") == arguments.cost == "-":
         raise ValueError("the problem and the costs can't both come from standard input")
     try:
-        costs = cost.read(read_text(arguments.cost), len(problem.options))
+        costs = wishes.read(read_text(arguments.cost), problem)
     except TableFault as fault:
         raise ValueError(f"{'standard input' if arguments.cost == '-' else arguments.cost}: {fault}") from None
+    return costs if of_table is None else costs + of_table
+
+
+def _asks_for_others(arguments: argparse.Namespace) -> bool:
+    """Whether other solutions than the cheapest one are asked for."""
+    is_counted = arguments.all or arguments.limit is not None or arguments.number is not None or arguments.count
+    return is_counted or arguments.shuffle is not None or arguments.up_to_symmetry
+
+
+def _show_least(problem: Problem[Any], costs: Costs, arguments: argparse.Namespace) -> int:
+    from . import cost
+    from .amounts import spelled
+
     deadline = None if arguments.seconds is None else time.monotonic() + arguments.seconds
     try:
-        least = cost.least(problem, costs, None if arguments.seconds is None else arguments.seconds * _SHARE)
+        least = cost.least(problem, costs.numbers, None if arguments.seconds is None else arguments.seconds * _SHARE)
     except cost.NotLeast as error:
         if error.best is None:
             return _fail(f"no solution was found in {arguments.seconds:g} seconds")
-        told = f"{_number(error.best.cost)} is the least cost that was found"
+        numbers = error.best.numbers
+        told = f"{spelled(error.best.cost)} is the least cost that was found"
         proof = f"in {arguments.seconds:g} seconds it wasn't proved that there is no less"
-        _show_found(Found(problem, error.best.numbers, f"helgrothy: {told}; {proof}"), arguments)
+        found = Found(problem, numbers, f"helgrothy: {told}; {proof}")
+        _show_found(found, arguments, list(costs.told(numbers)))
         return 2
     if least is None:
         for line in ["Altogether 0 solutions.", *_reasons(problem, deadline)]:
             console.say(line)
         return 1
-    told = f"The least cost is {_number(least.cost)}."
-    return _show_found(Found(problem, least.numbers, told), arguments)
-
-
-def _number(value: Fraction) -> str:
-    """A number that was a decimal one, as such."""
-    from decimal import Decimal
-
-    return str(value) if value.denominator == 1 else f"{Decimal(value.numerator) / Decimal(value.denominator):f}"
+    found = Found(problem, least.numbers, f"The least cost is {spelled(least.cost)}.")
+    return _show_found(found, arguments, list(costs.told(least.numbers)))
 
 
 def _counted(total: int) -> str:

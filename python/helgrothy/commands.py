@@ -122,12 +122,7 @@ def _add_solve(commands: Any) -> None:
         "The last line, on standard error, says how many solutions there were.",
     )
     console.add_problem(parser)
-    _add_solving(parser).add_argument(
-        "--cost",
-        metavar="COSTS",
-        help="the solution of least cost, from a file with a number for each option: by clasp where the path has it, "
-        "else by dlx3",
-    )
+    _add_solving(parser)
     _add_patterns(parser)
     parser.set_defaults(command=_by("solve"))
 
@@ -140,11 +135,10 @@ def _add_kind(commands: Any, kind: Kind) -> None:
     kind.add_search_arguments(parser)
     _add_solving(parser)
     patterns = {"cell": None, "row": None, "column": None, "label": None}
-    parser.set_defaults(command=_by("make_and_solve"), kind=kind, cost=None, **patterns)
+    parser.set_defaults(command=_by("make_and_solve"), kind=kind, **patterns)
 
 
-def _add_solving(parser: argparse.ArgumentParser) -> Any:
-    """The options of solving; returns the group of those that say in which way."""
+def _add_solving(parser: argparse.ArgumentParser) -> None:
     which = parser.add_mutually_exclusive_group()
     which.add_argument("--number", type=positive, metavar="K", help="the K-th solution instead of the first")
     which.add_argument("--limit", type=positive, metavar="N", help="the first N solutions")
@@ -164,7 +158,12 @@ def _add_solving(parser: argparse.ArgumentParser) -> Any:
         action="store_true",
         help="one solution of those that are images of each other by turns and mirrors of the board or box",
     )
-    return way
+    way.add_argument(
+        "--cost",
+        metavar="COSTS",
+        help="the solution of least cost, from a file: lines of names of items (or patterns) and a number, which each "
+        "option that has them costs, or a number for each option; by clasp where the path has it, else by dlx3",
+    )
 
 
 def _add_forms(parser: argparse.ArgumentParser, svg: str) -> None:
