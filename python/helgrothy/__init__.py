@@ -14,6 +14,7 @@ The modules, which need no import of their own:
     shuffle   gives solutions in a random order
     symmetry  gives one solution of those that are images of each other
     cost      finds the solution that costs least; `wishes` has costs by the names of items
+    given     has the solutions with some options and without others; `hint` finds a step that is forced
     lint      looks for slips in the text of a problem
     why       says why a problem has no solution
     export    writes problems for other solvers; `answers` reads what they answer
@@ -35,6 +36,8 @@ if TYPE_CHECKING:
         draw,
         engines,
         export,
+        given,
+        hint,
         lint,
         make,
         shuffle,
@@ -92,6 +95,8 @@ __all__ = [
     "draw",
     "engines",
     "export",
+    "given",
+    "hint",
     "lint",
     "make",
     "shuffle",

@@ -22,6 +22,7 @@ from .problem import Problem
 if TYPE_CHECKING:
     import argparse
     from .draw import Drawing
+    from .given import Given
     from .make.kind import Kind
     from .page.file import File
     from .stream import Solutions
@@ -50,8 +51,8 @@ def make_and_solve(arguments: argparse.Namespace) -> int:
     if search is None:
         return _show(kind.make(arguments), arguments)
     _check_one(arguments)
-    if arguments.cost is not None:
-        raise ValueError("this search has no costs: without --cost")
+    if arguments.cost is not None or arguments.given or arguments.forbidden:
+        raise ValueError("this search has a problem of its own: without --cost, --with and --without")
     return _show_found(search(None if arguments.seconds is None else arguments.seconds * _SHARE), arguments)
 
 
@@ -77,12 +78,16 @@ def _check_one(arguments: argparse.Namespace) -> None:
 
 
 def _show(problem: Problem[Any], arguments: argparse.Namespace) -> int:
+    from .given import Given
+    from .puzzle_acts import choices
+
+    asked = Given(problem, *choices(problem, arguments))
     costs = _costs(problem, arguments)
     if costs is not None:
-        return _show_least(problem, costs, arguments)
+        return _show_least(asked, costs, arguments)
     if arguments.count:
         count_command.check(arguments)
-        return count_command.show(problem, arguments)
+        return count_command.show(asked.inner, arguments)
     number = arguments.number or 1
     limit = None if arguments.all else arguments.limit or number
     if arguments.svg and limit != number:
@@ -102,11 +107,12 @@ def _show(problem: Problem[Any], arguments: argparse.Namespace) -> int:
     from . import engines
     from .watch import Watch
 
-    solutions, among = _search(problem, arguments, limit, number, most)
+    solutions, among = _search(asked.inner, arguments, limit, number, most)
     try:
-        with Watch(problem, console.say) as watch, solutions:
-            for found in solutions:
+        with Watch(asked.inner, console.say) as watch, solutions:
+            for searched in solutions:
                 watch.end()
+                found = asked.outer(searched)
                 show(arguments.number or shown + 1, found, lambda _: found.numbers, lambda: found.steps)
                 shown += 1
                 if page is not None and page.is_full:
@@ -128,7 +134,7 @@ def _show(problem: Problem[Any], arguments: argparse.Namespace) -> int:
     # None where the page was full before.
     total = shown if solutions.total is None else solutions.total
     console.say(f"Altogether {_counted(total)}{among}{'.' if solutions.complete else ' (limit).'}")
-    reasons = [] if total or watch.has_told else _reasons(problem, deadline)
+    reasons = [] if total or watch.has_told else _reasons(asked, deadline)
     for line in reasons:
         console.say(line)
     if page is not None:
@@ -200,46 +206,48 @@ def _asks_for_others(arguments: argparse.Namespace) -> bool:
     return is_counted or arguments.shuffle is not None or arguments.up_to_symmetry
 
 
-def _show_least(problem: Problem[Any], costs: Costs, arguments: argparse.Namespace) -> int:
+def _show_least(asked: Given[Any], costs: Costs, arguments: argparse.Namespace) -> int:
     from . import cost
     from .amounts import spelled
 
     deadline = None if arguments.seconds is None else time.monotonic() + arguments.seconds
+    seconds = None if arguments.seconds is None else arguments.seconds * _SHARE
     try:
-        least = cost.least(problem, costs.numbers, None if arguments.seconds is None else arguments.seconds * _SHARE)
+        least = cost.least(asked.inner, [costs.numbers[place] for place in asked.places], seconds)
     except cost.NotLeast as error:
         if error.best is None:
             return _fail(f"no solution was found in {arguments.seconds:g} seconds")
-        numbers = error.best.numbers
+        numbers = asked.numbers(error.best.numbers)
         told = f"{spelled(error.best.cost)} is the least cost that was found"
         proof = f"in {arguments.seconds:g} seconds it wasn't proved that there is no less"
-        found = Found(problem, numbers, f"helgrothy: {told}; {proof}")
+        found = Found(asked.problem, numbers, f"helgrothy: {told}; {proof}")
         _show_found(found, arguments, list(costs.told(numbers)))
         return 2
     if least is None:
-        for line in ["Altogether 0 solutions.", *_reasons(problem, deadline)]:
+        for line in ["Altogether 0 solutions.", *_reasons(asked, deadline)]:
             console.say(line)
         return 1
-    found = Found(problem, least.numbers, f"The least cost is {spelled(least.cost)}.")
-    return _show_found(found, arguments, list(costs.told(least.numbers)))
+    numbers = asked.numbers(least.numbers)
+    found = Found(asked.problem, numbers, f"The least cost is {spelled(least.cost)}.")
+    return _show_found(found, arguments, list(costs.told(numbers)))
 
 
 def _counted(total: int) -> str:
     return f"{total} solution{'' if total == 1 else 's'}"
 
 
-def _reasons(problem: Problem[Any], deadline: float | None) -> list[str]:
+def _reasons(asked: Given[Any], deadline: float | None) -> list[str]:
     """Why there is no solution, where a short while tells."""
     from . import why as reasons
 
     left = _REASON_SECONDS if deadline is None else min(_REASON_SECONDS, deadline - time.monotonic())
     try:
-        conflict = reasons.find(problem, left * _SHARE) if left > 0 else None
+        conflict = reasons.find(asked.inner, left * _SHARE) if left > 0 else None
     except OutOfTime:
         conflict = None
     if conflict is None:
         return [f"no reason was found in {max(left, 0):.2g} seconds; `helgrothy why` may look longer"]
-    return list(conflict.lines(problem))
+    return list(asked.told(conflict.lines(asked.inner)))
 
 
 # Shows a solution: its number, its options, what gives the places of these among the problem's, and what gives the
@@ -346,7 +354,7 @@ def _drawn_or(drawing: Drawing, otherwise: Callable[[Sequence[str]], Any]) -> Ca
     return draw
 
 
-# ---- lint, export, why, count
+# ---- lint, export, why, count, hint
 
 
 def lint(arguments: argparse.Namespace) -> int:
@@ -395,6 +403,12 @@ def count(arguments: argparse.Namespace) -> int:
     return count_command.show(_problem(arguments.problem), arguments)
 
 
+def hint(arguments: argparse.Namespace) -> int:
+    from . import puzzle_acts
+
+    return puzzle_acts.hint(_problem_or_made(arguments), arguments)
+
+
 # ---- what commands have in common
 
 
@@ -404,6 +418,11 @@ def _problem(path: str) -> Problem[Any]:
         return Problem.parse(text)
     except HelgrothyError as error:
         raise ValueError(f"{'standard input' if path == '-' else path}: {error}") from None
+
+
+def _problem_or_made(arguments: argparse.Namespace) -> Problem[Any]:
+    kind: Kind | None = arguments.kind
+    return _problem(arguments.problem) if kind is None else kind.make(arguments)
 
 
 def _fail(message: str, status: int = 2) -> int:

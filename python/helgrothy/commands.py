@@ -13,9 +13,10 @@ import argparse
 from collections.abc import Callable, Sequence
 from typing import TYPE_CHECKING, Any
 
-from . import __version__, console, count_command
+from . import __version__, console, count_command, puzzle_commands
 from .console import Parser, limited, number, positive, seconds
 from .make import KINDS
+from .puzzle_commands import add_choices
 
 if TYPE_CHECKING:
     from .make.kind import Kind
@@ -71,6 +72,8 @@ def _parser(words: Sequence[str]) -> argparse.ArgumentParser:
         _add_kind(commands, KINDS[first])
     elif first == "make":
         _add_make(commands, words[1] if len(words) > 1 else "")
+    elif first in puzzle_commands.NAMES:
+        puzzle_commands.add(commands, first, _by(first), words[1:])
     elif first in _ADDS:
         _ADDS[first](commands)
     elif first != "--version":
@@ -82,6 +85,8 @@ def _add_all(commands: Any) -> None:
     _add_make(commands)
     for add in _ADDS.values():
         add(commands)
+    for name in puzzle_commands.NAMES:
+        puzzle_commands.add(commands, name, _by(name))
     for kind in KINDS.values():
         _add_kind(commands, kind)
 
@@ -146,6 +151,7 @@ def _add_solving(parser: argparse.ArgumentParser) -> None:
     count_command.add_option(which)
     _add_forms(parser, "a picture as SVG, of one solution")
     parser.add_argument("--seconds", type=seconds, metavar="S", help="give up after S seconds")
+    add_choices(parser)
     way = parser.add_mutually_exclusive_group()
     way.add_argument(
         "--shuffle",

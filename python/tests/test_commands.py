@@ -23,7 +23,7 @@ MISTAKES = (
     (
         ["queens", "8", "--solutions", "3"],
         "helgrothy queens: --solutions: no such option (there are --number, --limit, --all, --count, --svg, --html, --json, --csv, --seconds, "
-        "--shuffle, --up-to-symmetry and --cost); see helgrothy queens --help",
+        "--with, --without, --shuffle, --up-to-symmetry and --cost); see helgrothy queens --help",
     ),
     (["queens", "8", "--limt=3"], "helgrothy queens: --limt: no such option (is it --limit?); see helgrothy queens --help"),
     (["queens", "8", "--al"], "helgrothy queens: --al: no such option (is it --all?); see helgrothy queens --help"),
