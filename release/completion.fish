@@ -82,6 +82,9 @@ set -g __helgrothy_commands \
     'helgrothy hint roundrobin' \
     'helgrothy hint tests' \
     'helgrothy hint timetable' \
+    'helgrothy minimal' \
+    'helgrothy minimal sudoku' \
+    'helgrothy minimal kakuro' \
     'helgrothy sudoku' \
     'helgrothy queens' \
     'helgrothy langford' \
@@ -173,6 +176,17 @@ set -g __helgrothy_valued \
     'helgrothy hint timetable --with' \
     'helgrothy hint timetable --without' \
     'helgrothy hint timetable --seconds' \
+    'helgrothy minimal --with' \
+    'helgrothy minimal --seed' \
+    'helgrothy minimal --seconds' \
+    'helgrothy minimal sudoku --regions' \
+    'helgrothy minimal sudoku --cages' \
+    'helgrothy minimal sudoku --with' \
+    'helgrothy minimal sudoku --seed' \
+    'helgrothy minimal sudoku --seconds' \
+    'helgrothy minimal kakuro --with' \
+    'helgrothy minimal kakuro --seed' \
+    'helgrothy minimal kakuro --seconds' \
     'helgrothy sudoku --regions' \
     'helgrothy sudoku --cages' \
     'helgrothy sudoku --number' \
@@ -290,6 +304,7 @@ complete -c helgrothy -n '__helgrothy_is \'helgrothy\' 1' -a status -d 'tell how
 complete -c helgrothy -n '__helgrothy_is \'helgrothy\' 1' -a result -d 'print what a search that is done has found'
 complete -c helgrothy -n '__helgrothy_is \'helgrothy\' 1' -a rows -d 'print rows at which a search may be cut'
 complete -c helgrothy -n '__helgrothy_is \'helgrothy\' 1' -a hint -d 'tell a step that is forced, and why'
+complete -c helgrothy -n '__helgrothy_is \'helgrothy\' 1' -a minimal -d 'drop what is given while there is one solution'
 complete -c helgrothy -n '__helgrothy_is \'helgrothy\' 1' -a sudoku -d 'make and solve a Sudoku from its clues'
 complete -c helgrothy -n '__helgrothy_is \'helgrothy\' 1' -a queens -d 'make and solve queens on a board, or in coloured regions'
 complete -c helgrothy -n '__helgrothy_is \'helgrothy\' 1' -a langford -d 'make and solve Langford\'s pairs'
@@ -343,6 +358,7 @@ complete -c helgrothy -n '__helgrothy_is \'helgrothy solve\'' -l number -r -f -d
 complete -c helgrothy -n '__helgrothy_is \'helgrothy solve\'' -l limit -r -f -d 'the first N solutions'
 complete -c helgrothy -n '__helgrothy_is \'helgrothy solve\'' -l all -d 'all solutions'
 complete -c helgrothy -n '__helgrothy_is \'helgrothy solve\'' -l count -d 'only how many solutions there are'
+complete -c helgrothy -n '__helgrothy_is \'helgrothy solve\'' -l unique -d 'whether there is exactly one solution; if not, two'
 complete -c helgrothy -n '__helgrothy_is \'helgrothy solve\'' -l svg -d 'a picture as SVG, of one solution'
 complete -c helgrothy -n '__helgrothy_is \'helgrothy solve\'' -l html -d 'a page for a browser: the solutions, their pictures, and the search\'s way'
 complete -c helgrothy -n '__helgrothy_is \'helgrothy solve\'' -l json -d 'a line of JSON for each solution: its number, the numbers of its options, their items, and the colours'
@@ -467,6 +483,22 @@ complete -c helgrothy -n '__helgrothy_is \'helgrothy hint timetable\'' -l daily 
 complete -c helgrothy -n '__helgrothy_is \'helgrothy hint timetable\'' -l with -r -f -d 'only solutions with the option that has these items, as many as it takes to be clear; may be repeated'
 complete -c helgrothy -n '__helgrothy_is \'helgrothy hint timetable\'' -l without -r -f -d 'only solutions without the options that have all of these items, or patterns of them; may be repeated'
 complete -c helgrothy -n '__helgrothy_is \'helgrothy hint timetable\'' -l seconds -r -f -d 'the time (default: 5)'
+complete -c helgrothy -n '__helgrothy_is \'helgrothy minimal\'' -s h -l help -d 'show this help message and exit'
+complete -c helgrothy -n '__helgrothy_is \'helgrothy minimal\'' -l with -r -f -d 'of a problem: the option with these items is given; may be repeated (default: all of a random solution)'
+complete -c helgrothy -n '__helgrothy_is \'helgrothy minimal\'' -l seed -r -f -d 'the random order (default: 0)'
+complete -c helgrothy -n '__helgrothy_is \'helgrothy minimal\'' -l seconds -r -f -d 'the time (default: 30)'
+complete -c helgrothy -n '__helgrothy_is \'helgrothy minimal\' 1' -a sudoku -d 'a Sudoku from its clues'
+complete -c helgrothy -n '__helgrothy_is \'helgrothy minimal\' 1' -a kakuro -d 'a Kakuro from its grid'
+complete -c helgrothy -n '__helgrothy_is \'helgrothy minimal sudoku\'' -s h -l help -d 'show this help message and exit'
+complete -c helgrothy -n '__helgrothy_is \'helgrothy minimal sudoku\'' -l regions -r -F -d 'a file with a picture of the regions, a letter for each place'
+complete -c helgrothy -n '__helgrothy_is \'helgrothy minimal sudoku\'' -l cages -r -F -d 'a file with a line for each cage, its sum and its places (12 r1c1 r1c2); or with a picture, a letter for each place, and after a blank line the sums (a=12 b=7)'
+complete -c helgrothy -n '__helgrothy_is \'helgrothy minimal sudoku\'' -l with -r -f -d 'of a problem: the option with these items is given; may be repeated (default: all of a random solution)'
+complete -c helgrothy -n '__helgrothy_is \'helgrothy minimal sudoku\'' -l seed -r -f -d 'the random order (default: 0)'
+complete -c helgrothy -n '__helgrothy_is \'helgrothy minimal sudoku\'' -l seconds -r -f -d 'the time (default: 30)'
+complete -c helgrothy -n '__helgrothy_is \'helgrothy minimal kakuro\'' -s h -l help -d 'show this help message and exit'
+complete -c helgrothy -n '__helgrothy_is \'helgrothy minimal kakuro\'' -l with -r -f -d 'of a problem: the option with these items is given; may be repeated (default: all of a random solution)'
+complete -c helgrothy -n '__helgrothy_is \'helgrothy minimal kakuro\'' -l seed -r -f -d 'the random order (default: 0)'
+complete -c helgrothy -n '__helgrothy_is \'helgrothy minimal kakuro\'' -l seconds -r -f -d 'the time (default: 30)'
 complete -c helgrothy -n '__helgrothy_is \'helgrothy sudoku\'' -s h -l help -d 'show this help message and exit'
 complete -c helgrothy -n '__helgrothy_is \'helgrothy sudoku\'' -l regions -r -F -d 'a file with a picture of the regions, a letter for each place'
 complete -c helgrothy -n '__helgrothy_is \'helgrothy sudoku\'' -l cages -r -F -d 'a file with a line for each cage, its sum and its places (12 r1c1 r1c2); or with a picture, a letter for each place, and after a blank line the sums (a=12 b=7)'
@@ -474,6 +506,7 @@ complete -c helgrothy -n '__helgrothy_is \'helgrothy sudoku\'' -l number -r -f -
 complete -c helgrothy -n '__helgrothy_is \'helgrothy sudoku\'' -l limit -r -f -d 'the first N solutions'
 complete -c helgrothy -n '__helgrothy_is \'helgrothy sudoku\'' -l all -d 'all solutions'
 complete -c helgrothy -n '__helgrothy_is \'helgrothy sudoku\'' -l count -d 'only how many solutions there are'
+complete -c helgrothy -n '__helgrothy_is \'helgrothy sudoku\'' -l unique -d 'whether there is exactly one solution; if not, two'
 complete -c helgrothy -n '__helgrothy_is \'helgrothy sudoku\'' -l svg -d 'a picture as SVG, of one solution'
 complete -c helgrothy -n '__helgrothy_is \'helgrothy sudoku\'' -l html -d 'a page for a browser: the solutions, their pictures, and the search\'s way'
 complete -c helgrothy -n '__helgrothy_is \'helgrothy sudoku\'' -l json -d 'a line of JSON for each solution: its number, the numbers of its options, their items, and the colours'
@@ -489,6 +522,7 @@ complete -c helgrothy -n '__helgrothy_is \'helgrothy queens\'' -l number -r -f -
 complete -c helgrothy -n '__helgrothy_is \'helgrothy queens\'' -l limit -r -f -d 'the first N solutions'
 complete -c helgrothy -n '__helgrothy_is \'helgrothy queens\'' -l all -d 'all solutions'
 complete -c helgrothy -n '__helgrothy_is \'helgrothy queens\'' -l count -d 'only how many solutions there are'
+complete -c helgrothy -n '__helgrothy_is \'helgrothy queens\'' -l unique -d 'whether there is exactly one solution; if not, two'
 complete -c helgrothy -n '__helgrothy_is \'helgrothy queens\'' -l svg -d 'a picture as SVG, of one solution'
 complete -c helgrothy -n '__helgrothy_is \'helgrothy queens\'' -l html -d 'a page for a browser: the solutions, their pictures, and the search\'s way'
 complete -c helgrothy -n '__helgrothy_is \'helgrothy queens\'' -l json -d 'a line of JSON for each solution: its number, the numbers of its options, their items, and the colours'
@@ -504,6 +538,7 @@ complete -c helgrothy -n '__helgrothy_is \'helgrothy langford\'' -l number -r -f
 complete -c helgrothy -n '__helgrothy_is \'helgrothy langford\'' -l limit -r -f -d 'the first N solutions'
 complete -c helgrothy -n '__helgrothy_is \'helgrothy langford\'' -l all -d 'all solutions'
 complete -c helgrothy -n '__helgrothy_is \'helgrothy langford\'' -l count -d 'only how many solutions there are'
+complete -c helgrothy -n '__helgrothy_is \'helgrothy langford\'' -l unique -d 'whether there is exactly one solution; if not, two'
 complete -c helgrothy -n '__helgrothy_is \'helgrothy langford\'' -l svg -d 'a picture as SVG, of one solution'
 complete -c helgrothy -n '__helgrothy_is \'helgrothy langford\'' -l html -d 'a page for a browser: the solutions, their pictures, and the search\'s way'
 complete -c helgrothy -n '__helgrothy_is \'helgrothy langford\'' -l json -d 'a line of JSON for each solution: its number, the numbers of its options, their items, and the colours'
@@ -521,6 +556,7 @@ complete -c helgrothy -n '__helgrothy_is \'helgrothy polyominoes\'' -l number -r
 complete -c helgrothy -n '__helgrothy_is \'helgrothy polyominoes\'' -l limit -r -f -d 'the first N solutions'
 complete -c helgrothy -n '__helgrothy_is \'helgrothy polyominoes\'' -l all -d 'all solutions'
 complete -c helgrothy -n '__helgrothy_is \'helgrothy polyominoes\'' -l count -d 'only how many solutions there are'
+complete -c helgrothy -n '__helgrothy_is \'helgrothy polyominoes\'' -l unique -d 'whether there is exactly one solution; if not, two'
 complete -c helgrothy -n '__helgrothy_is \'helgrothy polyominoes\'' -l svg -d 'a picture as SVG, of one solution'
 complete -c helgrothy -n '__helgrothy_is \'helgrothy polyominoes\'' -l html -d 'a page for a browser: the solutions, their pictures, and the search\'s way'
 complete -c helgrothy -n '__helgrothy_is \'helgrothy polyominoes\'' -l json -d 'a line of JSON for each solution: its number, the numbers of its options, their items, and the colours'
@@ -538,6 +574,7 @@ complete -c helgrothy -n '__helgrothy_is \'helgrothy polycubes\'' -l number -r -
 complete -c helgrothy -n '__helgrothy_is \'helgrothy polycubes\'' -l limit -r -f -d 'the first N solutions'
 complete -c helgrothy -n '__helgrothy_is \'helgrothy polycubes\'' -l all -d 'all solutions'
 complete -c helgrothy -n '__helgrothy_is \'helgrothy polycubes\'' -l count -d 'only how many solutions there are'
+complete -c helgrothy -n '__helgrothy_is \'helgrothy polycubes\'' -l unique -d 'whether there is exactly one solution; if not, two'
 complete -c helgrothy -n '__helgrothy_is \'helgrothy polycubes\'' -l svg -d 'a picture as SVG, of one solution'
 complete -c helgrothy -n '__helgrothy_is \'helgrothy polycubes\'' -l html -d 'a page for a browser: the solutions, their pictures, and the search\'s way'
 complete -c helgrothy -n '__helgrothy_is \'helgrothy polycubes\'' -l json -d 'a line of JSON for each solution: its number, the numbers of its options, their items, and the colours'
@@ -553,6 +590,7 @@ complete -c helgrothy -n '__helgrothy_is \'helgrothy words\'' -l number -r -f -d
 complete -c helgrothy -n '__helgrothy_is \'helgrothy words\'' -l limit -r -f -d 'the first N solutions'
 complete -c helgrothy -n '__helgrothy_is \'helgrothy words\'' -l all -d 'all solutions'
 complete -c helgrothy -n '__helgrothy_is \'helgrothy words\'' -l count -d 'only how many solutions there are'
+complete -c helgrothy -n '__helgrothy_is \'helgrothy words\'' -l unique -d 'whether there is exactly one solution; if not, two'
 complete -c helgrothy -n '__helgrothy_is \'helgrothy words\'' -l svg -d 'a picture as SVG, of one solution'
 complete -c helgrothy -n '__helgrothy_is \'helgrothy words\'' -l html -d 'a page for a browser: the solutions, their pictures, and the search\'s way'
 complete -c helgrothy -n '__helgrothy_is \'helgrothy words\'' -l json -d 'a line of JSON for each solution: its number, the numbers of its options, their items, and the colours'
@@ -568,6 +606,7 @@ complete -c helgrothy -n '__helgrothy_is \'helgrothy nonogram\'' -l number -r -f
 complete -c helgrothy -n '__helgrothy_is \'helgrothy nonogram\'' -l limit -r -f -d 'the first N solutions'
 complete -c helgrothy -n '__helgrothy_is \'helgrothy nonogram\'' -l all -d 'all solutions'
 complete -c helgrothy -n '__helgrothy_is \'helgrothy nonogram\'' -l count -d 'only how many solutions there are'
+complete -c helgrothy -n '__helgrothy_is \'helgrothy nonogram\'' -l unique -d 'whether there is exactly one solution; if not, two'
 complete -c helgrothy -n '__helgrothy_is \'helgrothy nonogram\'' -l svg -d 'a picture as SVG, of one solution'
 complete -c helgrothy -n '__helgrothy_is \'helgrothy nonogram\'' -l html -d 'a page for a browser: the solutions, their pictures, and the search\'s way'
 complete -c helgrothy -n '__helgrothy_is \'helgrothy nonogram\'' -l json -d 'a line of JSON for each solution: its number, the numbers of its options, their items, and the colours'
@@ -583,6 +622,7 @@ complete -c helgrothy -n '__helgrothy_is \'helgrothy kakuro\'' -l number -r -f -
 complete -c helgrothy -n '__helgrothy_is \'helgrothy kakuro\'' -l limit -r -f -d 'the first N solutions'
 complete -c helgrothy -n '__helgrothy_is \'helgrothy kakuro\'' -l all -d 'all solutions'
 complete -c helgrothy -n '__helgrothy_is \'helgrothy kakuro\'' -l count -d 'only how many solutions there are'
+complete -c helgrothy -n '__helgrothy_is \'helgrothy kakuro\'' -l unique -d 'whether there is exactly one solution; if not, two'
 complete -c helgrothy -n '__helgrothy_is \'helgrothy kakuro\'' -l svg -d 'a picture as SVG, of one solution'
 complete -c helgrothy -n '__helgrothy_is \'helgrothy kakuro\'' -l html -d 'a page for a browser: the solutions, their pictures, and the search\'s way'
 complete -c helgrothy -n '__helgrothy_is \'helgrothy kakuro\'' -l json -d 'a line of JSON for each solution: its number, the numbers of its options, their items, and the colours'
@@ -599,6 +639,7 @@ complete -c helgrothy -n '__helgrothy_is \'helgrothy roster\'' -l number -r -f -
 complete -c helgrothy -n '__helgrothy_is \'helgrothy roster\'' -l limit -r -f -d 'the first N solutions'
 complete -c helgrothy -n '__helgrothy_is \'helgrothy roster\'' -l all -d 'all solutions'
 complete -c helgrothy -n '__helgrothy_is \'helgrothy roster\'' -l count -d 'only how many solutions there are'
+complete -c helgrothy -n '__helgrothy_is \'helgrothy roster\'' -l unique -d 'whether there is exactly one solution; if not, two'
 complete -c helgrothy -n '__helgrothy_is \'helgrothy roster\'' -l svg -d 'a picture as SVG, of one solution'
 complete -c helgrothy -n '__helgrothy_is \'helgrothy roster\'' -l html -d 'a page for a browser: the solutions, their pictures, and the search\'s way'
 complete -c helgrothy -n '__helgrothy_is \'helgrothy roster\'' -l json -d 'a line of JSON for each solution: its number, the numbers of its options, their items, and the colours'
@@ -615,6 +656,7 @@ complete -c helgrothy -n '__helgrothy_is \'helgrothy roundrobin\'' -l number -r 
 complete -c helgrothy -n '__helgrothy_is \'helgrothy roundrobin\'' -l limit -r -f -d 'the first N solutions'
 complete -c helgrothy -n '__helgrothy_is \'helgrothy roundrobin\'' -l all -d 'all solutions'
 complete -c helgrothy -n '__helgrothy_is \'helgrothy roundrobin\'' -l count -d 'only how many solutions there are'
+complete -c helgrothy -n '__helgrothy_is \'helgrothy roundrobin\'' -l unique -d 'whether there is exactly one solution; if not, two'
 complete -c helgrothy -n '__helgrothy_is \'helgrothy roundrobin\'' -l svg -d 'a picture as SVG, of one solution'
 complete -c helgrothy -n '__helgrothy_is \'helgrothy roundrobin\'' -l html -d 'a page for a browser: the solutions, their pictures, and the search\'s way'
 complete -c helgrothy -n '__helgrothy_is \'helgrothy roundrobin\'' -l json -d 'a line of JSON for each solution: its number, the numbers of its options, their items, and the colours'
@@ -633,6 +675,7 @@ complete -c helgrothy -n '__helgrothy_is \'helgrothy tests\'' -l number -r -f -d
 complete -c helgrothy -n '__helgrothy_is \'helgrothy tests\'' -l limit -r -f -d 'the first N solutions'
 complete -c helgrothy -n '__helgrothy_is \'helgrothy tests\'' -l all -d 'all solutions'
 complete -c helgrothy -n '__helgrothy_is \'helgrothy tests\'' -l count -d 'only how many solutions there are'
+complete -c helgrothy -n '__helgrothy_is \'helgrothy tests\'' -l unique -d 'whether there is exactly one solution; if not, two'
 complete -c helgrothy -n '__helgrothy_is \'helgrothy tests\'' -l svg -d 'a picture as SVG, of one solution'
 complete -c helgrothy -n '__helgrothy_is \'helgrothy tests\'' -l html -d 'a page for a browser: the solutions, their pictures, and the search\'s way'
 complete -c helgrothy -n '__helgrothy_is \'helgrothy tests\'' -l json -d 'a line of JSON for each solution: its number, the numbers of its options, their items, and the colours'
@@ -649,6 +692,7 @@ complete -c helgrothy -n '__helgrothy_is \'helgrothy timetable\'' -l number -r -
 complete -c helgrothy -n '__helgrothy_is \'helgrothy timetable\'' -l limit -r -f -d 'the first N solutions'
 complete -c helgrothy -n '__helgrothy_is \'helgrothy timetable\'' -l all -d 'all solutions'
 complete -c helgrothy -n '__helgrothy_is \'helgrothy timetable\'' -l count -d 'only how many solutions there are'
+complete -c helgrothy -n '__helgrothy_is \'helgrothy timetable\'' -l unique -d 'whether there is exactly one solution; if not, two'
 complete -c helgrothy -n '__helgrothy_is \'helgrothy timetable\'' -l svg -d 'a picture as SVG, of one solution'
 complete -c helgrothy -n '__helgrothy_is \'helgrothy timetable\'' -l html -d 'a page for a browser: the solutions, their pictures, and the search\'s way'
 complete -c helgrothy -n '__helgrothy_is \'helgrothy timetable\'' -l json -d 'a line of JSON for each solution: its number, the numbers of its options, their items, and the colours'
@@ -711,6 +755,8 @@ complete -c helgrothy -n '__helgrothy_is \'helgrothy hint roster\' 1' -F
 complete -c helgrothy -n '__helgrothy_is \'helgrothy hint roundrobin\' 1' -F
 complete -c helgrothy -n '__helgrothy_is \'helgrothy hint tests\' 1' -F
 complete -c helgrothy -n '__helgrothy_is \'helgrothy hint timetable\' 1' -F
+complete -c helgrothy -n '__helgrothy_is \'helgrothy minimal sudoku\' 1' -F
+complete -c helgrothy -n '__helgrothy_is \'helgrothy minimal kakuro\' 1' -F
 complete -c helgrothy -n '__helgrothy_is \'helgrothy sudoku\' 1' -F
 complete -c helgrothy -n '__helgrothy_is \'helgrothy queens\' 1' -F
 complete -c helgrothy -n '__helgrothy_is \'helgrothy polyominoes\' 1' -F -a 'pentominoes tetrominoes'

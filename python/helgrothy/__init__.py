@@ -15,6 +15,7 @@ The modules, which need no import of their own:
     symmetry  gives one solution of those that are images of each other
     cost      finds the solution that costs least; `wishes` has costs by the names of items
     given     has the solutions with some options and without others; `hint` finds a step that is forced
+    minimal   finds out which of the options that are given a single solution takes
     lint      looks for slips in the text of a problem
     why       says why a problem has no solution
     export    writes problems for other solvers; `answers` reads what they answer
@@ -40,6 +41,7 @@ if TYPE_CHECKING:
         hint,
         lint,
         make,
+        minimal,
         shuffle,
         symmetry,
         table,
@@ -99,6 +101,7 @@ __all__ = [
     "hint",
     "lint",
     "make",
+    "minimal",
     "shuffle",
     "symmetry",
     "table",

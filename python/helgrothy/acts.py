@@ -71,15 +71,15 @@ def _show_found(found: Found, arguments: argparse.Namespace, notes: Sequence[str
 
 def _check_one(arguments: argparse.Namespace) -> None:
     """Raises `ValueError` where more is asked for than a search of another kind finds."""
-    if arguments.all or arguments.limit or arguments.number or arguments.count:
-        raise ValueError("this search finds one solution: without --all, --limit, --number and --count")
+    if arguments.all or arguments.limit or arguments.number or arguments.count or arguments.unique:
+        raise ValueError("this search finds one solution: without --all, --limit, --number, --count and --unique")
     if arguments.shuffle is not None or arguments.up_to_symmetry:
         raise ValueError("this search has an order of its own: without --shuffle and --up-to-symmetry")
 
 
 def _show(problem: Problem[Any], arguments: argparse.Namespace) -> int:
     from .given import Given
-    from .puzzle_acts import choices
+    from .puzzle_acts import choices, uniqueness
 
     asked = Given(problem, *choices(problem, arguments))
     costs = _costs(problem, arguments)
@@ -89,7 +89,7 @@ def _show(problem: Problem[Any], arguments: argparse.Namespace) -> int:
         count_command.check(arguments)
         return count_command.show(asked.inner, arguments)
     number = arguments.number or 1
-    limit = None if arguments.all else arguments.limit or number
+    limit = None if arguments.all else 2 if arguments.unique else arguments.limit or number
     if arguments.svg and limit != number:
         raise ValueError("an SVG is of one solution: --number says which")
     page = _page(problem, arguments)
@@ -104,6 +104,7 @@ def _show(problem: Problem[Any], arguments: argparse.Namespace) -> int:
         most *= _SHARE_OF_PAGE
     last = float("inf") if most is None else time.monotonic() + most
     shown = 0
+    pair: list[list[int]] = []
     from . import engines
     from .watch import Watch
 
@@ -115,6 +116,8 @@ def _show(problem: Problem[Any], arguments: argparse.Namespace) -> int:
                 found = asked.outer(searched)
                 show(arguments.number or shown + 1, found, lambda _: found.numbers, lambda: found.steps)
                 shown += 1
+                if arguments.unique:
+                    pair.append(found.numbers)
                 if page is not None and page.is_full:
                     break
                 if page is not None and time.monotonic() > last:
@@ -133,7 +136,11 @@ def _show(problem: Problem[Any], arguments: argparse.Namespace) -> int:
         return 1
     # None where the page was full before.
     total = shown if solutions.total is None else solutions.total
-    console.say(f"Altogether {_counted(total)}{among}{'.' if solutions.complete else ' (limit).'}")
+    if arguments.unique:
+        for line in uniqueness(problem, pair, among):
+            console.say(line)
+    else:
+        console.say(f"Altogether {_counted(total)}{among}{'.' if solutions.complete else ' (limit).'}")
     reasons = [] if total or watch.has_told else _reasons(asked, deadline)
     for line in reasons:
         console.say(line)
@@ -141,7 +148,7 @@ def _show(problem: Problem[Any], arguments: argparse.Namespace) -> int:
         write([page.text(total, bool(solutions.complete), reasons)])
     if total and not shown:
         return _fail(f"there is no solution {number}", 1)
-    return 0 if shown else 1
+    return 0 if shown and len(pair) < 2 else 1
 
 
 def _search(
@@ -202,8 +209,9 @@ def _costs(problem: Problem[Any], arguments: argparse.Namespace) -> Costs | None
 
 def _asks_for_others(arguments: argparse.Namespace) -> bool:
     """Whether other solutions than the cheapest one are asked for."""
-    is_counted = arguments.all or arguments.limit is not None or arguments.number is not None or arguments.count
-    return is_counted or arguments.shuffle is not None or arguments.up_to_symmetry
+    which = arguments.all or arguments.limit is not None or arguments.number is not None
+    ways = arguments.shuffle is not None or arguments.up_to_symmetry
+    return which or ways or arguments.count or arguments.unique
 
 
 def _show_least(asked: Given[Any], costs: Costs, arguments: argparse.Namespace) -> int:
@@ -354,7 +362,7 @@ def _drawn_or(drawing: Drawing, otherwise: Callable[[Sequence[str]], Any]) -> Ca
     return draw
 
 
-# ---- lint, export, why, count, hint
+# ---- lint, export, why, count, hint, minimal
 
 
 def lint(arguments: argparse.Namespace) -> int:
@@ -407,6 +415,18 @@ def hint(arguments: argparse.Namespace) -> int:
     from . import puzzle_acts
 
     return puzzle_acts.hint(_problem_or_made(arguments), arguments)
+
+
+def minimal(arguments: argparse.Namespace) -> int:
+    from . import puzzle_acts
+
+    if arguments.kind is None:
+        clues = puzzle_acts.clues_of(_problem(arguments.problem), arguments)
+    elif arguments.given:
+        raise ValueError("the clues stand in the puzzle: without --with")
+    else:
+        clues = arguments.kind.clues(arguments)
+    return puzzle_acts.minimal(clues, arguments)
 
 
 # ---- what commands have in common

@@ -149,6 +149,7 @@ def _add_solving(parser: argparse.ArgumentParser) -> None:
     which.add_argument("--limit", type=positive, metavar="N", help="the first N solutions")
     which.add_argument("--all", action="store_true", help="all solutions")
     count_command.add_option(which)
+    which.add_argument("--unique", action="store_true", help="whether there is exactly one solution; if not, two")
     _add_forms(parser, "a picture as SVG, of one solution")
     parser.add_argument("--seconds", type=seconds, metavar="S", help="give up after S seconds")
     add_choices(parser)

@@ -10,7 +10,7 @@ from collections.abc import Callable, Hashable, Iterable, Iterator, Sequence
 from typing import Any, Generic, TypeVar
 
 from .listing import Step
-from .named import Named
+from .named import Named, told
 from .problem import Problem
 from .solution import Solution
 from .wire import OfNumbers
@@ -24,10 +24,10 @@ def given(problem: Problem[Any], options: Sequence[str]) -> list[int]:
     """The places of options, each said by items that it alone has, `r1c3 r1=4`. Raises `ValueError`, with the nearest
     ones, for words that no option has, or several."""
     found = []
-    for text, places, named in _found(problem, options, "--with"):
+    for text, places in _found(problem, options, "--with"):
         if len(places) > 1:
-            told = f"{len(places)} options have this, name more items of one: {named.told(places)}"
-            raise ValueError(f"--with {text}: {told}")
+            reason = f"{len(places)} options have this, name more items of one: {told(problem, places)}"
+            raise ValueError(f"--with {text}: {reason}")
         found += places
     return found
 
@@ -35,10 +35,10 @@ def given(problem: Problem[Any], options: Sequence[str]) -> list[int]:
 def forbidden(problem: Problem[Any], options: Sequence[str]) -> set[int]:
     """The places of all options that are said by items, or patterns of them. Raises `ValueError` for words that no
     option has."""
-    return {place for _, places, _ in _found(problem, options, "--without") for place in places}
+    return {place for _, places in _found(problem, options, "--without") for place in places}
 
 
-def _found(problem: Problem[Any], options: Sequence[str], word: str) -> Iterator[tuple[str, list[int], Named]]:
+def _found(problem: Problem[Any], options: Sequence[str], word: str) -> Iterator[tuple[str, list[int]]]:
     """Each text with the places of the options that have its items, of which there is one at least."""
     if not options:
         return
@@ -48,7 +48,7 @@ def _found(problem: Problem[Any], options: Sequence[str], word: str) -> Iterator
         places = named.having(words)
         if not places:
             raise ValueError(f"{word} {text}: {named.why_none(words) if words else 'it names no item'}")
-        yield text, places, named
+        yield text, places
 
 
 class Given(Generic[Option]):

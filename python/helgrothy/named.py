@@ -18,6 +18,13 @@ from .syntax import Nearest
 _MOST_TOLD, _LONGEST = 3, 60
 
 
+def told(problem: Problem[Any], places: Collection[int]) -> str:
+    """The first options of some places, in words."""
+    lines = [problem.line(problem.options[place]) for place in list(places)[:_MOST_TOLD]]
+    cut = [line if len(line) <= _LONGEST else f"{line[:_LONGEST]} .." for line in lines]
+    return "; ".join(cut) + (f"; and {len(places) - len(cut)} more" if len(places) > len(cut) else "")
+
+
 class Named:
     """The options of a problem, to be found by names."""
 
@@ -49,14 +56,8 @@ class Named:
                 return f"{word}: no option gives {item} this colour"
         times = Counter(place for word in dict.fromkeys(words) for place in self._places(word))
         nearest = sorted(times, key=lambda place: (-times[place], place))
-        told = f"; the nearest are {self.told(nearest)}" if nearest else ""
-        return f"no option has all of these{told}"
-
-    def told(self, places: Collection[int]) -> str:
-        """The first options of some places."""
-        lines = [self._problem.line(self._problem.options[place]) for place in list(places)[:_MOST_TOLD]]
-        cut = [line if len(line) <= _LONGEST else f"{line[:_LONGEST]} .." for line in lines]
-        return "; ".join(cut) + (f"; and {len(places) - len(cut)} more" if len(places) > len(cut) else "")
+        those = f"; the nearest are {told(self._problem, nearest)}" if nearest else ""
+        return f"no option has all of these{those}"
 
     def _items(self, word: str) -> Iterator[str]:
         if word in self._held:

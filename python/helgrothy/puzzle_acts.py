@@ -13,6 +13,9 @@ from .puzzle_commands import WITH_CLUES
 
 if TYPE_CHECKING:
     import argparse
+    from collections.abc import Sequence
+
+    from .make.clues import Clues
 
 # Of the time that a command is given, so that what was found by then can be told.
 _SHARE = 0.9
@@ -26,6 +29,9 @@ def choices(problem: Problem[Any], arguments: argparse.Namespace) -> tuple[list[
         if place in dropped:
             raise ValueError(f"--with {text}: a --without forbids this option")
     return held, dropped
+
+
+# ---- hint
 
 
 def hint(problem: Problem[Any], arguments: argparse.Namespace) -> int:
@@ -43,4 +49,49 @@ def hint(problem: Problem[Any], arguments: argparse.Namespace) -> int:
         console.say(f"helgrothy: in {arguments.seconds:g} seconds nothing was found that is forced")
         return 2
     console.write(f"{line}\n" for line in hints.lines(problem, found))
+    return 0
+
+
+# ---- unique, minimal
+
+
+def uniqueness(problem: Problem[Any], found: Sequence[Sequence[int]], among: str = "") -> list[str]:
+    """Whether there is exactly one solution, of two at most that were found: in words."""
+    if len(found) == 1:
+        return [f"There is exactly one solution{among}."]
+    if not found:
+        return ["There is no solution."]
+    from .minimal import differences
+
+    return [f"There are several solutions{among}. Of these two:", *differences(problem, *found)]
+
+
+def clues_of(problem: Problem[Any], arguments: argparse.Namespace) -> Clues:
+    """Options of a problem as clues, of which those are given that the command says."""
+    from .make.clues import Clues
+
+    return Clues(
+        problem,
+        given(problem, arguments.given),
+        list(range(len(problem.options))),
+        lambda kept: "".join(f"{problem.line(problem.options[place])}\n" for place in kept),
+    )
+
+
+def minimal(clues: Clues, arguments: argparse.Namespace) -> int:
+    from . import minimal as minimals
+
+    left = arguments.seconds * _SHARE
+    try:
+        cells = set(clues.cells)
+        held = clues.given or [one for one in minimals.some(clues.problem, arguments.seed, left) if one in cells]
+        found = minimals.find(clues.problem, held, arguments.seed, left)
+    except minimals.NotUnique as none:
+        for line in uniqueness(clues.problem, none.solutions):
+            console.say(line)
+        return 1
+    console.write([clues.write(found.kept)])
+    enough = f"{len(found.kept)} of {len(held)} clues {'is' if len(found.kept) == 1 else 'are'} enough"
+    untried = f"{found.untried} weren't tried in {arguments.seconds:g} seconds"
+    console.say(f"{enough}; {untried if found.untried else 'none of them can go'}.")
     return 0

@@ -3,15 +3,16 @@
 from __future__ import annotations
 
 import argparse
+import os
 from collections.abc import Callable, Sequence
 from typing import Any
 
 from . import console
-from .console import Parser, seconds
+from .console import Parser, number, seconds
 from .make import KINDS
 
 # The commands; `add` has what each one takes.
-NAMES = ("hint",)
+NAMES = ("hint", "minimal")
 # The kinds whose clues are options.
 WITH_CLUES = ("sudoku", "kakuro")
 
@@ -22,10 +23,15 @@ class _KindOrProblem(argparse._SubParsersAction):  # type: ignore[type-arg]
     # For the parser's look at the word.
     takes_others = True
     otherwise: argparse.ArgumentParser
+    # The names of all kinds that it takes; the parser may have fewer.
+    kinds: Sequence[str]
 
     def __call__(self, parser: Any, namespace: Any, values: Any, option_string: Any = None) -> None:
         if values[0] in self._name_parser_map:
             super().__call__(parser, namespace, values, option_string)
+        elif values[0] in KINDS and not os.path.exists(values[0]):
+            *names, last = self.kinds
+            parser.error(f"{values[0]}: neither a problem nor {', '.join(names)} or {last}")
         else:
             vars(namespace).update(vars(self.otherwise.parse_args(values)))
 
@@ -38,16 +44,18 @@ def _add_command(
     kinds: Sequence[str],
     add_options: Callable[[argparse.ArgumentParser], None],
     act: Callable[[argparse.Namespace], int],
+    words: Sequence[str] | None,
 ) -> None:
-    """A command whose words are a problem's file, or a kind and what that takes."""
+    """A command whose words are a problem's file, or a kind and what that takes; with words only what is for these."""
     parser = commands.add_parser(name, help=help, description=description)
     add_options(parser)
     parser.set_defaults(command=act, kind=None, problem="-")
     below = parser.add_subparsers(metavar="KIND|PROBLEM", action=_KindOrProblem)
+    below.kinds = kinds
     below.otherwise = Parser(prog=parser.prog, argument_default=argparse.SUPPRESS)
     console.add_problem(below.otherwise)
     of_kinds = []
-    for kind in kinds:
+    for kind in _asked(kinds, words):
         own = below.add_parser(kind, help=KINDS[kind].help, description=f"{description} Of {KINDS[kind].help}.")
         KINDS[kind].add_arguments(own)
         own.set_defaults(kind=KINDS[kind])
@@ -59,6 +67,14 @@ def _add_command(
             if action not in before:
                 # What stands before the kind or the problem counts too.
                 action.default = argparse.SUPPRESS
+
+
+def _asked(kinds: Sequence[str], words: Sequence[str] | None) -> Sequence[str]:
+    """The kinds that words name; all without words, or where these ask for help on all."""
+    if words is None:
+        return kinds
+    named = [kind for kind in kinds if kind in words]
+    return kinds if not named and ("--help" in words or "-h" in words) else named
 
 
 def add_choices(parser: argparse.ArgumentParser) -> None:
@@ -81,33 +97,50 @@ def add_choices(parser: argparse.ArgumentParser) -> None:
     )
 
 
-# ---- hint
-
-
 def add(
     commands: Any, name: str, act: Callable[[argparse.Namespace], int], words: Sequence[str] | None = None
 ) -> None:
     """Adds a command, which does what `act` does, to those of a parser; with words only what is for these."""
-    _add_command(
-        commands,
-        name,
-        "tell a step that is forced, and why",
-        "Tells one option that is in each solution, with the reason: an item has no other option left, or others soon "
-        "fail, or a search finds no solution without it. Status 1 says that nothing is forced.",
-        _asked(tuple(KINDS), words),
-        _add_hint_options,
-        act,
-    )
-
-
-def _asked(kinds: Sequence[str], words: Sequence[str] | None) -> Sequence[str]:
-    """The kinds that words name; all without words, or where these ask for help on all."""
-    if words is None:
-        return kinds
-    named = [kind for kind in kinds if kind in words]
-    return kinds if not named and ("--help" in words or "-h" in words) else named
+    if name == "hint":
+        _add_command(
+            commands,
+            name,
+            "tell a step that is forced, and why",
+            "Tells one option that is in each solution, with the reason: an item has no other option left, or others "
+            "soon fail, or a search finds no solution without it. Status 1 says that nothing is forced.",
+            tuple(KINDS),
+            _add_hint_options,
+            act,
+            words,
+        )
+    else:
+        _add_command(
+            commands,
+            name,
+            "drop what is given while there is one solution",
+            "Drops clues, in a random order, while the puzzle has exactly one solution, and prints it; without any "
+            "clue it begins with a random solution. Of a problem the clues are the options of --with, and those that "
+            "are needed are printed. Status 1 says that there isn't one solution.",
+            WITH_CLUES,
+            _add_minimal_options,
+            act,
+            words,
+        )
 
 
 def _add_hint_options(parser: argparse.ArgumentParser) -> None:
     add_choices(parser)
     parser.add_argument("--seconds", type=seconds, default=5.0, metavar="S", help="the time (default: 5)")
+
+
+def _add_minimal_options(parser: argparse.ArgumentParser) -> None:
+    parser.add_argument(
+        "--with",
+        dest="given",
+        action="append",
+        default=[],
+        metavar="ITEMS",
+        help="of a problem: the option with these items is given; may be repeated (default: all of a random solution)",
+    )
+    parser.add_argument("--seed", type=number, default=0, metavar="N", help="the random order (default: 0)")
+    parser.add_argument("--seconds", type=seconds, default=30.0, metavar="S", help="the time (default: 30)")

@@ -168,7 +168,7 @@ class Command(InFolder):
         self.assertEqual((status, text), (2, ""))
         self.assertTrue(told.startswith(f"helgrothy: {wrong}: line 2: r1 r2 1: no option has all of these; the nearest are r1 c1 "))
         told = run("tests", "2,2", "--least", "--cost", costs)
-        self.assertEqual(told, (2, "", "helgrothy: this search has no costs: without --cost\n"))
+        self.assertEqual(told, (2, "", "helgrothy: this search has a problem of its own: without --cost, --with and --without\n"))
         self.assertEqual(run("queens", "6", "--cost", costs, "--shuffle", "2")[0], 2)
 
 

@@ -17,6 +17,7 @@ from ..syntax import MOST_ITEMS, MOST_USES
 
 if TYPE_CHECKING:
     from ..wishes import Wish
+    from .clues import Clues
 
 T = TypeVar("T", bound=Sized)
 
@@ -41,6 +42,7 @@ class Kind:
     add_search_arguments, search: of a kind that has a search of its own the arguments of that search, and what searches
     for so many seconds, or for its own time without a number; None where the arguments don't ask for it.
     wishes: of a kind whose table may have wishes those of a problem, from the table in its comments.
+    clues: of a kind whose clues are options what these are, for who makes such puzzles.
     """
 
     name: str
@@ -52,6 +54,7 @@ class Kind:
     search: Callable[[argparse.Namespace], Callable[[float | None], Found] | None] = lambda arguments: None
     cell: str | None = None
     wishes: Callable[[Problem[Any]], list[Wish]] = lambda problem: []
+    clues: Callable[[argparse.Namespace], Clues] | None = None
 
 
 def kind_of(comments: Sequence[str]) -> str | None:
