@@ -7,7 +7,7 @@ from __future__ import annotations
 
 import re
 import time
-from collections.abc import Callable, Sequence
+from collections.abc import Callable, Iterator, Sequence
 from typing import TYPE_CHECKING, Any
 
 from . import console, count_command
@@ -25,7 +25,9 @@ if TYPE_CHECKING:
     from .given import Given
     from .make.kind import Kind
     from .page.file import File
+    from .solution import Solution
     from .stream import Solutions
+    from .watch import Watch
     from .wishes import Costs
 
 # A reason is looked for so long where a problem turns out to have no solution, and `lint` looks for a solution so long.
@@ -111,7 +113,7 @@ def _show(problem: Problem[Any], arguments: argparse.Namespace) -> int:
     solutions, among = _search(asked.inner, arguments, limit, number, most)
     try:
         with Watch(asked.inner, console.say) as watch, solutions:
-            for searched in solutions:
+            for searched in _counted_beside(solutions, watch):
                 watch.end()
                 found = asked.outer(searched)
                 show(arguments.number or shown + 1, found, lambda _: found.numbers, lambda: found.steps)
@@ -128,7 +130,6 @@ def _show(problem: Problem[Any], arguments: argparse.Namespace) -> int:
             write([page.text(reached, False, [f"{error}"])])
         return _fail(f"{error}; {_counted(reached)} till then")
     except engines.Claimed as claim:
-        # The bounds were counted beside the search.
         told = f"{claim}; `helgrothy why` may say which items conflict"
         console.say(told)
         if page is not None:
@@ -149,6 +150,17 @@ def _show(problem: Problem[Any], arguments: argparse.Namespace) -> int:
     if total and not shown:
         return _fail(f"there is no solution {number}", 1)
     return 0 if shown and len(pair) < 2 else 1
+
+
+def _counted_beside(solutions: Solutions[Any], watch: Watch) -> Iterator[Solution[Any]]:
+    """The solutions; where an engine reports that there is none, the count of the bounds may still say why."""
+    from .engines import Claimed
+
+    try:
+        yield from solutions
+    except Claimed:
+        watch.wait()
+        raise
 
 
 def _search(

@@ -38,6 +38,10 @@ class Watch:
     def __exit__(self, *_: object) -> None:
         self.end()
 
+    def wait(self) -> None:
+        """Waits for the count to end."""
+        self._timer.join(2 * _QUIET_SECONDS)
+
     def end(self) -> None:
         """Tells nothing from now on."""
         self._is_over = True
