@@ -259,7 +259,7 @@ class Whys(WithEngines):
     def test_why_with_a_right_one(self):
         self.program("/bin/sleep 1000")
         self.engine("echo s UNSATISFIABLE; exit 20")
-        status, out, told = run("why", self.none, "--seconds", "4")
+        status, out, told = run("why", self.none, "--seconds", "300")
         self.assertEqual(status, 0)
         self.assertIn("clasp reports so; dlx1, which would prove it, came to no end in the time\n", out)
         # The problem's options, and a variable for each item that lets it off.
