@@ -40,7 +40,9 @@ class Watch:
 
     def wait(self) -> None:
         """Waits for the count to end."""
-        self._timer.join(2 * _QUIET_SECONDS)
+        # One that never began can't be waited for.
+        with suppress(RuntimeError):
+            self._timer.join(2 * _QUIET_SECONDS)
 
     def end(self) -> None:
         """Tells nothing from now on."""
