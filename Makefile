@@ -1,8 +1,8 @@
 VERSION := $(shell cat VERSION)
 PROGRAMS = dlx1 dlx2 dlx3 dlxcheck
-# The crates of these are dlx_span and dlx_join.
-SPANS = span join
-SPAN_CRATES = $(SPANS:%=dlx_%)
+# The crates of these are dlx_span, dlx_join and dlx_count.
+DASHED = span join count
+DASHED_CRATES = $(DASHED:%=dlx_%)
 
 # Where things are installed.
 PREFIX = /usr/local
@@ -20,8 +20,8 @@ LIBRARY = $(wildcard bindings/out/libhelgrothy.so)
 # The number rises where a program that was linked with an earlier library couldn't run with this one.
 SONAME = libhelgrothy.so.0
 
-.PHONY: help run bin all $(PROGRAMS) $(SPAN_CRATES) test test-mutants test-hostile test-hostile-python test-python
-.PHONY: test-search test-page test-docs
+.PHONY: help run bin all $(PROGRAMS) $(DASHED_CRATES) test test-mutants test-hostile test-hostile-python test-python
+.PHONY: test-count test-search test-page test-docs
 .PHONY: pictures completion believed names bench bench-forms test-bench test-build
 .PHONY: lib install install-lib uninstall uninstall-lib dist deb wheel version release
 .PHONY: test-bindings test-install test-dist test-deb test-wheel
@@ -36,6 +36,7 @@ test: bin ## the merge gate: proofs, wrong bodies, tests, programs
 	@sh tests/statuses.sh
 	@python3 tests/hostile/collisions.py
 	@$(MAKE) -s --no-print-directory bin
+	@python3 tests/count/trial.py 200 1
 	@sh tests/guide.sh docs/GUIDE.md
 	@sh tests/python.sh
 test-mutants: ## plant the wrong bodies of crates/*/mutants.edits
@@ -46,6 +47,10 @@ test-python: ## the Python package, and 2,000 random problems
 	@sh tests/python.sh && python3 python/tests/trial.py 2000 1
 test-hostile-python: ## the Python commands on hostile inputs
 	@python3 tests/hostile/python_commands.py 5000 1
+# TRIALS are how many random problems, and a seed.
+TRIALS = 2000 1
+test-count: ## dlx-count against known numbers and 2,000 random problems
+	@python3 tests/count/known.py && python3 tests/count/trial.py $(TRIALS)
 test-search: bin ## 500 searches by helgrothy search, with mishaps
 	@PATH=$$PWD/bin:$$PATH python3 tests/search/search.py 500 1
 test-page: bin ## the pages in a headless Chromium
@@ -83,9 +88,9 @@ test-bench: ## test the scripts that measure
 
 # What was built of these sources, here or by the gate, is taken as it is.
 all: ## build all programs, from nothing about a quarter of an hour
-	@scripts/build $(PROGRAMS) $(SPAN_CRATES)
+	@scripts/build $(PROGRAMS) $(DASHED_CRATES)
 	@$(MAKE) -s --no-print-directory bin
-$(PROGRAMS) $(SPAN_CRATES):
+$(PROGRAMS) $(DASHED_CRATES):
 	@scripts/build $@
 	@$(MAKE) -s --no-print-directory bin
 
@@ -98,7 +103,7 @@ bin: ## copy the programs and scripts to bin
 	    [ ! -e "$$1" ] || cmp -s "$$1" "bin/$$2" || { cp "$$1" "bin/.$$2.new" && mv -f "bin/.$$2.new" "bin/$$2"; }; \
 	}; \
 	for program in $(PROGRAMS); do copy crates/$$program/out/$$program $$program || exit 1; done; \
-	for name in $(SPANS); do copy crates/dlx_$$name/out/dlx_$$name dlx-$$name || exit 1; done; \
+	for name in $(DASHED); do copy crates/dlx_$$name/out/dlx_$$name dlx-$$name || exit 1; done; \
 	for script in dlx-progress helgrothy; do copy scripts/helgrothy $$script || exit 1; done
 
 # The library for C is the crate with the toolchain's three calls of malloc, in one object that tells no other names, as
@@ -112,7 +117,7 @@ lib: ## build the library for C
 	    gcc -shared -Wl,-soname,$(SONAME),-z,defs,-z,text,-z,relro,-z,now helgrothy.o -o libhelgrothy.so && rm *.o
 
 # What follows takes the programs as `make all` built them, and needs no toolchain.
-COMMANDS = $(PROGRAMS) $(SPANS:%=dlx-%) dlx-progress helgrothy
+COMMANDS = $(PROGRAMS) $(DASHED:%=dlx-%) dlx-progress helgrothy
 # The files of a folder or two into another, whatever the umask.
 copy = find -L $(1) -type f ! -name '*.pyc' -exec sh -c \
     'for file; do install -D -m 644 "$$file" "$(2)/$$file" || exit 1; done' copy {} +

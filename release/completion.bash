@@ -55,7 +55,7 @@ _dlx() {
 _dlx_options() {
     options=
     case $1 in
-        'dlx1' | 'dlx2' | 'dlx3' | 'dlxcheck' | 'dlx-span' | 'dlx-join')
+        'dlx1' | 'dlx2' | 'dlx3' | 'dlxcheck' | 'dlx-span' | 'dlx-join' | 'dlx-count')
             options='' ;;
         'dlx-progress' | 'helgrothy')
             options='--help --version' ;;
@@ -76,13 +76,15 @@ _dlx_options() {
         'helgrothy make timetable')
             options='--help --daily' ;;
         'helgrothy solve')
-            options='--help --number --limit --all --svg --html --json --csv --seconds --shuffle --up-to-symmetry --cost --cell --row --column --label' ;;
+            options='--help --number --limit --all --count --unique --svg --html --json --csv --seconds --with --without --shuffle --up-to-symmetry --cost --cell --row --column --label' ;;
         'helgrothy draw')
             options='--help --number --svg --html --json --csv --cell --row --column --label' ;;
         'helgrothy lint')
             options='--help --for' ;;
         'helgrothy why')
             options='--help --seconds' ;;
+        'helgrothy count')
+            options='--help --json --megabytes --seconds' ;;
         'helgrothy page')
             options='--help --port' ;;
         'helgrothy search')
@@ -91,22 +93,42 @@ _dlx_options() {
             options='--help --list' ;;
         'helgrothy rows')
             options='--help --count --for' ;;
+        'helgrothy hint' | 'helgrothy hint queens' | 'helgrothy hint langford' | 'helgrothy hint words' | 'helgrothy hint nonogram' | 'helgrothy hint kakuro')
+            options='--help --with --without --seconds' ;;
+        'helgrothy hint sudoku')
+            options='--help --regions --cages --with --without --seconds' ;;
+        'helgrothy hint polyominoes')
+            options='--help --no-turns --no-mirrors --with --without --seconds' ;;
+        'helgrothy hint polycubes')
+            options='--help --mirrors --some --with --without --seconds' ;;
+        'helgrothy hint roster')
+            options='--help --rest --with --without --seconds' ;;
+        'helgrothy hint roundrobin')
+            options='--help --double --with --without --seconds' ;;
+        'helgrothy hint tests')
+            options='--help --tests --strength --with --without --seconds' ;;
+        'helgrothy hint timetable')
+            options='--help --daily --with --without --seconds' ;;
+        'helgrothy minimal' | 'helgrothy minimal kakuro')
+            options='--help --with --seed --seconds' ;;
+        'helgrothy minimal sudoku')
+            options='--help --regions --cages --with --seed --seconds' ;;
         'helgrothy sudoku')
-            options='--help --regions --cages --number --limit --all --svg --html --json --csv --seconds --shuffle --up-to-symmetry' ;;
+            options='--help --regions --cages --number --limit --all --count --unique --svg --html --json --csv --seconds --with --without --shuffle --up-to-symmetry --cost' ;;
         'helgrothy queens' | 'helgrothy langford' | 'helgrothy words' | 'helgrothy nonogram' | 'helgrothy kakuro')
-            options='--help --number --limit --all --svg --html --json --csv --seconds --shuffle --up-to-symmetry' ;;
+            options='--help --number --limit --all --count --unique --svg --html --json --csv --seconds --with --without --shuffle --up-to-symmetry --cost' ;;
         'helgrothy polyominoes')
-            options='--help --no-turns --no-mirrors --number --limit --all --svg --html --json --csv --seconds --shuffle --up-to-symmetry' ;;
+            options='--help --no-turns --no-mirrors --number --limit --all --count --unique --svg --html --json --csv --seconds --with --without --shuffle --up-to-symmetry --cost' ;;
         'helgrothy polycubes')
-            options='--help --mirrors --some --number --limit --all --svg --html --json --csv --seconds --shuffle --up-to-symmetry' ;;
+            options='--help --mirrors --some --number --limit --all --count --unique --svg --html --json --csv --seconds --with --without --shuffle --up-to-symmetry --cost' ;;
         'helgrothy roster')
-            options='--help --rest --number --limit --all --svg --html --json --csv --seconds --shuffle --up-to-symmetry' ;;
+            options='--help --rest --number --limit --all --count --unique --svg --html --json --csv --seconds --with --without --shuffle --up-to-symmetry --cost' ;;
         'helgrothy roundrobin')
-            options='--help --double --number --limit --all --svg --html --json --csv --seconds --shuffle --up-to-symmetry' ;;
+            options='--help --double --number --limit --all --count --unique --svg --html --json --csv --seconds --with --without --shuffle --up-to-symmetry --cost' ;;
         'helgrothy tests')
-            options='--help --tests --strength --least --number --limit --all --svg --html --json --csv --seconds --shuffle --up-to-symmetry' ;;
+            options='--help --tests --strength --least --number --limit --all --count --unique --svg --html --json --csv --seconds --with --without --shuffle --up-to-symmetry --cost' ;;
         'helgrothy timetable')
-            options='--help --daily --number --limit --all --svg --html --json --csv --seconds --shuffle --up-to-symmetry' ;;
+            options='--help --daily --number --limit --all --count --unique --svg --html --json --csv --seconds --with --without --shuffle --up-to-symmetry --cost' ;;
         *) return 1 ;;
     esac
 }
@@ -115,9 +137,9 @@ _dlx_options() {
 _dlx_value() {
     value=
     case $1 in
-        'helgrothy make sudoku --regions' | 'helgrothy make sudoku --cages' | 'helgrothy solve --cost' | 'helgrothy sudoku --regions' | 'helgrothy sudoku --cages')
+        'helgrothy make sudoku --regions' | 'helgrothy make sudoku --cages' | 'helgrothy solve --cost' | 'helgrothy hint sudoku --regions' | 'helgrothy hint sudoku --cages' | 'helgrothy minimal sudoku --regions' | 'helgrothy minimal sudoku --cages' | 'helgrothy sudoku --regions' | 'helgrothy sudoku --cages' | 'helgrothy sudoku --cost' | 'helgrothy queens --cost' | 'helgrothy langford --cost' | 'helgrothy polyominoes --cost' | 'helgrothy polycubes --cost' | 'helgrothy words --cost' | 'helgrothy nonogram --cost' | 'helgrothy kakuro --cost' | 'helgrothy roster --cost' | 'helgrothy roundrobin --cost' | 'helgrothy tests --cost' | 'helgrothy timetable --cost')
             value='file' ;;
-        'helgrothy make tests --tests' | 'helgrothy make tests --strength' | 'helgrothy make timetable --daily' | 'helgrothy solve --number' | 'helgrothy solve --limit' | 'helgrothy solve --seconds' | 'helgrothy solve --shuffle' | 'helgrothy solve --cell' | 'helgrothy solve --row' | 'helgrothy solve --column' | 'helgrothy solve --label' | 'helgrothy draw --number' | 'helgrothy draw --cell' | 'helgrothy draw --row' | 'helgrothy draw --column' | 'helgrothy draw --label' | 'helgrothy why --seconds' | 'helgrothy page --port' | 'helgrothy search --jobs' | 'helgrothy search --dask' | 'helgrothy search --seconds' | 'helgrothy rows --count' | 'helgrothy sudoku --number' | 'helgrothy sudoku --limit' | 'helgrothy sudoku --seconds' | 'helgrothy sudoku --shuffle' | 'helgrothy queens --number' | 'helgrothy queens --limit' | 'helgrothy queens --seconds' | 'helgrothy queens --shuffle' | 'helgrothy langford --number' | 'helgrothy langford --limit' | 'helgrothy langford --seconds' | 'helgrothy langford --shuffle' | 'helgrothy polyominoes --number' | 'helgrothy polyominoes --limit' | 'helgrothy polyominoes --seconds' | 'helgrothy polyominoes --shuffle' | 'helgrothy polycubes --number' | 'helgrothy polycubes --limit' | 'helgrothy polycubes --seconds' | 'helgrothy polycubes --shuffle' | 'helgrothy words --number' | 'helgrothy words --limit' | 'helgrothy words --seconds' | 'helgrothy words --shuffle' | 'helgrothy nonogram --number' | 'helgrothy nonogram --limit' | 'helgrothy nonogram --seconds' | 'helgrothy nonogram --shuffle' | 'helgrothy kakuro --number' | 'helgrothy kakuro --limit' | 'helgrothy kakuro --seconds' | 'helgrothy kakuro --shuffle' | 'helgrothy roster --number' | 'helgrothy roster --limit' | 'helgrothy roster --seconds' | 'helgrothy roster --shuffle' | 'helgrothy roundrobin --number' | 'helgrothy roundrobin --limit' | 'helgrothy roundrobin --seconds' | 'helgrothy roundrobin --shuffle' | 'helgrothy tests --tests' | 'helgrothy tests --strength' | 'helgrothy tests --number' | 'helgrothy tests --limit' | 'helgrothy tests --seconds' | 'helgrothy tests --shuffle' | 'helgrothy timetable --daily' | 'helgrothy timetable --number' | 'helgrothy timetable --limit' | 'helgrothy timetable --seconds' | 'helgrothy timetable --shuffle')
+        'helgrothy make tests --tests' | 'helgrothy make tests --strength' | 'helgrothy make timetable --daily' | 'helgrothy solve --number' | 'helgrothy solve --limit' | 'helgrothy solve --seconds' | 'helgrothy solve --with' | 'helgrothy solve --without' | 'helgrothy solve --shuffle' | 'helgrothy solve --cell' | 'helgrothy solve --row' | 'helgrothy solve --column' | 'helgrothy solve --label' | 'helgrothy draw --number' | 'helgrothy draw --cell' | 'helgrothy draw --row' | 'helgrothy draw --column' | 'helgrothy draw --label' | 'helgrothy why --seconds' | 'helgrothy count --megabytes' | 'helgrothy count --seconds' | 'helgrothy page --port' | 'helgrothy search --jobs' | 'helgrothy search --dask' | 'helgrothy search --seconds' | 'helgrothy rows --count' | 'helgrothy hint --with' | 'helgrothy hint --without' | 'helgrothy hint --seconds' | 'helgrothy hint sudoku --with' | 'helgrothy hint sudoku --without' | 'helgrothy hint sudoku --seconds' | 'helgrothy hint queens --with' | 'helgrothy hint queens --without' | 'helgrothy hint queens --seconds' | 'helgrothy hint langford --with' | 'helgrothy hint langford --without' | 'helgrothy hint langford --seconds' | 'helgrothy hint polyominoes --with' | 'helgrothy hint polyominoes --without' | 'helgrothy hint polyominoes --seconds' | 'helgrothy hint polycubes --with' | 'helgrothy hint polycubes --without' | 'helgrothy hint polycubes --seconds' | 'helgrothy hint words --with' | 'helgrothy hint words --without' | 'helgrothy hint words --seconds' | 'helgrothy hint nonogram --with' | 'helgrothy hint nonogram --without' | 'helgrothy hint nonogram --seconds' | 'helgrothy hint kakuro --with' | 'helgrothy hint kakuro --without' | 'helgrothy hint kakuro --seconds' | 'helgrothy hint roster --with' | 'helgrothy hint roster --without' | 'helgrothy hint roster --seconds' | 'helgrothy hint roundrobin --with' | 'helgrothy hint roundrobin --without' | 'helgrothy hint roundrobin --seconds' | 'helgrothy hint tests --tests' | 'helgrothy hint tests --strength' | 'helgrothy hint tests --with' | 'helgrothy hint tests --without' | 'helgrothy hint tests --seconds' | 'helgrothy hint timetable --daily' | 'helgrothy hint timetable --with' | 'helgrothy hint timetable --without' | 'helgrothy hint timetable --seconds' | 'helgrothy minimal --with' | 'helgrothy minimal --seed' | 'helgrothy minimal --seconds' | 'helgrothy minimal sudoku --with' | 'helgrothy minimal sudoku --seed' | 'helgrothy minimal sudoku --seconds' | 'helgrothy minimal kakuro --with' | 'helgrothy minimal kakuro --seed' | 'helgrothy minimal kakuro --seconds' | 'helgrothy sudoku --number' | 'helgrothy sudoku --limit' | 'helgrothy sudoku --seconds' | 'helgrothy sudoku --with' | 'helgrothy sudoku --without' | 'helgrothy sudoku --shuffle' | 'helgrothy queens --number' | 'helgrothy queens --limit' | 'helgrothy queens --seconds' | 'helgrothy queens --with' | 'helgrothy queens --without' | 'helgrothy queens --shuffle' | 'helgrothy langford --number' | 'helgrothy langford --limit' | 'helgrothy langford --seconds' | 'helgrothy langford --with' | 'helgrothy langford --without' | 'helgrothy langford --shuffle' | 'helgrothy polyominoes --number' | 'helgrothy polyominoes --limit' | 'helgrothy polyominoes --seconds' | 'helgrothy polyominoes --with' | 'helgrothy polyominoes --without' | 'helgrothy polyominoes --shuffle' | 'helgrothy polycubes --number' | 'helgrothy polycubes --limit' | 'helgrothy polycubes --seconds' | 'helgrothy polycubes --with' | 'helgrothy polycubes --without' | 'helgrothy polycubes --shuffle' | 'helgrothy words --number' | 'helgrothy words --limit' | 'helgrothy words --seconds' | 'helgrothy words --with' | 'helgrothy words --without' | 'helgrothy words --shuffle' | 'helgrothy nonogram --number' | 'helgrothy nonogram --limit' | 'helgrothy nonogram --seconds' | 'helgrothy nonogram --with' | 'helgrothy nonogram --without' | 'helgrothy nonogram --shuffle' | 'helgrothy kakuro --number' | 'helgrothy kakuro --limit' | 'helgrothy kakuro --seconds' | 'helgrothy kakuro --with' | 'helgrothy kakuro --without' | 'helgrothy kakuro --shuffle' | 'helgrothy roster --number' | 'helgrothy roster --limit' | 'helgrothy roster --seconds' | 'helgrothy roster --with' | 'helgrothy roster --without' | 'helgrothy roster --shuffle' | 'helgrothy roundrobin --number' | 'helgrothy roundrobin --limit' | 'helgrothy roundrobin --seconds' | 'helgrothy roundrobin --with' | 'helgrothy roundrobin --without' | 'helgrothy roundrobin --shuffle' | 'helgrothy tests --tests' | 'helgrothy tests --strength' | 'helgrothy tests --number' | 'helgrothy tests --limit' | 'helgrothy tests --seconds' | 'helgrothy tests --with' | 'helgrothy tests --without' | 'helgrothy tests --shuffle' | 'helgrothy timetable --daily' | 'helgrothy timetable --number' | 'helgrothy timetable --limit' | 'helgrothy timetable --seconds' | 'helgrothy timetable --with' | 'helgrothy timetable --without' | 'helgrothy timetable --shuffle')
             value='words' ;;
         'helgrothy lint --for' | 'helgrothy search --for' | 'helgrothy rows --for')
             value='words dlx1 dlx2 dlx3' ;;
@@ -131,19 +153,21 @@ _dlx_value() {
 _dlx_place() {
     value=
     case $1:$2 in
-        'dlxcheck:1' | 'helgrothy solve:1' | 'helgrothy draw:1' | 'helgrothy lint:1' | 'helgrothy export:2' | 'helgrothy import:2' | 'helgrothy why:1' | 'helgrothy search:1' | 'helgrothy rows:1')
+        'dlxcheck:1' | 'helgrothy solve:1' | 'helgrothy draw:1' | 'helgrothy lint:1' | 'helgrothy export:2' | 'helgrothy import:2' | 'helgrothy why:1' | 'helgrothy count:1' | 'helgrothy search:1' | 'helgrothy rows:1')
             value='problem' ;;
-        'dlxcheck:2' | 'dlx-span:1')
+        'dlxcheck:2' | 'dlx-span:1' | 'dlx-count:1')
             value='words 1 2 3' ;;
         'dlx-span:2' | 'dlx-join:1')
             value='words m0 m1' ;;
+        'dlx-count:2')
+            value='words b512' ;;
         'helgrothy:1')
-            value='words make solve draw lint export import why page search status result rows sudoku queens langford polyominoes polycubes words nonogram kakuro roster roundrobin tests timetable' ;;
-        'helgrothy make:1')
+            value='words make solve draw lint export import why count page search status result rows hint minimal sudoku queens langford polyominoes polycubes words nonogram kakuro roster roundrobin tests timetable' ;;
+        'helgrothy make:1' | 'helgrothy hint:1')
             value='words sudoku queens langford polyominoes polycubes words nonogram kakuro roster roundrobin tests timetable' ;;
-        'helgrothy make polyominoes:1' | 'helgrothy polyominoes:1')
+        'helgrothy make polyominoes:1' | 'helgrothy hint polyominoes:1' | 'helgrothy polyominoes:1')
             value='file pentominoes tetrominoes' ;;
-        'helgrothy make polycubes:1' | 'helgrothy polycubes:1')
+        'helgrothy make polycubes:1' | 'helgrothy hint polycubes:1' | 'helgrothy polycubes:1')
             value='file pentacubes pentominoes soma tetracubes tetrominoes' ;;
         'helgrothy export:1')
             value='words asp cnf opb' ;;
@@ -151,11 +175,13 @@ _dlx_place() {
             value='words cadical clasp' ;;
         'helgrothy status:1' | 'helgrothy result:1')
             value='folder' ;;
+        'helgrothy minimal:1')
+            value='words sudoku kakuro' ;;
         'dlx1:'* | 'dlx2:'* | 'dlx3:'*)
             value='words m1 m1000 t1 t2' ;;
-        'dlx-join:'* | 'helgrothy make sudoku:1' | 'helgrothy make queens:1' | 'helgrothy make polyominoes:2' | 'helgrothy make polycubes:2' | 'helgrothy make words:1' | 'helgrothy make words:2' | 'helgrothy make nonogram:1' | 'helgrothy make kakuro:1' | 'helgrothy make roster:1' | 'helgrothy make roundrobin:1' | 'helgrothy make tests:1' | 'helgrothy make timetable:1' | 'helgrothy sudoku:1' | 'helgrothy queens:1' | 'helgrothy polyominoes:2' | 'helgrothy polycubes:2' | 'helgrothy words:1' | 'helgrothy words:2' | 'helgrothy nonogram:1' | 'helgrothy kakuro:1' | 'helgrothy roster:1' | 'helgrothy roundrobin:1' | 'helgrothy tests:1' | 'helgrothy timetable:1')
+        'dlx-join:'* | 'helgrothy make sudoku:1' | 'helgrothy make queens:1' | 'helgrothy make polyominoes:2' | 'helgrothy make polycubes:2' | 'helgrothy make words:1' | 'helgrothy make words:2' | 'helgrothy make nonogram:1' | 'helgrothy make kakuro:1' | 'helgrothy make roster:1' | 'helgrothy make roundrobin:1' | 'helgrothy make tests:1' | 'helgrothy make timetable:1' | 'helgrothy hint sudoku:1' | 'helgrothy hint queens:1' | 'helgrothy hint polyominoes:2' | 'helgrothy hint polycubes:2' | 'helgrothy hint words:1' | 'helgrothy hint words:2' | 'helgrothy hint nonogram:1' | 'helgrothy hint kakuro:1' | 'helgrothy hint roster:1' | 'helgrothy hint roundrobin:1' | 'helgrothy hint tests:1' | 'helgrothy hint timetable:1' | 'helgrothy minimal sudoku:1' | 'helgrothy minimal kakuro:1' | 'helgrothy sudoku:1' | 'helgrothy queens:1' | 'helgrothy polyominoes:2' | 'helgrothy polycubes:2' | 'helgrothy words:1' | 'helgrothy words:2' | 'helgrothy nonogram:1' | 'helgrothy kakuro:1' | 'helgrothy roster:1' | 'helgrothy roundrobin:1' | 'helgrothy tests:1' | 'helgrothy timetable:1')
             value='file' ;;
     esac
 }
 
-complete -F _dlx dlx1 dlx2 dlx3 dlxcheck dlx-span dlx-join dlx-progress helgrothy
+complete -F _dlx dlx1 dlx2 dlx3 dlxcheck dlx-span dlx-join dlx-count dlx-progress helgrothy

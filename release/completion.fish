@@ -41,6 +41,7 @@ set -g __helgrothy_commands \
     'dlxcheck' \
     'dlx-span' \
     'dlx-join' \
+    'dlx-count' \
     'dlx-progress' \
     'helgrothy' \
     'helgrothy make' \
@@ -62,11 +63,28 @@ set -g __helgrothy_commands \
     'helgrothy export' \
     'helgrothy import' \
     'helgrothy why' \
+    'helgrothy count' \
     'helgrothy page' \
     'helgrothy search' \
     'helgrothy status' \
     'helgrothy result' \
     'helgrothy rows' \
+    'helgrothy hint' \
+    'helgrothy hint sudoku' \
+    'helgrothy hint queens' \
+    'helgrothy hint langford' \
+    'helgrothy hint polyominoes' \
+    'helgrothy hint polycubes' \
+    'helgrothy hint words' \
+    'helgrothy hint nonogram' \
+    'helgrothy hint kakuro' \
+    'helgrothy hint roster' \
+    'helgrothy hint roundrobin' \
+    'helgrothy hint tests' \
+    'helgrothy hint timetable' \
+    'helgrothy minimal' \
+    'helgrothy minimal sudoku' \
+    'helgrothy minimal kakuro' \
     'helgrothy sudoku' \
     'helgrothy queens' \
     'helgrothy langford' \
@@ -89,6 +107,8 @@ set -g __helgrothy_valued \
     'helgrothy solve --number' \
     'helgrothy solve --limit' \
     'helgrothy solve --seconds' \
+    'helgrothy solve --with' \
+    'helgrothy solve --without' \
     'helgrothy solve --shuffle' \
     'helgrothy solve --cost' \
     'helgrothy solve --cell' \
@@ -102,6 +122,8 @@ set -g __helgrothy_valued \
     'helgrothy draw --label' \
     'helgrothy lint --for' \
     'helgrothy why --seconds' \
+    'helgrothy count --megabytes' \
+    'helgrothy count --seconds' \
     'helgrothy page --port' \
     'helgrothy search --jobs' \
     'helgrothy search --dask' \
@@ -110,59 +132,150 @@ set -g __helgrothy_valued \
     'helgrothy search --for' \
     'helgrothy rows --count' \
     'helgrothy rows --for' \
+    'helgrothy hint --with' \
+    'helgrothy hint --without' \
+    'helgrothy hint --seconds' \
+    'helgrothy hint sudoku --regions' \
+    'helgrothy hint sudoku --cages' \
+    'helgrothy hint sudoku --with' \
+    'helgrothy hint sudoku --without' \
+    'helgrothy hint sudoku --seconds' \
+    'helgrothy hint queens --with' \
+    'helgrothy hint queens --without' \
+    'helgrothy hint queens --seconds' \
+    'helgrothy hint langford --with' \
+    'helgrothy hint langford --without' \
+    'helgrothy hint langford --seconds' \
+    'helgrothy hint polyominoes --with' \
+    'helgrothy hint polyominoes --without' \
+    'helgrothy hint polyominoes --seconds' \
+    'helgrothy hint polycubes --with' \
+    'helgrothy hint polycubes --without' \
+    'helgrothy hint polycubes --seconds' \
+    'helgrothy hint words --with' \
+    'helgrothy hint words --without' \
+    'helgrothy hint words --seconds' \
+    'helgrothy hint nonogram --with' \
+    'helgrothy hint nonogram --without' \
+    'helgrothy hint nonogram --seconds' \
+    'helgrothy hint kakuro --with' \
+    'helgrothy hint kakuro --without' \
+    'helgrothy hint kakuro --seconds' \
+    'helgrothy hint roster --with' \
+    'helgrothy hint roster --without' \
+    'helgrothy hint roster --seconds' \
+    'helgrothy hint roundrobin --with' \
+    'helgrothy hint roundrobin --without' \
+    'helgrothy hint roundrobin --seconds' \
+    'helgrothy hint tests --tests' \
+    'helgrothy hint tests --strength' \
+    'helgrothy hint tests --with' \
+    'helgrothy hint tests --without' \
+    'helgrothy hint tests --seconds' \
+    'helgrothy hint timetable --daily' \
+    'helgrothy hint timetable --with' \
+    'helgrothy hint timetable --without' \
+    'helgrothy hint timetable --seconds' \
+    'helgrothy minimal --with' \
+    'helgrothy minimal --seed' \
+    'helgrothy minimal --seconds' \
+    'helgrothy minimal sudoku --regions' \
+    'helgrothy minimal sudoku --cages' \
+    'helgrothy minimal sudoku --with' \
+    'helgrothy minimal sudoku --seed' \
+    'helgrothy minimal sudoku --seconds' \
+    'helgrothy minimal kakuro --with' \
+    'helgrothy minimal kakuro --seed' \
+    'helgrothy minimal kakuro --seconds' \
     'helgrothy sudoku --regions' \
     'helgrothy sudoku --cages' \
     'helgrothy sudoku --number' \
     'helgrothy sudoku --limit' \
     'helgrothy sudoku --seconds' \
+    'helgrothy sudoku --with' \
+    'helgrothy sudoku --without' \
     'helgrothy sudoku --shuffle' \
+    'helgrothy sudoku --cost' \
     'helgrothy queens --number' \
     'helgrothy queens --limit' \
     'helgrothy queens --seconds' \
+    'helgrothy queens --with' \
+    'helgrothy queens --without' \
     'helgrothy queens --shuffle' \
+    'helgrothy queens --cost' \
     'helgrothy langford --number' \
     'helgrothy langford --limit' \
     'helgrothy langford --seconds' \
+    'helgrothy langford --with' \
+    'helgrothy langford --without' \
     'helgrothy langford --shuffle' \
+    'helgrothy langford --cost' \
     'helgrothy polyominoes --number' \
     'helgrothy polyominoes --limit' \
     'helgrothy polyominoes --seconds' \
+    'helgrothy polyominoes --with' \
+    'helgrothy polyominoes --without' \
     'helgrothy polyominoes --shuffle' \
+    'helgrothy polyominoes --cost' \
     'helgrothy polycubes --number' \
     'helgrothy polycubes --limit' \
     'helgrothy polycubes --seconds' \
+    'helgrothy polycubes --with' \
+    'helgrothy polycubes --without' \
     'helgrothy polycubes --shuffle' \
+    'helgrothy polycubes --cost' \
     'helgrothy words --number' \
     'helgrothy words --limit' \
     'helgrothy words --seconds' \
+    'helgrothy words --with' \
+    'helgrothy words --without' \
     'helgrothy words --shuffle' \
+    'helgrothy words --cost' \
     'helgrothy nonogram --number' \
     'helgrothy nonogram --limit' \
     'helgrothy nonogram --seconds' \
+    'helgrothy nonogram --with' \
+    'helgrothy nonogram --without' \
     'helgrothy nonogram --shuffle' \
+    'helgrothy nonogram --cost' \
     'helgrothy kakuro --number' \
     'helgrothy kakuro --limit' \
     'helgrothy kakuro --seconds' \
+    'helgrothy kakuro --with' \
+    'helgrothy kakuro --without' \
     'helgrothy kakuro --shuffle' \
+    'helgrothy kakuro --cost' \
     'helgrothy roster --number' \
     'helgrothy roster --limit' \
     'helgrothy roster --seconds' \
+    'helgrothy roster --with' \
+    'helgrothy roster --without' \
     'helgrothy roster --shuffle' \
+    'helgrothy roster --cost' \
     'helgrothy roundrobin --number' \
     'helgrothy roundrobin --limit' \
     'helgrothy roundrobin --seconds' \
+    'helgrothy roundrobin --with' \
+    'helgrothy roundrobin --without' \
     'helgrothy roundrobin --shuffle' \
+    'helgrothy roundrobin --cost' \
     'helgrothy tests --tests' \
     'helgrothy tests --strength' \
     'helgrothy tests --number' \
     'helgrothy tests --limit' \
     'helgrothy tests --seconds' \
+    'helgrothy tests --with' \
+    'helgrothy tests --without' \
     'helgrothy tests --shuffle' \
+    'helgrothy tests --cost' \
     'helgrothy timetable --daily' \
     'helgrothy timetable --number' \
     'helgrothy timetable --limit' \
     'helgrothy timetable --seconds' \
-    'helgrothy timetable --shuffle'
+    'helgrothy timetable --with' \
+    'helgrothy timetable --without' \
+    'helgrothy timetable --shuffle' \
+    'helgrothy timetable --cost'
 
 complete -c dlx1 -f
 complete -c dlx2 -f
@@ -170,6 +283,7 @@ complete -c dlx3 -f
 complete -c dlxcheck -f
 complete -c dlx-span -f
 complete -c dlx-join -f
+complete -c dlx-count -f
 complete -c dlx-progress -f
 complete -c helgrothy -f
 complete -c dlx-progress -n '__helgrothy_is \'dlx-progress\'' -s h -l help -d 'show this help message and exit'
@@ -183,11 +297,14 @@ complete -c helgrothy -n '__helgrothy_is \'helgrothy\' 1' -a lint -d 'tell all f
 complete -c helgrothy -n '__helgrothy_is \'helgrothy\' 1' -a export -d 'write a problem for another solver'
 complete -c helgrothy -n '__helgrothy_is \'helgrothy\' 1' -a import -d 'read another solver\'s answer as a listing'
 complete -c helgrothy -n '__helgrothy_is \'helgrothy\' 1' -a why -d 'tell which items conflict where there is no solution'
+complete -c helgrothy -n '__helgrothy_is \'helgrothy\' 1' -a count -d 'count the solutions of a problem'
 complete -c helgrothy -n '__helgrothy_is \'helgrothy\' 1' -a page -d 'a local page to type a problem in'
 complete -c helgrothy -n '__helgrothy_is \'helgrothy\' 1' -a search -d 'count or list all solutions, by all processors or many machines'
 complete -c helgrothy -n '__helgrothy_is \'helgrothy\' 1' -a status -d 'tell how far a search is'
 complete -c helgrothy -n '__helgrothy_is \'helgrothy\' 1' -a result -d 'print what a search that is done has found'
 complete -c helgrothy -n '__helgrothy_is \'helgrothy\' 1' -a rows -d 'print rows at which a search may be cut'
+complete -c helgrothy -n '__helgrothy_is \'helgrothy\' 1' -a hint -d 'tell a step that is forced, and why'
+complete -c helgrothy -n '__helgrothy_is \'helgrothy\' 1' -a minimal -d 'drop what is given while there is one solution'
 complete -c helgrothy -n '__helgrothy_is \'helgrothy\' 1' -a sudoku -d 'make and solve a Sudoku from its clues'
 complete -c helgrothy -n '__helgrothy_is \'helgrothy\' 1' -a queens -d 'make and solve queens on a board, or in coloured regions'
 complete -c helgrothy -n '__helgrothy_is \'helgrothy\' 1' -a langford -d 'make and solve Langford\'s pairs'
@@ -240,14 +357,18 @@ complete -c helgrothy -n '__helgrothy_is \'helgrothy solve\'' -s h -l help -d 's
 complete -c helgrothy -n '__helgrothy_is \'helgrothy solve\'' -l number -r -f -d 'the K-th solution instead of the first'
 complete -c helgrothy -n '__helgrothy_is \'helgrothy solve\'' -l limit -r -f -d 'the first N solutions'
 complete -c helgrothy -n '__helgrothy_is \'helgrothy solve\'' -l all -d 'all solutions'
+complete -c helgrothy -n '__helgrothy_is \'helgrothy solve\'' -l count -d 'only how many solutions there are'
+complete -c helgrothy -n '__helgrothy_is \'helgrothy solve\'' -l unique -d 'whether there is exactly one solution; if not, two'
 complete -c helgrothy -n '__helgrothy_is \'helgrothy solve\'' -l svg -d 'a picture as SVG, of one solution'
 complete -c helgrothy -n '__helgrothy_is \'helgrothy solve\'' -l html -d 'a page for a browser: the solutions, their pictures, and the search\'s way'
 complete -c helgrothy -n '__helgrothy_is \'helgrothy solve\'' -l json -d 'a line of JSON for each solution: its number, the numbers of its options, their items, and the colours'
 complete -c helgrothy -n '__helgrothy_is \'helgrothy solve\'' -l csv -d 'a table as CSV, with a line for each choice'
 complete -c helgrothy -n '__helgrothy_is \'helgrothy solve\'' -l seconds -r -f -d 'give up after S seconds'
+complete -c helgrothy -n '__helgrothy_is \'helgrothy solve\'' -l with -r -f -d 'only solutions with the option that has these items, as many as it takes to be clear; may be repeated'
+complete -c helgrothy -n '__helgrothy_is \'helgrothy solve\'' -l without -r -f -d 'only solutions without the options that have all of these items, or patterns of them; may be repeated'
 complete -c helgrothy -n '__helgrothy_is \'helgrothy solve\'' -l shuffle -r -f -d 'solutions in a random order of the options, the same for the same number'
 complete -c helgrothy -n '__helgrothy_is \'helgrothy solve\'' -l up-to-symmetry -d 'one solution of those that are images of each other by turns and mirrors of the board or box'
-complete -c helgrothy -n '__helgrothy_is \'helgrothy solve\'' -l cost -r -F -d 'the solution of least cost, from a file with a number for each option: by clasp where the path has it, else by dlx3'
+complete -c helgrothy -n '__helgrothy_is \'helgrothy solve\'' -l cost -r -F -d 'the solution of least cost, from a file: lines of names of items (or patterns) and a number, which each option that has them costs, or a number for each option; by clasp where the path has it, else by dlx3'
 complete -c helgrothy -n '__helgrothy_is \'helgrothy solve\'' -l cell -r -f -d 'a regular expression that finds the cells, as whole words, in an option\'s line; its first two groups (or those named row and column) are row and column, a number or a single letter, and a third one its label'
 complete -c helgrothy -n '__helgrothy_is \'helgrothy solve\'' -l row -r -f -d 'a regular expression that finds the name of a row in the words of an option: the picture is a table of these names, in the order of the file'
 complete -c helgrothy -n '__helgrothy_is \'helgrothy solve\'' -l column -r -f -d 'a regular expression that finds the name of a column in the words of an option: the picture is a table of these names, in the order of the file'
@@ -268,6 +389,10 @@ complete -c helgrothy -n '__helgrothy_is \'helgrothy export\'' -s h -l help -d '
 complete -c helgrothy -n '__helgrothy_is \'helgrothy import\'' -s h -l help -d 'show this help message and exit'
 complete -c helgrothy -n '__helgrothy_is \'helgrothy why\'' -s h -l help -d 'show this help message and exit'
 complete -c helgrothy -n '__helgrothy_is \'helgrothy why\'' -l seconds -r -f -d 'the time (default: 10)'
+complete -c helgrothy -n '__helgrothy_is \'helgrothy count\'' -s h -l help -d 'show this help message and exit'
+complete -c helgrothy -n '__helgrothy_is \'helgrothy count\'' -l json -d 'a line of JSON: the number, and the program that counted'
+complete -c helgrothy -n '__helgrothy_is \'helgrothy count\'' -l megabytes -r -f -d 'the memory of dlx-count (default: 512)'
+complete -c helgrothy -n '__helgrothy_is \'helgrothy count\'' -l seconds -r -f -d 'give up after S seconds'
 complete -c helgrothy -n '__helgrothy_is \'helgrothy page\'' -s h -l help -d 'show this help message and exit'
 complete -c helgrothy -n '__helgrothy_is \'helgrothy page\'' -l port -r -f -d 'the port (default: one that is free)'
 complete -c helgrothy -n '__helgrothy_is \'helgrothy search\'' -s h -l help -d 'show this help message and exit'
@@ -283,124 +408,265 @@ complete -c helgrothy -n '__helgrothy_is \'helgrothy result\'' -l list -d 'list 
 complete -c helgrothy -n '__helgrothy_is \'helgrothy rows\'' -s h -l help -d 'show this help message and exit'
 complete -c helgrothy -n '__helgrothy_is \'helgrothy rows\'' -l count -r -f -d 'up to N rows (default: 100)'
 complete -c helgrothy -n '__helgrothy_is \'helgrothy rows\'' -l for -r -f -a 'dlx1 dlx2 dlx3' -d 'the program (default: the first that takes such a text)'
+complete -c helgrothy -n '__helgrothy_is \'helgrothy hint\'' -s h -l help -d 'show this help message and exit'
+complete -c helgrothy -n '__helgrothy_is \'helgrothy hint\'' -l with -r -f -d 'only solutions with the option that has these items, as many as it takes to be clear; may be repeated'
+complete -c helgrothy -n '__helgrothy_is \'helgrothy hint\'' -l without -r -f -d 'only solutions without the options that have all of these items, or patterns of them; may be repeated'
+complete -c helgrothy -n '__helgrothy_is \'helgrothy hint\'' -l seconds -r -f -d 'the time (default: 5)'
+complete -c helgrothy -n '__helgrothy_is \'helgrothy hint\' 1' -a sudoku -d 'a Sudoku from its clues'
+complete -c helgrothy -n '__helgrothy_is \'helgrothy hint\' 1' -a queens -d 'queens on a board, or in coloured regions'
+complete -c helgrothy -n '__helgrothy_is \'helgrothy hint\' 1' -a langford -d 'Langford\'s pairs'
+complete -c helgrothy -n '__helgrothy_is \'helgrothy hint\' 1' -a polyominoes -d 'pieces of squares that fill a region'
+complete -c helgrothy -n '__helgrothy_is \'helgrothy hint\' 1' -a polycubes -d 'pieces of cubes that fill a box'
+complete -c helgrothy -n '__helgrothy_is \'helgrothy hint\' 1' -a words -d 'words across and down in a grid'
+complete -c helgrothy -n '__helgrothy_is \'helgrothy hint\' 1' -a nonogram -d 'a nonogram from its clues'
+complete -c helgrothy -n '__helgrothy_is \'helgrothy hint\' 1' -a kakuro -d 'a Kakuro from its grid'
+complete -c helgrothy -n '__helgrothy_is \'helgrothy hint\' 1' -a roster -d 'shifts of people on days'
+complete -c helgrothy -n '__helgrothy_is \'helgrothy hint\' 1' -a roundrobin -d 'a round robin at home and away'
+complete -c helgrothy -n '__helgrothy_is \'helgrothy hint\' 1' -a tests -d 'tests in which values of factors come together'
+complete -c helgrothy -n '__helgrothy_is \'helgrothy hint\' 1' -a timetable -d 'lessons or exams in slots and rooms'
+complete -c helgrothy -n '__helgrothy_is \'helgrothy hint sudoku\'' -s h -l help -d 'show this help message and exit'
+complete -c helgrothy -n '__helgrothy_is \'helgrothy hint sudoku\'' -l regions -r -F -d 'a file with a picture of the regions, a letter for each place'
+complete -c helgrothy -n '__helgrothy_is \'helgrothy hint sudoku\'' -l cages -r -F -d 'a file with a line for each cage, its sum and its places (12 r1c1 r1c2); or with a picture, a letter for each place, and after a blank line the sums (a=12 b=7)'
+complete -c helgrothy -n '__helgrothy_is \'helgrothy hint sudoku\'' -l with -r -f -d 'only solutions with the option that has these items, as many as it takes to be clear; may be repeated'
+complete -c helgrothy -n '__helgrothy_is \'helgrothy hint sudoku\'' -l without -r -f -d 'only solutions without the options that have all of these items, or patterns of them; may be repeated'
+complete -c helgrothy -n '__helgrothy_is \'helgrothy hint sudoku\'' -l seconds -r -f -d 'the time (default: 5)'
+complete -c helgrothy -n '__helgrothy_is \'helgrothy hint queens\'' -s h -l help -d 'show this help message and exit'
+complete -c helgrothy -n '__helgrothy_is \'helgrothy hint queens\'' -l with -r -f -d 'only solutions with the option that has these items, as many as it takes to be clear; may be repeated'
+complete -c helgrothy -n '__helgrothy_is \'helgrothy hint queens\'' -l without -r -f -d 'only solutions without the options that have all of these items, or patterns of them; may be repeated'
+complete -c helgrothy -n '__helgrothy_is \'helgrothy hint queens\'' -l seconds -r -f -d 'the time (default: 5)'
+complete -c helgrothy -n '__helgrothy_is \'helgrothy hint langford\'' -s h -l help -d 'show this help message and exit'
+complete -c helgrothy -n '__helgrothy_is \'helgrothy hint langford\'' -l with -r -f -d 'only solutions with the option that has these items, as many as it takes to be clear; may be repeated'
+complete -c helgrothy -n '__helgrothy_is \'helgrothy hint langford\'' -l without -r -f -d 'only solutions without the options that have all of these items, or patterns of them; may be repeated'
+complete -c helgrothy -n '__helgrothy_is \'helgrothy hint langford\'' -l seconds -r -f -d 'the time (default: 5)'
+complete -c helgrothy -n '__helgrothy_is \'helgrothy hint polyominoes\'' -s h -l help -d 'show this help message and exit'
+complete -c helgrothy -n '__helgrothy_is \'helgrothy hint polyominoes\'' -l no-turns -d 'pieces may not be turned'
+complete -c helgrothy -n '__helgrothy_is \'helgrothy hint polyominoes\'' -l no-mirrors -d 'pieces may not be mirrored'
+complete -c helgrothy -n '__helgrothy_is \'helgrothy hint polyominoes\'' -l with -r -f -d 'only solutions with the option that has these items, as many as it takes to be clear; may be repeated'
+complete -c helgrothy -n '__helgrothy_is \'helgrothy hint polyominoes\'' -l without -r -f -d 'only solutions without the options that have all of these items, or patterns of them; may be repeated'
+complete -c helgrothy -n '__helgrothy_is \'helgrothy hint polyominoes\'' -l seconds -r -f -d 'the time (default: 5)'
+complete -c helgrothy -n '__helgrothy_is \'helgrothy hint polycubes\'' -s h -l help -d 'show this help message and exit'
+complete -c helgrothy -n '__helgrothy_is \'helgrothy hint polycubes\'' -l mirrors -d 'mirror images of pieces may be used too'
+complete -c helgrothy -n '__helgrothy_is \'helgrothy hint polycubes\'' -l some -d 'pieces may be left over'
+complete -c helgrothy -n '__helgrothy_is \'helgrothy hint polycubes\'' -l with -r -f -d 'only solutions with the option that has these items, as many as it takes to be clear; may be repeated'
+complete -c helgrothy -n '__helgrothy_is \'helgrothy hint polycubes\'' -l without -r -f -d 'only solutions without the options that have all of these items, or patterns of them; may be repeated'
+complete -c helgrothy -n '__helgrothy_is \'helgrothy hint polycubes\'' -l seconds -r -f -d 'the time (default: 5)'
+complete -c helgrothy -n '__helgrothy_is \'helgrothy hint words\'' -s h -l help -d 'show this help message and exit'
+complete -c helgrothy -n '__helgrothy_is \'helgrothy hint words\'' -l with -r -f -d 'only solutions with the option that has these items, as many as it takes to be clear; may be repeated'
+complete -c helgrothy -n '__helgrothy_is \'helgrothy hint words\'' -l without -r -f -d 'only solutions without the options that have all of these items, or patterns of them; may be repeated'
+complete -c helgrothy -n '__helgrothy_is \'helgrothy hint words\'' -l seconds -r -f -d 'the time (default: 5)'
+complete -c helgrothy -n '__helgrothy_is \'helgrothy hint nonogram\'' -s h -l help -d 'show this help message and exit'
+complete -c helgrothy -n '__helgrothy_is \'helgrothy hint nonogram\'' -l with -r -f -d 'only solutions with the option that has these items, as many as it takes to be clear; may be repeated'
+complete -c helgrothy -n '__helgrothy_is \'helgrothy hint nonogram\'' -l without -r -f -d 'only solutions without the options that have all of these items, or patterns of them; may be repeated'
+complete -c helgrothy -n '__helgrothy_is \'helgrothy hint nonogram\'' -l seconds -r -f -d 'the time (default: 5)'
+complete -c helgrothy -n '__helgrothy_is \'helgrothy hint kakuro\'' -s h -l help -d 'show this help message and exit'
+complete -c helgrothy -n '__helgrothy_is \'helgrothy hint kakuro\'' -l with -r -f -d 'only solutions with the option that has these items, as many as it takes to be clear; may be repeated'
+complete -c helgrothy -n '__helgrothy_is \'helgrothy hint kakuro\'' -l without -r -f -d 'only solutions without the options that have all of these items, or patterns of them; may be repeated'
+complete -c helgrothy -n '__helgrothy_is \'helgrothy hint kakuro\'' -l seconds -r -f -d 'the time (default: 5)'
+complete -c helgrothy -n '__helgrothy_is \'helgrothy hint roster\'' -s h -l help -d 'show this help message and exit'
+complete -c helgrothy -n '__helgrothy_is \'helgrothy hint roster\'' -l rest -d 'no shift on the next day that stands higher in the table'
+complete -c helgrothy -n '__helgrothy_is \'helgrothy hint roster\'' -l with -r -f -d 'only solutions with the option that has these items, as many as it takes to be clear; may be repeated'
+complete -c helgrothy -n '__helgrothy_is \'helgrothy hint roster\'' -l without -r -f -d 'only solutions without the options that have all of these items, or patterns of them; may be repeated'
+complete -c helgrothy -n '__helgrothy_is \'helgrothy hint roster\'' -l seconds -r -f -d 'the time (default: 5)'
+complete -c helgrothy -n '__helgrothy_is \'helgrothy hint roundrobin\'' -s h -l help -d 'show this help message and exit'
+complete -c helgrothy -n '__helgrothy_is \'helgrothy hint roundrobin\'' -l double -d 'each two teams meet twice, once at each one\'s home'
+complete -c helgrothy -n '__helgrothy_is \'helgrothy hint roundrobin\'' -l with -r -f -d 'only solutions with the option that has these items, as many as it takes to be clear; may be repeated'
+complete -c helgrothy -n '__helgrothy_is \'helgrothy hint roundrobin\'' -l without -r -f -d 'only solutions without the options that have all of these items, or patterns of them; may be repeated'
+complete -c helgrothy -n '__helgrothy_is \'helgrothy hint roundrobin\'' -l seconds -r -f -d 'the time (default: 5)'
+complete -c helgrothy -n '__helgrothy_is \'helgrothy hint tests\'' -s h -l help -d 'show this help message and exit'
+complete -c helgrothy -n '__helgrothy_is \'helgrothy hint tests\'' -l tests -r -f -d 'so many tests'
+complete -c helgrothy -n '__helgrothy_is \'helgrothy hint tests\'' -l strength -r -f -d 'the values of any T factors come together (default: 2)'
+complete -c helgrothy -n '__helgrothy_is \'helgrothy hint tests\'' -l with -r -f -d 'only solutions with the option that has these items, as many as it takes to be clear; may be repeated'
+complete -c helgrothy -n '__helgrothy_is \'helgrothy hint tests\'' -l without -r -f -d 'only solutions without the options that have all of these items, or patterns of them; may be repeated'
+complete -c helgrothy -n '__helgrothy_is \'helgrothy hint tests\'' -l seconds -r -f -d 'the time (default: 5)'
+complete -c helgrothy -n '__helgrothy_is \'helgrothy hint timetable\'' -s h -l help -d 'show this help message and exit'
+complete -c helgrothy -n '__helgrothy_is \'helgrothy hint timetable\'' -l daily -r -f -d 'nobody has more than N lessons a day'
+complete -c helgrothy -n '__helgrothy_is \'helgrothy hint timetable\'' -l with -r -f -d 'only solutions with the option that has these items, as many as it takes to be clear; may be repeated'
+complete -c helgrothy -n '__helgrothy_is \'helgrothy hint timetable\'' -l without -r -f -d 'only solutions without the options that have all of these items, or patterns of them; may be repeated'
+complete -c helgrothy -n '__helgrothy_is \'helgrothy hint timetable\'' -l seconds -r -f -d 'the time (default: 5)'
+complete -c helgrothy -n '__helgrothy_is \'helgrothy minimal\'' -s h -l help -d 'show this help message and exit'
+complete -c helgrothy -n '__helgrothy_is \'helgrothy minimal\'' -l with -r -f -d 'of a problem: the option with these items is given; may be repeated (default: all of a random solution)'
+complete -c helgrothy -n '__helgrothy_is \'helgrothy minimal\'' -l seed -r -f -d 'the random order (default: 0)'
+complete -c helgrothy -n '__helgrothy_is \'helgrothy minimal\'' -l seconds -r -f -d 'the time (default: 30)'
+complete -c helgrothy -n '__helgrothy_is \'helgrothy minimal\' 1' -a sudoku -d 'a Sudoku from its clues'
+complete -c helgrothy -n '__helgrothy_is \'helgrothy minimal\' 1' -a kakuro -d 'a Kakuro from its grid'
+complete -c helgrothy -n '__helgrothy_is \'helgrothy minimal sudoku\'' -s h -l help -d 'show this help message and exit'
+complete -c helgrothy -n '__helgrothy_is \'helgrothy minimal sudoku\'' -l regions -r -F -d 'a file with a picture of the regions, a letter for each place'
+complete -c helgrothy -n '__helgrothy_is \'helgrothy minimal sudoku\'' -l cages -r -F -d 'a file with a line for each cage, its sum and its places (12 r1c1 r1c2); or with a picture, a letter for each place, and after a blank line the sums (a=12 b=7)'
+complete -c helgrothy -n '__helgrothy_is \'helgrothy minimal sudoku\'' -l with -r -f -d 'of a problem: the option with these items is given; may be repeated (default: all of a random solution)'
+complete -c helgrothy -n '__helgrothy_is \'helgrothy minimal sudoku\'' -l seed -r -f -d 'the random order (default: 0)'
+complete -c helgrothy -n '__helgrothy_is \'helgrothy minimal sudoku\'' -l seconds -r -f -d 'the time (default: 30)'
+complete -c helgrothy -n '__helgrothy_is \'helgrothy minimal kakuro\'' -s h -l help -d 'show this help message and exit'
+complete -c helgrothy -n '__helgrothy_is \'helgrothy minimal kakuro\'' -l with -r -f -d 'of a problem: the option with these items is given; may be repeated (default: all of a random solution)'
+complete -c helgrothy -n '__helgrothy_is \'helgrothy minimal kakuro\'' -l seed -r -f -d 'the random order (default: 0)'
+complete -c helgrothy -n '__helgrothy_is \'helgrothy minimal kakuro\'' -l seconds -r -f -d 'the time (default: 30)'
 complete -c helgrothy -n '__helgrothy_is \'helgrothy sudoku\'' -s h -l help -d 'show this help message and exit'
 complete -c helgrothy -n '__helgrothy_is \'helgrothy sudoku\'' -l regions -r -F -d 'a file with a picture of the regions, a letter for each place'
 complete -c helgrothy -n '__helgrothy_is \'helgrothy sudoku\'' -l cages -r -F -d 'a file with a line for each cage, its sum and its places (12 r1c1 r1c2); or with a picture, a letter for each place, and after a blank line the sums (a=12 b=7)'
 complete -c helgrothy -n '__helgrothy_is \'helgrothy sudoku\'' -l number -r -f -d 'the K-th solution instead of the first'
 complete -c helgrothy -n '__helgrothy_is \'helgrothy sudoku\'' -l limit -r -f -d 'the first N solutions'
 complete -c helgrothy -n '__helgrothy_is \'helgrothy sudoku\'' -l all -d 'all solutions'
+complete -c helgrothy -n '__helgrothy_is \'helgrothy sudoku\'' -l count -d 'only how many solutions there are'
+complete -c helgrothy -n '__helgrothy_is \'helgrothy sudoku\'' -l unique -d 'whether there is exactly one solution; if not, two'
 complete -c helgrothy -n '__helgrothy_is \'helgrothy sudoku\'' -l svg -d 'a picture as SVG, of one solution'
 complete -c helgrothy -n '__helgrothy_is \'helgrothy sudoku\'' -l html -d 'a page for a browser: the solutions, their pictures, and the search\'s way'
 complete -c helgrothy -n '__helgrothy_is \'helgrothy sudoku\'' -l json -d 'a line of JSON for each solution: its number, the numbers of its options, their items, and the colours'
 complete -c helgrothy -n '__helgrothy_is \'helgrothy sudoku\'' -l csv -d 'a table as CSV, with a line for each choice'
 complete -c helgrothy -n '__helgrothy_is \'helgrothy sudoku\'' -l seconds -r -f -d 'give up after S seconds'
+complete -c helgrothy -n '__helgrothy_is \'helgrothy sudoku\'' -l with -r -f -d 'only solutions with the option that has these items, as many as it takes to be clear; may be repeated'
+complete -c helgrothy -n '__helgrothy_is \'helgrothy sudoku\'' -l without -r -f -d 'only solutions without the options that have all of these items, or patterns of them; may be repeated'
 complete -c helgrothy -n '__helgrothy_is \'helgrothy sudoku\'' -l shuffle -r -f -d 'solutions in a random order of the options, the same for the same number'
 complete -c helgrothy -n '__helgrothy_is \'helgrothy sudoku\'' -l up-to-symmetry -d 'one solution of those that are images of each other by turns and mirrors of the board or box'
+complete -c helgrothy -n '__helgrothy_is \'helgrothy sudoku\'' -l cost -r -F -d 'the solution of least cost, from a file: lines of names of items (or patterns) and a number, which each option that has them costs, or a number for each option; by clasp where the path has it, else by dlx3'
 complete -c helgrothy -n '__helgrothy_is \'helgrothy queens\'' -s h -l help -d 'show this help message and exit'
 complete -c helgrothy -n '__helgrothy_is \'helgrothy queens\'' -l number -r -f -d 'the K-th solution instead of the first'
 complete -c helgrothy -n '__helgrothy_is \'helgrothy queens\'' -l limit -r -f -d 'the first N solutions'
 complete -c helgrothy -n '__helgrothy_is \'helgrothy queens\'' -l all -d 'all solutions'
+complete -c helgrothy -n '__helgrothy_is \'helgrothy queens\'' -l count -d 'only how many solutions there are'
+complete -c helgrothy -n '__helgrothy_is \'helgrothy queens\'' -l unique -d 'whether there is exactly one solution; if not, two'
 complete -c helgrothy -n '__helgrothy_is \'helgrothy queens\'' -l svg -d 'a picture as SVG, of one solution'
 complete -c helgrothy -n '__helgrothy_is \'helgrothy queens\'' -l html -d 'a page for a browser: the solutions, their pictures, and the search\'s way'
 complete -c helgrothy -n '__helgrothy_is \'helgrothy queens\'' -l json -d 'a line of JSON for each solution: its number, the numbers of its options, their items, and the colours'
 complete -c helgrothy -n '__helgrothy_is \'helgrothy queens\'' -l csv -d 'a table as CSV, with a line for each choice'
 complete -c helgrothy -n '__helgrothy_is \'helgrothy queens\'' -l seconds -r -f -d 'give up after S seconds'
+complete -c helgrothy -n '__helgrothy_is \'helgrothy queens\'' -l with -r -f -d 'only solutions with the option that has these items, as many as it takes to be clear; may be repeated'
+complete -c helgrothy -n '__helgrothy_is \'helgrothy queens\'' -l without -r -f -d 'only solutions without the options that have all of these items, or patterns of them; may be repeated'
 complete -c helgrothy -n '__helgrothy_is \'helgrothy queens\'' -l shuffle -r -f -d 'solutions in a random order of the options, the same for the same number'
 complete -c helgrothy -n '__helgrothy_is \'helgrothy queens\'' -l up-to-symmetry -d 'one solution of those that are images of each other by turns and mirrors of the board or box'
+complete -c helgrothy -n '__helgrothy_is \'helgrothy queens\'' -l cost -r -F -d 'the solution of least cost, from a file: lines of names of items (or patterns) and a number, which each option that has them costs, or a number for each option; by clasp where the path has it, else by dlx3'
 complete -c helgrothy -n '__helgrothy_is \'helgrothy langford\'' -s h -l help -d 'show this help message and exit'
 complete -c helgrothy -n '__helgrothy_is \'helgrothy langford\'' -l number -r -f -d 'the K-th solution instead of the first'
 complete -c helgrothy -n '__helgrothy_is \'helgrothy langford\'' -l limit -r -f -d 'the first N solutions'
 complete -c helgrothy -n '__helgrothy_is \'helgrothy langford\'' -l all -d 'all solutions'
+complete -c helgrothy -n '__helgrothy_is \'helgrothy langford\'' -l count -d 'only how many solutions there are'
+complete -c helgrothy -n '__helgrothy_is \'helgrothy langford\'' -l unique -d 'whether there is exactly one solution; if not, two'
 complete -c helgrothy -n '__helgrothy_is \'helgrothy langford\'' -l svg -d 'a picture as SVG, of one solution'
 complete -c helgrothy -n '__helgrothy_is \'helgrothy langford\'' -l html -d 'a page for a browser: the solutions, their pictures, and the search\'s way'
 complete -c helgrothy -n '__helgrothy_is \'helgrothy langford\'' -l json -d 'a line of JSON for each solution: its number, the numbers of its options, their items, and the colours'
 complete -c helgrothy -n '__helgrothy_is \'helgrothy langford\'' -l csv -d 'a table as CSV, with a line for each choice'
 complete -c helgrothy -n '__helgrothy_is \'helgrothy langford\'' -l seconds -r -f -d 'give up after S seconds'
+complete -c helgrothy -n '__helgrothy_is \'helgrothy langford\'' -l with -r -f -d 'only solutions with the option that has these items, as many as it takes to be clear; may be repeated'
+complete -c helgrothy -n '__helgrothy_is \'helgrothy langford\'' -l without -r -f -d 'only solutions without the options that have all of these items, or patterns of them; may be repeated'
 complete -c helgrothy -n '__helgrothy_is \'helgrothy langford\'' -l shuffle -r -f -d 'solutions in a random order of the options, the same for the same number'
 complete -c helgrothy -n '__helgrothy_is \'helgrothy langford\'' -l up-to-symmetry -d 'one solution of those that are images of each other by turns and mirrors of the board or box'
+complete -c helgrothy -n '__helgrothy_is \'helgrothy langford\'' -l cost -r -F -d 'the solution of least cost, from a file: lines of names of items (or patterns) and a number, which each option that has them costs, or a number for each option; by clasp where the path has it, else by dlx3'
 complete -c helgrothy -n '__helgrothy_is \'helgrothy polyominoes\'' -s h -l help -d 'show this help message and exit'
 complete -c helgrothy -n '__helgrothy_is \'helgrothy polyominoes\'' -l no-turns -d 'pieces may not be turned'
 complete -c helgrothy -n '__helgrothy_is \'helgrothy polyominoes\'' -l no-mirrors -d 'pieces may not be mirrored'
 complete -c helgrothy -n '__helgrothy_is \'helgrothy polyominoes\'' -l number -r -f -d 'the K-th solution instead of the first'
 complete -c helgrothy -n '__helgrothy_is \'helgrothy polyominoes\'' -l limit -r -f -d 'the first N solutions'
 complete -c helgrothy -n '__helgrothy_is \'helgrothy polyominoes\'' -l all -d 'all solutions'
+complete -c helgrothy -n '__helgrothy_is \'helgrothy polyominoes\'' -l count -d 'only how many solutions there are'
+complete -c helgrothy -n '__helgrothy_is \'helgrothy polyominoes\'' -l unique -d 'whether there is exactly one solution; if not, two'
 complete -c helgrothy -n '__helgrothy_is \'helgrothy polyominoes\'' -l svg -d 'a picture as SVG, of one solution'
 complete -c helgrothy -n '__helgrothy_is \'helgrothy polyominoes\'' -l html -d 'a page for a browser: the solutions, their pictures, and the search\'s way'
 complete -c helgrothy -n '__helgrothy_is \'helgrothy polyominoes\'' -l json -d 'a line of JSON for each solution: its number, the numbers of its options, their items, and the colours'
 complete -c helgrothy -n '__helgrothy_is \'helgrothy polyominoes\'' -l csv -d 'a table as CSV, with a line for each choice'
 complete -c helgrothy -n '__helgrothy_is \'helgrothy polyominoes\'' -l seconds -r -f -d 'give up after S seconds'
+complete -c helgrothy -n '__helgrothy_is \'helgrothy polyominoes\'' -l with -r -f -d 'only solutions with the option that has these items, as many as it takes to be clear; may be repeated'
+complete -c helgrothy -n '__helgrothy_is \'helgrothy polyominoes\'' -l without -r -f -d 'only solutions without the options that have all of these items, or patterns of them; may be repeated'
 complete -c helgrothy -n '__helgrothy_is \'helgrothy polyominoes\'' -l shuffle -r -f -d 'solutions in a random order of the options, the same for the same number'
 complete -c helgrothy -n '__helgrothy_is \'helgrothy polyominoes\'' -l up-to-symmetry -d 'one solution of those that are images of each other by turns and mirrors of the board or box'
+complete -c helgrothy -n '__helgrothy_is \'helgrothy polyominoes\'' -l cost -r -F -d 'the solution of least cost, from a file: lines of names of items (or patterns) and a number, which each option that has them costs, or a number for each option; by clasp where the path has it, else by dlx3'
 complete -c helgrothy -n '__helgrothy_is \'helgrothy polycubes\'' -s h -l help -d 'show this help message and exit'
 complete -c helgrothy -n '__helgrothy_is \'helgrothy polycubes\'' -l mirrors -d 'mirror images of pieces may be used too'
 complete -c helgrothy -n '__helgrothy_is \'helgrothy polycubes\'' -l some -d 'pieces may be left over'
 complete -c helgrothy -n '__helgrothy_is \'helgrothy polycubes\'' -l number -r -f -d 'the K-th solution instead of the first'
 complete -c helgrothy -n '__helgrothy_is \'helgrothy polycubes\'' -l limit -r -f -d 'the first N solutions'
 complete -c helgrothy -n '__helgrothy_is \'helgrothy polycubes\'' -l all -d 'all solutions'
+complete -c helgrothy -n '__helgrothy_is \'helgrothy polycubes\'' -l count -d 'only how many solutions there are'
+complete -c helgrothy -n '__helgrothy_is \'helgrothy polycubes\'' -l unique -d 'whether there is exactly one solution; if not, two'
 complete -c helgrothy -n '__helgrothy_is \'helgrothy polycubes\'' -l svg -d 'a picture as SVG, of one solution'
 complete -c helgrothy -n '__helgrothy_is \'helgrothy polycubes\'' -l html -d 'a page for a browser: the solutions, their pictures, and the search\'s way'
 complete -c helgrothy -n '__helgrothy_is \'helgrothy polycubes\'' -l json -d 'a line of JSON for each solution: its number, the numbers of its options, their items, and the colours'
 complete -c helgrothy -n '__helgrothy_is \'helgrothy polycubes\'' -l csv -d 'a table as CSV, with a line for each choice'
 complete -c helgrothy -n '__helgrothy_is \'helgrothy polycubes\'' -l seconds -r -f -d 'give up after S seconds'
+complete -c helgrothy -n '__helgrothy_is \'helgrothy polycubes\'' -l with -r -f -d 'only solutions with the option that has these items, as many as it takes to be clear; may be repeated'
+complete -c helgrothy -n '__helgrothy_is \'helgrothy polycubes\'' -l without -r -f -d 'only solutions without the options that have all of these items, or patterns of them; may be repeated'
 complete -c helgrothy -n '__helgrothy_is \'helgrothy polycubes\'' -l shuffle -r -f -d 'solutions in a random order of the options, the same for the same number'
 complete -c helgrothy -n '__helgrothy_is \'helgrothy polycubes\'' -l up-to-symmetry -d 'one solution of those that are images of each other by turns and mirrors of the board or box'
+complete -c helgrothy -n '__helgrothy_is \'helgrothy polycubes\'' -l cost -r -F -d 'the solution of least cost, from a file: lines of names of items (or patterns) and a number, which each option that has them costs, or a number for each option; by clasp where the path has it, else by dlx3'
 complete -c helgrothy -n '__helgrothy_is \'helgrothy words\'' -s h -l help -d 'show this help message and exit'
 complete -c helgrothy -n '__helgrothy_is \'helgrothy words\'' -l number -r -f -d 'the K-th solution instead of the first'
 complete -c helgrothy -n '__helgrothy_is \'helgrothy words\'' -l limit -r -f -d 'the first N solutions'
 complete -c helgrothy -n '__helgrothy_is \'helgrothy words\'' -l all -d 'all solutions'
+complete -c helgrothy -n '__helgrothy_is \'helgrothy words\'' -l count -d 'only how many solutions there are'
+complete -c helgrothy -n '__helgrothy_is \'helgrothy words\'' -l unique -d 'whether there is exactly one solution; if not, two'
 complete -c helgrothy -n '__helgrothy_is \'helgrothy words\'' -l svg -d 'a picture as SVG, of one solution'
 complete -c helgrothy -n '__helgrothy_is \'helgrothy words\'' -l html -d 'a page for a browser: the solutions, their pictures, and the search\'s way'
 complete -c helgrothy -n '__helgrothy_is \'helgrothy words\'' -l json -d 'a line of JSON for each solution: its number, the numbers of its options, their items, and the colours'
 complete -c helgrothy -n '__helgrothy_is \'helgrothy words\'' -l csv -d 'a table as CSV, with a line for each choice'
 complete -c helgrothy -n '__helgrothy_is \'helgrothy words\'' -l seconds -r -f -d 'give up after S seconds'
+complete -c helgrothy -n '__helgrothy_is \'helgrothy words\'' -l with -r -f -d 'only solutions with the option that has these items, as many as it takes to be clear; may be repeated'
+complete -c helgrothy -n '__helgrothy_is \'helgrothy words\'' -l without -r -f -d 'only solutions without the options that have all of these items, or patterns of them; may be repeated'
 complete -c helgrothy -n '__helgrothy_is \'helgrothy words\'' -l shuffle -r -f -d 'solutions in a random order of the options, the same for the same number'
 complete -c helgrothy -n '__helgrothy_is \'helgrothy words\'' -l up-to-symmetry -d 'one solution of those that are images of each other by turns and mirrors of the board or box'
+complete -c helgrothy -n '__helgrothy_is \'helgrothy words\'' -l cost -r -F -d 'the solution of least cost, from a file: lines of names of items (or patterns) and a number, which each option that has them costs, or a number for each option; by clasp where the path has it, else by dlx3'
 complete -c helgrothy -n '__helgrothy_is \'helgrothy nonogram\'' -s h -l help -d 'show this help message and exit'
 complete -c helgrothy -n '__helgrothy_is \'helgrothy nonogram\'' -l number -r -f -d 'the K-th solution instead of the first'
 complete -c helgrothy -n '__helgrothy_is \'helgrothy nonogram\'' -l limit -r -f -d 'the first N solutions'
 complete -c helgrothy -n '__helgrothy_is \'helgrothy nonogram\'' -l all -d 'all solutions'
+complete -c helgrothy -n '__helgrothy_is \'helgrothy nonogram\'' -l count -d 'only how many solutions there are'
+complete -c helgrothy -n '__helgrothy_is \'helgrothy nonogram\'' -l unique -d 'whether there is exactly one solution; if not, two'
 complete -c helgrothy -n '__helgrothy_is \'helgrothy nonogram\'' -l svg -d 'a picture as SVG, of one solution'
 complete -c helgrothy -n '__helgrothy_is \'helgrothy nonogram\'' -l html -d 'a page for a browser: the solutions, their pictures, and the search\'s way'
 complete -c helgrothy -n '__helgrothy_is \'helgrothy nonogram\'' -l json -d 'a line of JSON for each solution: its number, the numbers of its options, their items, and the colours'
 complete -c helgrothy -n '__helgrothy_is \'helgrothy nonogram\'' -l csv -d 'a table as CSV, with a line for each choice'
 complete -c helgrothy -n '__helgrothy_is \'helgrothy nonogram\'' -l seconds -r -f -d 'give up after S seconds'
+complete -c helgrothy -n '__helgrothy_is \'helgrothy nonogram\'' -l with -r -f -d 'only solutions with the option that has these items, as many as it takes to be clear; may be repeated'
+complete -c helgrothy -n '__helgrothy_is \'helgrothy nonogram\'' -l without -r -f -d 'only solutions without the options that have all of these items, or patterns of them; may be repeated'
 complete -c helgrothy -n '__helgrothy_is \'helgrothy nonogram\'' -l shuffle -r -f -d 'solutions in a random order of the options, the same for the same number'
 complete -c helgrothy -n '__helgrothy_is \'helgrothy nonogram\'' -l up-to-symmetry -d 'one solution of those that are images of each other by turns and mirrors of the board or box'
+complete -c helgrothy -n '__helgrothy_is \'helgrothy nonogram\'' -l cost -r -F -d 'the solution of least cost, from a file: lines of names of items (or patterns) and a number, which each option that has them costs, or a number for each option; by clasp where the path has it, else by dlx3'
 complete -c helgrothy -n '__helgrothy_is \'helgrothy kakuro\'' -s h -l help -d 'show this help message and exit'
 complete -c helgrothy -n '__helgrothy_is \'helgrothy kakuro\'' -l number -r -f -d 'the K-th solution instead of the first'
 complete -c helgrothy -n '__helgrothy_is \'helgrothy kakuro\'' -l limit -r -f -d 'the first N solutions'
 complete -c helgrothy -n '__helgrothy_is \'helgrothy kakuro\'' -l all -d 'all solutions'
+complete -c helgrothy -n '__helgrothy_is \'helgrothy kakuro\'' -l count -d 'only how many solutions there are'
+complete -c helgrothy -n '__helgrothy_is \'helgrothy kakuro\'' -l unique -d 'whether there is exactly one solution; if not, two'
 complete -c helgrothy -n '__helgrothy_is \'helgrothy kakuro\'' -l svg -d 'a picture as SVG, of one solution'
 complete -c helgrothy -n '__helgrothy_is \'helgrothy kakuro\'' -l html -d 'a page for a browser: the solutions, their pictures, and the search\'s way'
 complete -c helgrothy -n '__helgrothy_is \'helgrothy kakuro\'' -l json -d 'a line of JSON for each solution: its number, the numbers of its options, their items, and the colours'
 complete -c helgrothy -n '__helgrothy_is \'helgrothy kakuro\'' -l csv -d 'a table as CSV, with a line for each choice'
 complete -c helgrothy -n '__helgrothy_is \'helgrothy kakuro\'' -l seconds -r -f -d 'give up after S seconds'
+complete -c helgrothy -n '__helgrothy_is \'helgrothy kakuro\'' -l with -r -f -d 'only solutions with the option that has these items, as many as it takes to be clear; may be repeated'
+complete -c helgrothy -n '__helgrothy_is \'helgrothy kakuro\'' -l without -r -f -d 'only solutions without the options that have all of these items, or patterns of them; may be repeated'
 complete -c helgrothy -n '__helgrothy_is \'helgrothy kakuro\'' -l shuffle -r -f -d 'solutions in a random order of the options, the same for the same number'
 complete -c helgrothy -n '__helgrothy_is \'helgrothy kakuro\'' -l up-to-symmetry -d 'one solution of those that are images of each other by turns and mirrors of the board or box'
+complete -c helgrothy -n '__helgrothy_is \'helgrothy kakuro\'' -l cost -r -F -d 'the solution of least cost, from a file: lines of names of items (or patterns) and a number, which each option that has them costs, or a number for each option; by clasp where the path has it, else by dlx3'
 complete -c helgrothy -n '__helgrothy_is \'helgrothy roster\'' -s h -l help -d 'show this help message and exit'
 complete -c helgrothy -n '__helgrothy_is \'helgrothy roster\'' -l rest -d 'no shift on the next day that stands higher in the table'
 complete -c helgrothy -n '__helgrothy_is \'helgrothy roster\'' -l number -r -f -d 'the K-th solution instead of the first'
 complete -c helgrothy -n '__helgrothy_is \'helgrothy roster\'' -l limit -r -f -d 'the first N solutions'
 complete -c helgrothy -n '__helgrothy_is \'helgrothy roster\'' -l all -d 'all solutions'
+complete -c helgrothy -n '__helgrothy_is \'helgrothy roster\'' -l count -d 'only how many solutions there are'
+complete -c helgrothy -n '__helgrothy_is \'helgrothy roster\'' -l unique -d 'whether there is exactly one solution; if not, two'
 complete -c helgrothy -n '__helgrothy_is \'helgrothy roster\'' -l svg -d 'a picture as SVG, of one solution'
 complete -c helgrothy -n '__helgrothy_is \'helgrothy roster\'' -l html -d 'a page for a browser: the solutions, their pictures, and the search\'s way'
 complete -c helgrothy -n '__helgrothy_is \'helgrothy roster\'' -l json -d 'a line of JSON for each solution: its number, the numbers of its options, their items, and the colours'
 complete -c helgrothy -n '__helgrothy_is \'helgrothy roster\'' -l csv -d 'a table as CSV, with a line for each choice'
 complete -c helgrothy -n '__helgrothy_is \'helgrothy roster\'' -l seconds -r -f -d 'give up after S seconds'
+complete -c helgrothy -n '__helgrothy_is \'helgrothy roster\'' -l with -r -f -d 'only solutions with the option that has these items, as many as it takes to be clear; may be repeated'
+complete -c helgrothy -n '__helgrothy_is \'helgrothy roster\'' -l without -r -f -d 'only solutions without the options that have all of these items, or patterns of them; may be repeated'
 complete -c helgrothy -n '__helgrothy_is \'helgrothy roster\'' -l shuffle -r -f -d 'solutions in a random order of the options, the same for the same number'
 complete -c helgrothy -n '__helgrothy_is \'helgrothy roster\'' -l up-to-symmetry -d 'one solution of those that are images of each other by turns and mirrors of the board or box'
+complete -c helgrothy -n '__helgrothy_is \'helgrothy roster\'' -l cost -r -F -d 'the solution of least cost, from a file: lines of names of items (or patterns) and a number, which each option that has them costs, or a number for each option; by clasp where the path has it, else by dlx3'
 complete -c helgrothy -n '__helgrothy_is \'helgrothy roundrobin\'' -s h -l help -d 'show this help message and exit'
 complete -c helgrothy -n '__helgrothy_is \'helgrothy roundrobin\'' -l double -d 'each two teams meet twice, once at each one\'s home'
 complete -c helgrothy -n '__helgrothy_is \'helgrothy roundrobin\'' -l number -r -f -d 'the K-th solution instead of the first'
 complete -c helgrothy -n '__helgrothy_is \'helgrothy roundrobin\'' -l limit -r -f -d 'the first N solutions'
 complete -c helgrothy -n '__helgrothy_is \'helgrothy roundrobin\'' -l all -d 'all solutions'
+complete -c helgrothy -n '__helgrothy_is \'helgrothy roundrobin\'' -l count -d 'only how many solutions there are'
+complete -c helgrothy -n '__helgrothy_is \'helgrothy roundrobin\'' -l unique -d 'whether there is exactly one solution; if not, two'
 complete -c helgrothy -n '__helgrothy_is \'helgrothy roundrobin\'' -l svg -d 'a picture as SVG, of one solution'
 complete -c helgrothy -n '__helgrothy_is \'helgrothy roundrobin\'' -l html -d 'a page for a browser: the solutions, their pictures, and the search\'s way'
 complete -c helgrothy -n '__helgrothy_is \'helgrothy roundrobin\'' -l json -d 'a line of JSON for each solution: its number, the numbers of its options, their items, and the colours'
 complete -c helgrothy -n '__helgrothy_is \'helgrothy roundrobin\'' -l csv -d 'a table as CSV, with a line for each choice'
 complete -c helgrothy -n '__helgrothy_is \'helgrothy roundrobin\'' -l seconds -r -f -d 'give up after S seconds'
+complete -c helgrothy -n '__helgrothy_is \'helgrothy roundrobin\'' -l with -r -f -d 'only solutions with the option that has these items, as many as it takes to be clear; may be repeated'
+complete -c helgrothy -n '__helgrothy_is \'helgrothy roundrobin\'' -l without -r -f -d 'only solutions without the options that have all of these items, or patterns of them; may be repeated'
 complete -c helgrothy -n '__helgrothy_is \'helgrothy roundrobin\'' -l shuffle -r -f -d 'solutions in a random order of the options, the same for the same number'
 complete -c helgrothy -n '__helgrothy_is \'helgrothy roundrobin\'' -l up-to-symmetry -d 'one solution of those that are images of each other by turns and mirrors of the board or box'
+complete -c helgrothy -n '__helgrothy_is \'helgrothy roundrobin\'' -l cost -r -F -d 'the solution of least cost, from a file: lines of names of items (or patterns) and a number, which each option that has them costs, or a number for each option; by clasp where the path has it, else by dlx3'
 complete -c helgrothy -n '__helgrothy_is \'helgrothy tests\'' -s h -l help -d 'show this help message and exit'
 complete -c helgrothy -n '__helgrothy_is \'helgrothy tests\'' -l tests -r -f -d 'so many tests'
 complete -c helgrothy -n '__helgrothy_is \'helgrothy tests\'' -l strength -r -f -d 'the values of any T factors come together (default: 2)'
@@ -408,25 +674,35 @@ complete -c helgrothy -n '__helgrothy_is \'helgrothy tests\'' -l least -d 'as fe
 complete -c helgrothy -n '__helgrothy_is \'helgrothy tests\'' -l number -r -f -d 'the K-th solution instead of the first'
 complete -c helgrothy -n '__helgrothy_is \'helgrothy tests\'' -l limit -r -f -d 'the first N solutions'
 complete -c helgrothy -n '__helgrothy_is \'helgrothy tests\'' -l all -d 'all solutions'
+complete -c helgrothy -n '__helgrothy_is \'helgrothy tests\'' -l count -d 'only how many solutions there are'
+complete -c helgrothy -n '__helgrothy_is \'helgrothy tests\'' -l unique -d 'whether there is exactly one solution; if not, two'
 complete -c helgrothy -n '__helgrothy_is \'helgrothy tests\'' -l svg -d 'a picture as SVG, of one solution'
 complete -c helgrothy -n '__helgrothy_is \'helgrothy tests\'' -l html -d 'a page for a browser: the solutions, their pictures, and the search\'s way'
 complete -c helgrothy -n '__helgrothy_is \'helgrothy tests\'' -l json -d 'a line of JSON for each solution: its number, the numbers of its options, their items, and the colours'
 complete -c helgrothy -n '__helgrothy_is \'helgrothy tests\'' -l csv -d 'a table as CSV, with a line for each choice'
 complete -c helgrothy -n '__helgrothy_is \'helgrothy tests\'' -l seconds -r -f -d 'give up after S seconds'
+complete -c helgrothy -n '__helgrothy_is \'helgrothy tests\'' -l with -r -f -d 'only solutions with the option that has these items, as many as it takes to be clear; may be repeated'
+complete -c helgrothy -n '__helgrothy_is \'helgrothy tests\'' -l without -r -f -d 'only solutions without the options that have all of these items, or patterns of them; may be repeated'
 complete -c helgrothy -n '__helgrothy_is \'helgrothy tests\'' -l shuffle -r -f -d 'solutions in a random order of the options, the same for the same number'
 complete -c helgrothy -n '__helgrothy_is \'helgrothy tests\'' -l up-to-symmetry -d 'one solution of those that are images of each other by turns and mirrors of the board or box'
+complete -c helgrothy -n '__helgrothy_is \'helgrothy tests\'' -l cost -r -F -d 'the solution of least cost, from a file: lines of names of items (or patterns) and a number, which each option that has them costs, or a number for each option; by clasp where the path has it, else by dlx3'
 complete -c helgrothy -n '__helgrothy_is \'helgrothy timetable\'' -s h -l help -d 'show this help message and exit'
 complete -c helgrothy -n '__helgrothy_is \'helgrothy timetable\'' -l daily -r -f -d 'nobody has more than N lessons a day'
 complete -c helgrothy -n '__helgrothy_is \'helgrothy timetable\'' -l number -r -f -d 'the K-th solution instead of the first'
 complete -c helgrothy -n '__helgrothy_is \'helgrothy timetable\'' -l limit -r -f -d 'the first N solutions'
 complete -c helgrothy -n '__helgrothy_is \'helgrothy timetable\'' -l all -d 'all solutions'
+complete -c helgrothy -n '__helgrothy_is \'helgrothy timetable\'' -l count -d 'only how many solutions there are'
+complete -c helgrothy -n '__helgrothy_is \'helgrothy timetable\'' -l unique -d 'whether there is exactly one solution; if not, two'
 complete -c helgrothy -n '__helgrothy_is \'helgrothy timetable\'' -l svg -d 'a picture as SVG, of one solution'
 complete -c helgrothy -n '__helgrothy_is \'helgrothy timetable\'' -l html -d 'a page for a browser: the solutions, their pictures, and the search\'s way'
 complete -c helgrothy -n '__helgrothy_is \'helgrothy timetable\'' -l json -d 'a line of JSON for each solution: its number, the numbers of its options, their items, and the colours'
 complete -c helgrothy -n '__helgrothy_is \'helgrothy timetable\'' -l csv -d 'a table as CSV, with a line for each choice'
 complete -c helgrothy -n '__helgrothy_is \'helgrothy timetable\'' -l seconds -r -f -d 'give up after S seconds'
+complete -c helgrothy -n '__helgrothy_is \'helgrothy timetable\'' -l with -r -f -d 'only solutions with the option that has these items, as many as it takes to be clear; may be repeated'
+complete -c helgrothy -n '__helgrothy_is \'helgrothy timetable\'' -l without -r -f -d 'only solutions without the options that have all of these items, or patterns of them; may be repeated'
 complete -c helgrothy -n '__helgrothy_is \'helgrothy timetable\'' -l shuffle -r -f -d 'solutions in a random order of the options, the same for the same number'
 complete -c helgrothy -n '__helgrothy_is \'helgrothy timetable\'' -l up-to-symmetry -d 'one solution of those that are images of each other by turns and mirrors of the board or box'
+complete -c helgrothy -n '__helgrothy_is \'helgrothy timetable\'' -l cost -r -F -d 'the solution of least cost, from a file: lines of names of items (or patterns) and a number, which each option that has them costs, or a number for each option; by clasp where the path has it, else by dlx3'
 complete -c dlx1 -n '__helgrothy_is \'dlx1\' 1+' -f -a 'm1 m1000 t1 t2'
 complete -c dlx2 -n '__helgrothy_is \'dlx2\' 1+' -f -a 'm1 m1000 t1 t2'
 complete -c dlx3 -n '__helgrothy_is \'dlx3\' 1+' -f -a 'm1 m1000 t1 t2'
@@ -436,6 +712,8 @@ complete -c dlx-span -n '__helgrothy_is \'dlx-span\' 1' -f -a '1 2 3'
 complete -c dlx-span -n '__helgrothy_is \'dlx-span\' 2' -f -a 'm0 m1'
 complete -c dlx-join -n '__helgrothy_is \'dlx-join\' 1' -f -a 'm0 m1'
 complete -c dlx-join -n '__helgrothy_is \'dlx-join\' 2+' -F
+complete -c dlx-count -n '__helgrothy_is \'dlx-count\' 1' -f -a '1 2 3'
+complete -c dlx-count -n '__helgrothy_is \'dlx-count\' 2' -f -a 'b512'
 complete -c helgrothy -n '__helgrothy_is \'helgrothy make sudoku\' 1' -F
 complete -c helgrothy -n '__helgrothy_is \'helgrothy make queens\' 1' -F
 complete -c helgrothy -n '__helgrothy_is \'helgrothy make polyominoes\' 1' -F -a 'pentominoes tetrominoes'
@@ -458,10 +736,27 @@ complete -c helgrothy -n '__helgrothy_is \'helgrothy export\' 2' -f -a '(__fish_
 complete -c helgrothy -n '__helgrothy_is \'helgrothy import\' 1' -f -a 'cadical clasp'
 complete -c helgrothy -n '__helgrothy_is \'helgrothy import\' 2' -f -a '(__fish_complete_suffix .dlx)'
 complete -c helgrothy -n '__helgrothy_is \'helgrothy why\' 1' -f -a '(__fish_complete_suffix .dlx)'
+complete -c helgrothy -n '__helgrothy_is \'helgrothy count\' 1' -f -a '(__fish_complete_suffix .dlx)'
 complete -c helgrothy -n '__helgrothy_is \'helgrothy search\' 1' -f -a '(__fish_complete_suffix .dlx)'
 complete -c helgrothy -n '__helgrothy_is \'helgrothy status\' 1' -f -a '(__fish_complete_directories)'
 complete -c helgrothy -n '__helgrothy_is \'helgrothy result\' 1' -f -a '(__fish_complete_directories)'
 complete -c helgrothy -n '__helgrothy_is \'helgrothy rows\' 1' -f -a '(__fish_complete_suffix .dlx)'
+complete -c helgrothy -n '__helgrothy_is \'helgrothy hint sudoku\' 1' -F
+complete -c helgrothy -n '__helgrothy_is \'helgrothy hint queens\' 1' -F
+complete -c helgrothy -n '__helgrothy_is \'helgrothy hint polyominoes\' 1' -F -a 'pentominoes tetrominoes'
+complete -c helgrothy -n '__helgrothy_is \'helgrothy hint polyominoes\' 2' -F
+complete -c helgrothy -n '__helgrothy_is \'helgrothy hint polycubes\' 1' -F -a 'pentacubes pentominoes soma tetracubes tetrominoes'
+complete -c helgrothy -n '__helgrothy_is \'helgrothy hint polycubes\' 2' -F
+complete -c helgrothy -n '__helgrothy_is \'helgrothy hint words\' 1' -F
+complete -c helgrothy -n '__helgrothy_is \'helgrothy hint words\' 2' -F
+complete -c helgrothy -n '__helgrothy_is \'helgrothy hint nonogram\' 1' -F
+complete -c helgrothy -n '__helgrothy_is \'helgrothy hint kakuro\' 1' -F
+complete -c helgrothy -n '__helgrothy_is \'helgrothy hint roster\' 1' -F
+complete -c helgrothy -n '__helgrothy_is \'helgrothy hint roundrobin\' 1' -F
+complete -c helgrothy -n '__helgrothy_is \'helgrothy hint tests\' 1' -F
+complete -c helgrothy -n '__helgrothy_is \'helgrothy hint timetable\' 1' -F
+complete -c helgrothy -n '__helgrothy_is \'helgrothy minimal sudoku\' 1' -F
+complete -c helgrothy -n '__helgrothy_is \'helgrothy minimal kakuro\' 1' -F
 complete -c helgrothy -n '__helgrothy_is \'helgrothy sudoku\' 1' -F
 complete -c helgrothy -n '__helgrothy_is \'helgrothy queens\' 1' -F
 complete -c helgrothy -n '__helgrothy_is \'helgrothy polyominoes\' 1' -F -a 'pentominoes tetrominoes'

@@ -19,7 +19,7 @@ find "$root/usr/share/man" -type f -exec gzip -9n {} +
 rm "$root/usr/share/man/man1/dlx-progress.1"
 ln -s helgrothy.1.gz "$root/usr/share/man/man1/dlx-progress.1.gz"
 # The symbols of a program say nothing to its users.
-for program in dlx1 dlx2 dlx3 dlxcheck dlx-span dlx-join; do strip --strip-unneeded "$root/usr/bin/$program"; done
+for program in dlx1 dlx2 dlx3 dlxcheck dlx-span dlx-join dlx-count; do strip --strip-unneeded "$root/usr/bin/$program"; done
 doc=$root/usr/share/doc/helgrothy
 cp release/copyright "$doc/copyright"
 {

@@ -10,7 +10,7 @@ import sys
 import time
 import zipfile
 
-PROGRAMS = ("dlx1", "dlx2", "dlx3", "dlxcheck", "dlx-span", "dlx-join")
+PROGRAMS = ("dlx1", "dlx2", "dlx3", "dlxcheck", "dlx-span", "dlx-join", "dlx-count")
 # What pip writes for an entry point can't keep Python from the current folder and PYTHONPATH, so the commands are the
 # repository's script under each name.
 COMMANDS = ("helgrothy", "dlx-progress")

@@ -132,7 +132,7 @@ class Whole(unittest.TestCase):
         self.assertFalse((self.top / "to").exists())
 
     def test_behind_the_gate_nothing_is_built(self) -> None:
-        names = ["dlx1", "dlx2", "dlx3", "dlxcheck", "dlx_span", "dlx_join"]
+        names = ["dlx1", "dlx2", "dlx3", "dlxcheck", "dlx_span", "dlx_join", "dlx_count"]
         for name in names:
             (self.top / "crates" / name / "out").mkdir()
             (self.top / "crates" / name / "out" / name).write_text("a program")
@@ -150,7 +150,7 @@ class Help(unittest.TestCase):
     def test_make_help_names_all_targets(self) -> None:
         lines = (TOP / "Makefile").read_text().splitlines()
         targets = {word for line in lines if line.startswith(".PHONY:") for word in line.split()[1:]}
-        targets -= {"help", "$(PROGRAMS)", "$(SPAN_CRATES)", "install-lib", "uninstall-lib"}
+        targets -= {"help", "$(PROGRAMS)", "$(DASHED_CRATES)", "install-lib", "uninstall-lib"}
         words = ["make", "-s", "-C", TOP, "help"]
         ran = subprocess.run(words, capture_output=True, text=True, check=True, env=ENVIRONMENT)
         told = [line.partition(": ")[0] for line in ran.stdout.splitlines()]

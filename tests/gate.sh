@@ -29,7 +29,7 @@ whole=$!
 wait $whole
 status=$?
 # `make all` takes the programs that this built.
-[ $status != 0 ] || scripts/build --note dlx1 dlx2 dlx3 dlxcheck dlx_span dlx_join
+[ $status != 0 ] || scripts/build --note dlx1 dlx2 dlx3 dlxcheck dlx_span dlx_join dlx_count
 if [ $status = 0 ] && [ -n "$page" ]; then
     kill $ahead 2>/dev/null
     wait

@@ -104,4 +104,41 @@ crates/dlx_join/out/dlx_join m0 "$folder/whole" </dev/null >&- 2>/dev/null
 crates/dlx_join/out/dlx_join m0 "$folder/whole" </dev/null 2>&- >/dev/null
 [ $? = 3 ] || { echo "dlx_join: standard error is closed"; differ=1; }
 rm -r "$folder"
+for words in '' 0 '1 m1' '1 b' '1 b1 b1' '1 bx'; do
+    # shellcheck disable=SC2086
+    expect 1 dlx_count $words </dev/null
+done
+expect 2 dlx_count 1 <<'END'
+A | x
+A x:1
+END
+expect 2 dlx_count 2 <<'END'
+1:2|A
+A
+END
+expect 3 dlx_count 1 <&-
+expect 0 dlx_count 1 <<'END'
+A
+A
+END
+expect 6 dlx_count 1 b0 <<'END'
+A
+A
+END
+printf 'A\nA\n' | crates/dlx_count/out/dlx_count 1 2>&-
+[ $? = 3 ] || { echo 'dlx_count 1 2>&-: another status than 3'; differ=1; }
+tells 'Altogether 2 solutions.' dlx_count 1 <<'END'
+A
+A
+A
+END
+tells 'No count within 0 megabytes.' dlx_count 3 b0 <<'END'
+A
+A
+END
+tells 'Usage: dlx-count 1|2|3 [bMEGABYTES]' dlx_count 4 </dev/null
+tells 'Line 2: unknown item.' dlx_count 1 <<'END'
+A
+B
+END
 exit $differ

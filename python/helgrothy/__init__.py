@@ -13,7 +13,9 @@ The modules, which need no import of their own:
     data      writes solutions as JSON and CSV
     shuffle   gives solutions in a random order
     symmetry  gives one solution of those that are images of each other
-    cost      finds the solution that costs least
+    cost      finds the solution that costs least; `wishes` has costs by the names of items
+    given     has the solutions with some options and without others; `hint` finds a step that is forced
+    minimal   finds out which of the options that are given a single solution takes
     lint      looks for slips in the text of a problem
     why       says why a problem has no solution
     export    writes problems for other solvers; `answers` reads what they answer
@@ -28,7 +30,24 @@ from importlib import import_module
 from typing import TYPE_CHECKING, Any
 
 if TYPE_CHECKING:
-    from . import answers, cost, data, draw, export, lint, make, shuffle, symmetry, table, why
+    from . import (
+        answers,
+        cost,
+        data,
+        draw,
+        engines,
+        export,
+        given,
+        hint,
+        lint,
+        make,
+        minimal,
+        shuffle,
+        symmetry,
+        table,
+        why,
+        wishes,
+    )
     from .errors import (
         AnswerFault,
         Fault,
@@ -76,13 +95,18 @@ __all__ = [
     "cost",
     "data",
     "draw",
+    "engines",
     "export",
+    "given",
+    "hint",
     "lint",
     "make",
+    "minimal",
     "shuffle",
     "symmetry",
     "table",
     "why",
+    "wishes",
 ]
 
 # Where the names come from that are neither modules nor errors. All are loaded when they are first used, so that a

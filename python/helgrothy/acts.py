@@ -7,10 +7,10 @@ from __future__ import annotations
 
 import re
 import time
-from collections.abc import Callable, Sequence
+from collections.abc import Callable, Iterator, Sequence
 from typing import TYPE_CHECKING, Any
 
-from . import console
+from . import console, count_command
 from .console import write
 from .draw import drawing_of
 from .errors import HelgrothyError, NoPicture, OutOfTime, TableFault
@@ -21,15 +21,18 @@ from .problem import Problem
 
 if TYPE_CHECKING:
     import argparse
-    from fractions import Fraction
-
     from .draw import Drawing
+    from .given import Given
     from .make.kind import Kind
     from .page.file import File
+    from .solution import Solution
     from .stream import Solutions
+    from .watch import Watch
+    from .wishes import Costs
 
-# A reason is looked for so long where a problem turns out to have no solution.
+# A reason is looked for so long where a problem turns out to have no solution, and `lint` looks for a solution so long.
 _REASON_SECONDS = 2.0
+_SEARCH_SECONDS = 5.0
 # Of the time that a command is given, so that what was found by then can be told; a page is put together at the end.
 _SHARE = 0.9
 _SHARE_OF_PAGE = 0.7
@@ -50,34 +53,45 @@ def make_and_solve(arguments: argparse.Namespace) -> int:
     if search is None:
         return _show(kind.make(arguments), arguments)
     _check_one(arguments)
+    if arguments.cost is not None or arguments.given or arguments.forbidden:
+        raise ValueError("this search has a problem of its own: without --cost, --with and --without")
     return _show_found(search(None if arguments.seconds is None else arguments.seconds * _SHARE), arguments)
 
 
-def _show_found(found: Found, arguments: argparse.Namespace) -> int:
-    """Shows the one solution that a search of another kind found."""
+def _show_found(found: Found, arguments: argparse.Namespace, notes: Sequence[str] = ()) -> int:
+    """Shows the one solution that a search of another kind found, and what is to be said of it."""
     options = found.problem.options
     page = _page(found.problem, arguments)
     show = _showing(found.problem, arguments, _listed_options, page)
     show(1, [options[number] for number in found.numbers], lambda _: found.numbers, lambda: untold(found.numbers))
-    console.say(found.remark)
+    for line in [found.remark, *notes]:
+        console.say(line)
     if page is not None:
-        write([page.text(1, False, [found.remark])])
+        write([page.text(1, False, [found.remark, *notes])])
     return 0
 
 
 def _check_one(arguments: argparse.Namespace) -> None:
     """Raises `ValueError` where more is asked for than a search of another kind finds."""
-    if arguments.all or arguments.limit or arguments.number:
-        raise ValueError("this search finds one solution: without --all, --limit and --number")
+    if arguments.all or arguments.limit or arguments.number or arguments.count or arguments.unique:
+        raise ValueError("this search finds one solution: without --all, --limit, --number, --count and --unique")
     if arguments.shuffle is not None or arguments.up_to_symmetry:
         raise ValueError("this search has an order of its own: without --shuffle and --up-to-symmetry")
 
 
 def _show(problem: Problem[Any], arguments: argparse.Namespace) -> int:
-    if arguments.cost is not None:
-        return _show_least(problem, arguments)
+    from .given import Given
+    from .puzzle_acts import choices, uniqueness
+
+    asked = Given(problem, *choices(problem, arguments))
+    costs = _costs(problem, arguments)
+    if costs is not None:
+        return _show_least(asked, costs, arguments)
+    if arguments.count:
+        count_command.check(arguments)
+        return count_command.show(asked.inner, arguments)
     number = arguments.number or 1
-    limit = None if arguments.all else arguments.limit or number
+    limit = None if arguments.all else 2 if arguments.unique else arguments.limit or number
     if arguments.svg and limit != number:
         raise ValueError("an SVG is of one solution: --number says which")
     page = _page(problem, arguments)
@@ -92,15 +106,20 @@ def _show(problem: Problem[Any], arguments: argparse.Namespace) -> int:
         most *= _SHARE_OF_PAGE
     last = float("inf") if most is None else time.monotonic() + most
     shown = 0
+    pair: list[list[int]] = []
+    from . import engines
     from .watch import Watch
 
-    solutions, among = _search(problem, arguments, limit, number, most)
+    solutions, among = _search(asked.inner, arguments, limit, number, most)
     try:
-        with Watch(problem, console.say) as watch, solutions:
-            for found in solutions:
+        with Watch(asked.inner, console.say) as watch, solutions:
+            for searched in _counted_beside(solutions, watch):
                 watch.end()
+                found = asked.outer(searched)
                 show(arguments.number or shown + 1, found, lambda _: found.numbers, lambda: found.steps)
                 shown += 1
+                if arguments.unique:
+                    pair.append(found.numbers)
                 if page is not None and page.is_full:
                     break
                 if page is not None and time.monotonic() > last:
@@ -110,17 +129,38 @@ def _show(problem: Problem[Any], arguments: argparse.Namespace) -> int:
         if page is not None:
             write([page.text(reached, False, [f"{error}"])])
         return _fail(f"{error}; {_counted(reached)} till then")
+    except engines.Claimed as claim:
+        told = f"{claim}; `helgrothy why` may say which items conflict"
+        console.say(told)
+        if page is not None:
+            write([page.text(0, False, [told])])
+        return 1
     # None where the page was full before.
     total = shown if solutions.total is None else solutions.total
-    console.say(f"Altogether {_counted(total)}{among}{'.' if solutions.complete else ' (limit).'}")
-    reasons = [] if total or watch.has_told else _reasons(problem, deadline)
+    if arguments.unique:
+        for line in uniqueness(problem, pair, among):
+            console.say(line)
+    else:
+        console.say(f"Altogether {_counted(total)}{among}{'.' if solutions.complete else ' (limit).'}")
+    reasons = [] if total or watch.has_told else _reasons(asked, deadline)
     for line in reasons:
         console.say(line)
     if page is not None:
         write([page.text(total, bool(solutions.complete), reasons)])
     if total and not shown:
         return _fail(f"there is no solution {number}", 1)
-    return 0 if shown else 1
+    return 0 if shown and len(pair) < 2 else 1
+
+
+def _counted_beside(solutions: Solutions[Any], watch: Watch) -> Iterator[Solution[Any]]:
+    """The solutions; where an engine reports that there is none, the count of the bounds may still say why."""
+    from .engines import Claimed
+
+    try:
+        yield from solutions
+    except Claimed:
+        watch.wait()
+        raise
 
 
 def _search(
@@ -136,6 +176,10 @@ def _search(
 
         return shuffle.solve(problem, arguments.shuffle, limit, spacing, seconds=seconds), ""
     if not arguments.up_to_symmetry:
+        if limit == 1 and arguments.number is None:
+            from . import engines
+
+            return engines.solve(problem, seconds, console.say), ""
         return problem.solve(limit, spacing, seconds=seconds), ""
     kind = KINDS.get(kind_of(problem.comments) or "")
     cell = arguments.cell or (kind.cell if kind else None)
@@ -153,57 +197,77 @@ def _search(
     return symmetry.solve(problem, plan, limit, spacing, seconds=seconds), told
 
 
-def _show_least(problem: Problem[Any], arguments: argparse.Namespace) -> int:
-    from . import cost
+def _costs(problem: Problem[Any], arguments: argparse.Namespace) -> Costs | None:
+    """What the options cost, by the file of --cost and the wishes of a table; None without either."""
+    if arguments.cost is None and kind_of(problem.comments) is None:
+        return None
+    from . import wishes
 
+    of_table = wishes.of_table(problem)
+    if arguments.cost is None:
+        if of_table is None or not _asks_for_others(arguments):
+            return of_table
+        console.say("The wishes of the table don't count here: only where the cheapest solution is asked for.")
+        return None
     _check_one(arguments)
-    if arguments.problem == arguments.cost == "-":
+    if getattr(arguments, "problem", "") == arguments.cost == "-":
         raise ValueError("the problem and the costs can't both come from standard input")
     try:
-        costs = cost.read(read_text(arguments.cost), len(problem.options))
+        costs = wishes.read(read_text(arguments.cost), problem)
     except TableFault as fault:
         raise ValueError(f"{'standard input' if arguments.cost == '-' else arguments.cost}: {fault}") from None
+    return costs if of_table is None else costs + of_table
+
+
+def _asks_for_others(arguments: argparse.Namespace) -> bool:
+    """Whether other solutions than the cheapest one are asked for."""
+    which = arguments.all or arguments.limit is not None or arguments.number is not None
+    ways = arguments.shuffle is not None or arguments.up_to_symmetry
+    return which or ways or arguments.count or arguments.unique
+
+
+def _show_least(asked: Given[Any], costs: Costs, arguments: argparse.Namespace) -> int:
+    from . import cost
+    from .amounts import spelled
+
     deadline = None if arguments.seconds is None else time.monotonic() + arguments.seconds
+    seconds = None if arguments.seconds is None else arguments.seconds * _SHARE
     try:
-        least = cost.least(problem, costs, None if arguments.seconds is None else arguments.seconds * _SHARE)
+        least = cost.least(asked.inner, [costs.numbers[place] for place in asked.places], seconds)
     except cost.NotLeast as error:
         if error.best is None:
             return _fail(f"no solution was found in {arguments.seconds:g} seconds")
-        told = f"{_number(error.best.cost)} is the least cost that was found"
+        numbers = asked.numbers(error.best.numbers)
+        told = f"{spelled(error.best.cost)} is the least cost that was found"
         proof = f"in {arguments.seconds:g} seconds it wasn't proved that there is no less"
-        _show_found(Found(problem, error.best.numbers, f"helgrothy: {told}; {proof}"), arguments)
+        found = Found(asked.problem, numbers, f"helgrothy: {told}; {proof}")
+        _show_found(found, arguments, list(costs.told(numbers)))
         return 2
     if least is None:
-        for line in ["Altogether 0 solutions.", *_reasons(problem, deadline)]:
+        for line in ["Altogether 0 solutions.", *_reasons(asked, deadline)]:
             console.say(line)
         return 1
-    told = f"The least cost is {_number(least.cost)}."
-    return _show_found(Found(problem, least.numbers, told), arguments)
-
-
-def _number(value: Fraction) -> str:
-    """A number that was a decimal one, as such."""
-    from decimal import Decimal
-
-    return str(value) if value.denominator == 1 else f"{Decimal(value.numerator) / Decimal(value.denominator):f}"
+    numbers = asked.numbers(least.numbers)
+    found = Found(asked.problem, numbers, f"The least cost is {spelled(least.cost)}.")
+    return _show_found(found, arguments, list(costs.told(numbers)))
 
 
 def _counted(total: int) -> str:
     return f"{total} solution{'' if total == 1 else 's'}"
 
 
-def _reasons(problem: Problem[Any], deadline: float | None) -> list[str]:
+def _reasons(asked: Given[Any], deadline: float | None) -> list[str]:
     """Why there is no solution, where a short while tells."""
     from . import why as reasons
 
     left = _REASON_SECONDS if deadline is None else min(_REASON_SECONDS, deadline - time.monotonic())
     try:
-        conflict = reasons.find(problem, left * _SHARE) if left > 0 else None
+        conflict = reasons.find(asked.inner, left * _SHARE) if left > 0 else None
     except OutOfTime:
         conflict = None
     if conflict is None:
         return [f"no reason was found in {max(left, 0):.2g} seconds; `helgrothy why` may look longer"]
-    return list(conflict.lines(problem))
+    return list(asked.told(conflict.lines(asked.inner)))
 
 
 # Shows a solution: its number, its options, what gives the places of these among the problem's, and what gives the
@@ -310,13 +374,14 @@ def _drawn_or(drawing: Drawing, otherwise: Callable[[Sequence[str]], Any]) -> Ca
     return draw
 
 
-# ---- lint, export, why
+# ---- lint, export, why, count, hint, minimal
 
 
 def lint(arguments: argparse.Namespace) -> int:
     from .lint import lint as remarks_of
 
-    remarks = remarks_of(console.read(arguments.problem), int(arguments.program[-1]))
+    text = console.read(arguments.problem)
+    remarks = remarks_of(text, int(arguments.program[-1]), searching=_SEARCH_SECONDS, tell=console.say)
     write(f"{remark}\n" for remark in remarks)
     return 1 if remarks else 0
 
@@ -345,13 +410,35 @@ def why(arguments: argparse.Namespace) -> int:
 
     problem = _problem(arguments.problem)
     try:
-        conflict = reasons.find(problem, arguments.seconds * _SHARE)
+        conflict = reasons.find(problem, arguments.seconds * _SHARE, console.say)
     except OutOfTime:
         return _fail(f"in {arguments.seconds:g} seconds it isn't known whether there is a solution")
     if conflict is None:
         return _fail("there is a solution", 1)
     write(f"{line}\n" for line in conflict.lines(problem))
     return 0
+
+
+def count(arguments: argparse.Namespace) -> int:
+    return count_command.show(_problem(arguments.problem), arguments)
+
+
+def hint(arguments: argparse.Namespace) -> int:
+    from . import puzzle_acts
+
+    return puzzle_acts.hint(_problem_or_made(arguments), arguments)
+
+
+def minimal(arguments: argparse.Namespace) -> int:
+    from . import puzzle_acts
+
+    if arguments.kind is None:
+        clues = puzzle_acts.clues_of(_problem(arguments.problem), arguments)
+    elif arguments.given:
+        raise ValueError("the clues stand in the puzzle: without --with")
+    else:
+        clues = arguments.kind.clues(arguments)
+    return puzzle_acts.minimal(clues, arguments)
 
 
 # ---- what commands have in common
@@ -363,6 +450,11 @@ def _problem(path: str) -> Problem[Any]:
         return Problem.parse(text)
     except HelgrothyError as error:
         raise ValueError(f"{'standard input' if path == '-' else path}: {error}") from None
+
+
+def _problem_or_made(arguments: argparse.Namespace) -> Problem[Any]:
+    kind: Kind | None = arguments.kind
+    return _problem(arguments.problem) if kind is None else kind.make(arguments)
 
 
 def _fail(message: str, status: int = 2) -> int:

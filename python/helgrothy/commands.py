@@ -13,9 +13,10 @@ import argparse
 from collections.abc import Callable, Sequence
 from typing import TYPE_CHECKING, Any
 
-from . import __version__, console
+from . import __version__, console, count_command, puzzle_commands
 from .console import Parser, limited, number, positive, seconds
 from .make import KINDS
+from .puzzle_commands import add_choices
 
 if TYPE_CHECKING:
     from .make.kind import Kind
@@ -71,6 +72,8 @@ def _parser(words: Sequence[str]) -> argparse.ArgumentParser:
         _add_kind(commands, KINDS[first])
     elif first == "make":
         _add_make(commands, words[1] if len(words) > 1 else "")
+    elif first in puzzle_commands.NAMES:
+        puzzle_commands.add(commands, first, _by(first), words[1:])
     elif first in _ADDS:
         _ADDS[first](commands)
     elif first != "--version":
@@ -82,6 +85,8 @@ def _add_all(commands: Any) -> None:
     _add_make(commands)
     for add in _ADDS.values():
         add(commands)
+    for name in puzzle_commands.NAMES:
+        puzzle_commands.add(commands, name, _by(name))
     for kind in KINDS.values():
         _add_kind(commands, kind)
 
@@ -122,12 +127,7 @@ def _add_solve(commands: Any) -> None:
         "The last line, on standard error, says how many solutions there were.",
     )
     console.add_problem(parser)
-    _add_solving(parser).add_argument(
-        "--cost",
-        metavar="COSTS",
-        help="the solution of least cost, from a file with a number for each option: by clasp where the path has it, "
-        "else by dlx3",
-    )
+    _add_solving(parser)
     _add_patterns(parser)
     parser.set_defaults(command=_by("solve"))
 
@@ -140,17 +140,19 @@ def _add_kind(commands: Any, kind: Kind) -> None:
     kind.add_search_arguments(parser)
     _add_solving(parser)
     patterns = {"cell": None, "row": None, "column": None, "label": None}
-    parser.set_defaults(command=_by("make_and_solve"), kind=kind, cost=None, **patterns)
+    parser.set_defaults(command=_by("make_and_solve"), kind=kind, **patterns)
 
 
-def _add_solving(parser: argparse.ArgumentParser) -> Any:
-    """The options of solving; returns the group of those that say in which way."""
+def _add_solving(parser: argparse.ArgumentParser) -> None:
     which = parser.add_mutually_exclusive_group()
     which.add_argument("--number", type=positive, metavar="K", help="the K-th solution instead of the first")
     which.add_argument("--limit", type=positive, metavar="N", help="the first N solutions")
     which.add_argument("--all", action="store_true", help="all solutions")
+    count_command.add_option(which)
+    which.add_argument("--unique", action="store_true", help="whether there is exactly one solution; if not, two")
     _add_forms(parser, "a picture as SVG, of one solution")
     parser.add_argument("--seconds", type=seconds, metavar="S", help="give up after S seconds")
+    add_choices(parser)
     way = parser.add_mutually_exclusive_group()
     way.add_argument(
         "--shuffle",
@@ -163,7 +165,12 @@ def _add_solving(parser: argparse.ArgumentParser) -> Any:
         action="store_true",
         help="one solution of those that are images of each other by turns and mirrors of the board or box",
     )
-    return way
+    way.add_argument(
+        "--cost",
+        metavar="COSTS",
+        help="the solution of least cost, from a file: lines of names of items (or patterns) and a number, which each "
+        "option that has them costs, or a number for each option; by clasp where the path has it, else by dlx3",
+    )
 
 
 def _add_forms(parser: argparse.ArgumentParser, svg: str) -> None:
@@ -222,7 +229,7 @@ def _add_patterns(parser: argparse.ArgumentParser) -> None:
     )
 
 
-# ---- lint, export, why, page
+# ---- lint, export, why, count, page
 
 
 def _add_lint(commands: Any) -> None:
@@ -230,7 +237,8 @@ def _add_lint(commands: Any) -> None:
         "lint",
         help="tell all faults and slips of a problem",
         description="Tells each fault of a problem with its line and token, and what is no fault and yet often a slip: "
-        "items in no option, equal options, bounds whose sums can't work. Status 1 says that there was something.",
+        "items in no option, equal options, bounds whose sums can't work, and that there is no solution where a search "
+        "of a few seconds shows that. Status 1 says that there was something.",
     )
     console.add_problem(parser)
     parser.add_argument("--for", dest="program", choices=["dlx1", "dlx2", "dlx3"], default="dlx3", help="default: dlx3")
@@ -281,6 +289,10 @@ def _add_why(commands: Any) -> None:
     parser.set_defaults(command=_by("why"))
 
 
+def _add_count(commands: Any) -> None:
+    count_command.add(commands, _by("count"))
+
+
 def _add_page(commands: Any) -> None:
     from .page import commands as pages
 
@@ -309,6 +321,7 @@ _ADDS: dict[str, Callable[[Any], None]] = {
     "export": _add_export,
     "import": _add_import,
     "why": _add_why,
+    "count": _add_count,
     "page": _add_page,
     **{name: _add_searching(name) for name in ("search", "status", "result", "rows")},
 }

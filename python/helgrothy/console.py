@@ -67,7 +67,7 @@ class Parser(argparse.ArgumentParser):
         return f"{name}: no such option{did_you_mean(name, [one for one in options if one != '--help'])}"
 
     def _check_value(self, action: argparse.Action, value: Any) -> None:
-        if action.choices is not None and value not in action.choices:
+        if action.choices is not None and value not in action.choices and not hasattr(action, "takes_others"):
             what = str(action.metavar or action.dest).lower()
             raise argparse.ArgumentError(None, f"{value}: no such {what}{did_you_mean(value, action.choices)}")
 

@@ -9,7 +9,6 @@ divided by m + 1. These are bounds. Each solution that costs less narrows them; 
 from __future__ import annotations
 
 import math
-import re
 import time
 from collections.abc import Generator, Hashable, Iterator, Sequence
 from contextlib import closing
@@ -17,6 +16,7 @@ from fractions import Fraction
 from typing import Any, TypeVar, Union
 
 from . import answers, export, sat_solver
+from .amounts import A_NUMBER, is_number
 from .errors import AnswerFault, OutOfTime, ProgramFailed, TableFault
 from .problem import Problem
 from .programs import Run
@@ -29,7 +29,6 @@ __all__ = ["Cost", "Least", "NotLeast", "least", "read"]
 Option = TypeVar("Option", bound=Any)
 Cost = Union[int, float, Fraction]
 
-_NUMBER = re.compile(r"[+-]?(?:[0-9]{1,15}(?:\.[0-9]{0,9})?|\.[0-9]{1,9})\Z")
 # Clasp reckons with numbers of 32 bits.
 _MOST_SUM = (1 << 31) - 1
 # Prices are reckoned in such parts of the costs' unit, and shared among items so often.
@@ -80,8 +79,8 @@ def read(text: str, options: int) -> list[Fraction]:
     number = 0
     for number, line in enumerate(text.split("\n"), 1):
         for word in [] if line.lstrip().startswith("|") else line.split():
-            if not _NUMBER.match(word):
-                raise TableFault(number, word[:60], "no cost; one is a number such as 3, -2 or 0.5")
+            if not is_number(word):
+                raise TableFault(number, word[:60], f"no cost; one is {A_NUMBER}")
             costs.append(Fraction(word))
             if len(costs) > options:
                 raise TableFault(number, word, f"a cost too many: the problem has {options} options")

@@ -91,37 +91,39 @@ def _quoted(name: str) -> str:
 
 def opb(problem: Problem[Any]) -> Iterator[str]:
     """The lines of a pseudo-Boolean problem in the format OPB; an objective `min: ..;` may be put in front."""
-    constraints = list(_sums(problem))
-    variables = len(problem.options) + sum(
-        sum(colour is not None for colour in item.options) for item in _items(problem)
-    )
-    # Without options only sums that can't work are left, and these name a variable.
-    variables = max(variables, 1 if constraints else 0)
-    yield f"* #variable= {variables} #constraint= {len(constraints)}"
+    last, lines = sums(problem)
+    yield f"* #variable= {last} #constraint= {len(lines)}"
     yield f"* x1 to x{len(problem.options)} take the options in their order"
-    yield from constraints
+    for line in lines:
+        yield line[:-1]
 
 
-def _sums(problem: Problem[Any]) -> Iterator[str]:
-    fresh = _counter(len(problem.options))
-    for number in _ignored(problem):
-        yield _sum([], [number], 0)
-    for item in _items(problem):
-        held = item.options.get(None, []) + list(choices := _choices(item, fresh))
+def sums(problem: Problem[Any], let_off: Sequence[int] = ()) -> tuple[int, list[str]]:
+    """The last variable of a problem's sums, and these as lines. let_off: as `clauses` takes it."""
+    last = max([len(problem.options), *let_off])
+    fresh = _counter(last)
+    lines: list[str] = [_sum([], [number], 0) for number in _ignored(problem)]
+    for item, let in zip_longest(_items(problem), let_off):
+        choices = _choices(item, fresh)
+        last += len(choices)
+        held = item.options.get(None, []) + list(choices)
         for variable, options in choices.items():
-            for option in options:
-                yield _sum([variable], [option], 0)
-            yield _sum(options, [variable], 0)
+            lines += [_sum([variable], [option], 0) for option in options]
+            lines.append(_sum(options, [variable], 0))
         if item.low:
-            yield _sum(held, [], item.low)
+            lines.append(_sum(held, [], item.low, let))
         if len(held) > item.high:
-            yield _sum([], held, -item.high)
+            lines.append(_sum([], held, -item.high))
+    # Without options only sums that can't work are left, and these name a variable.
+    return max(last, 1 if lines else 0), lines
 
 
-def _sum(plus: list[int], minus: list[int], least: int) -> str:
+def _sum(plus: list[int], minus: list[int], least: int, let_off: int | None = None) -> str:
     terms = [f"+1 x{variable}" for variable in plus] + [f"-1 x{variable}" for variable in minus]
+    if let_off is not None:
+        terms.append(f"{least:+d} x{let_off}")
     # The format has no empty sum: a variable may stand against itself.
-    return " ".join(terms or ["+1 x1 -1 x1"]) + f" >= {least} ;"
+    return " ".join(terms or ["+1 x1 -1 x1"]) + f" >= {least} ;\n"
 
 
 def cnf(problem: Problem[Any]) -> Iterator[str]:

@@ -75,18 +75,27 @@ _lock = threading.Lock()
 def start(command: Sequence[str], **pipes: Any) -> subprocess.Popen[bytes]:
     """Starts a program that is killed when this process ends. Asks that `let_go` is called once it was waited for.
 
+    With `start_new_session` it is killed with all that it has begun, and `let_go` takes its number with a minus.
+
     A program that waits for what this process writes to it does nothing before the shell knows of it.
     """
     with _lock:
         _ready()
     process = subprocess.Popen(command, **pipes)
     try:
-        _tell("begin", process.pid)
+        _tell("begin", -process.pid if pipes.get("start_new_session") else process.pid)
     except BaseException:
         process.kill()
         process.wait()
         raise
     return process
+
+
+def watch(program: int) -> None:
+    """The same for a program that runs already."""
+    with _lock:
+        _ready()
+    _tell("begin", program)
 
 
 def let_go(program: int) -> None:

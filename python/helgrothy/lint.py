@@ -3,10 +3,13 @@
 from __future__ import annotations
 
 from collections import Counter
-from collections.abc import Iterator
+from collections.abc import Callable, Iterator
 from dataclasses import dataclass
 from itertools import islice
+from typing import Any
 
+from . import engines, sat_solver
+from .errors import ProgramFailed, ProgramNotFound
 from .problem import Problem
 from .shown import shown
 from .sums import search
@@ -33,11 +36,20 @@ class Remark:
         return f"line {self.line}: {shown(token + self.text)}"
 
 
-def lint(text: bytes, kind: int = 3, seconds: float = 1.0) -> list[Remark]:
+def lint(
+    text: bytes,
+    kind: int = 3,
+    seconds: float = 1.0,
+    searching: float = 0.0,
+    tell: Callable[[str], object] = lambda line: None,
+) -> list[Remark]:
     """All remarks on the text of a problem for dlx`kind`, in the order of its lines. Raises nothing.
 
     Proofs that the sums of the bounds can't work are looked for so many seconds. Behind a thousand faults the text
     isn't read on, and of each kind of slip a thousand are told.
+
+    searching: whether there is a solution is searched so many seconds, by the programs and by another engine where the
+        path has one. tell: is told by a line what that did wrong.
     """
     sheet = read(text, kind)
     # What is behind all others stands before them.
@@ -57,7 +69,22 @@ def lint(text: bytes, kind: int = 3, seconds: float = 1.0) -> list[Remark]:
         found = search(problem, seconds)
         if found is not None:
             remarks.append(Remark(sheet.item_line, "", f"{found.text(problem.name)}: there is no solution"))
+        elif sat_solver.writing_seconds(problem) < searching:
+            remarks += [Remark(sheet.item_line, "", told) for told in _searched(problem, searching, tell)]
     return sorted(remarks, key=lambda remark: remark.line)
+
+
+def _searched(problem: Problem[Any], seconds: float, tell: Callable[[str], object]) -> Iterator[str]:
+    """That there is no solution, and who says so, where a search shows it in so many seconds."""
+    try:
+        with engines.solve(problem, seconds, tell) as solutions:
+            if next(iter(solutions), None) is None:
+                yield f"dlx{problem.kind} finds that there is no solution"
+    except engines.Claimed as claim:
+        yield str(claim)
+    except (OSError, ProgramFailed, ProgramNotFound):
+        # That the time is over is an `OSError` too.
+        pass
 
 
 def _some(remarks: Iterator[Remark]) -> Iterator[Remark]:

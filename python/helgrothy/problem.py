@@ -11,6 +11,7 @@ from functools import partial
 from numbers import Integral
 from typing import IO, TYPE_CHECKING, Any, Generic, NoReturn, TypeVar, Union
 
+from . import counter
 from . import listing as listings
 from .errors import ListingFault, NoPicture, OutOfTime, ProblemFault, ProgramFailed
 from .listing import Null
@@ -312,8 +313,12 @@ class Problem(Generic[Option]):
         spacing: int = 1,
         nulls: bool = False,
         seconds: float | None = None,
+        meanwhile: Callable[[Run], object] | None = None,
     ) -> Solutions[Option]:
-        """The solutions that have options of these places alone, searched in their order."""
+        """The solutions that have options of these places alone, searched in their order.
+
+        meanwhile: is called some times a second while the program finds none.
+        """
         check_numbers(limit, spacing)
 
         def begin(outcome: Outcome) -> Generator[Solution[Option], None, None]:
@@ -322,7 +327,7 @@ class Problem(Generic[Option]):
             with Run(f"dlx{self.kind}", _words(limit, spacing), _ended(wire.lines), seconds) as run:
                 try:
                     is_cut = yield from listings.stream(
-                        run.chunks(), give, lambda lines: self._is_whole(wire.all(lines)), outcome.count
+                        run.chunks(meanwhile), give, lambda lines: self._is_whole(wire.all(lines)), outcome.count
                     )
                     ending = Ending(run)
                 except OutOfTime as error:
@@ -378,6 +383,8 @@ class Problem(Generic[Option]):
     ) -> int:
         """How many solutions there are, or `limit` where there are as many or more.
 
+        Without a limit dlx-count runs beside the search, and the first that ends gives the number.
+
         jobs: search by up to so many processors at once. executor: search by the workers of an executor of
         `concurrent.futures`, such as Dask's, of which there are `jobs`. progress: is told now and then how far the
         search is. With any of these it is cut into spans, and there is no limit.
@@ -387,6 +394,8 @@ class Problem(Generic[Option]):
         """
         if jobs is not None or executor is not None or progress is not None:
             return self._count_spans(limit, seconds, jobs, executor, progress)
+        if limit is None:
+            return self._count(seconds).total
         check_numbers(limit, 1)
         # Where the time may end first, a few solutions are printed for their numbers.
         words = _words(limit, 0 if seconds is None else _NUMBERED)
@@ -401,6 +410,11 @@ class Problem(Generic[Option]):
             except OutOfTime as error:
                 error.found = found
                 raise
+
+    def _count(self, seconds: float | None, **how: Any) -> counter.Count:
+        """How many solutions there are, and which program counted them; `how` is for `counter.count`."""
+        words = _words(None, 0 if seconds is None else _NUMBERED)
+        return counter.count(b"".join(_ended(self._lines())), self.kind, words, seconds, **how)
 
     def _count_spans(
         self,

@@ -14,17 +14,20 @@ import signal
 import stat
 import subprocess
 import time
-from collections.abc import Iterable, Iterator, Sequence
-from contextlib import contextmanager
-from typing import IO
+from collections.abc import Callable, Iterable, Iterator, Sequence
+from contextlib import contextmanager, suppress
+from typing import IO, Protocol
 
+from . import guard
 from .errors import OutOfTime, ProgramFailed, ProgramNotFound
 
-PROGRAMS = ("dlx1", "dlx2", "dlx3", "dlxcheck", "dlx-span", "dlx-join")
+PROGRAMS = ("dlx1", "dlx2", "dlx3", "dlxcheck", "dlx-span", "dlx-join", "dlx-count")
 VARIABLE = "HELGROTHY_BIN"
 _CHUNK = 1 << 18
 # The system takes no longer times.
 _LONGEST = 1e9
+_NICE = 10
+_LOOK_SECONDS = 0.1
 _LAST_LINE = re.compile(r"Altogether (\d+) solutions?( \(limit\))?\.\Z")
 
 
@@ -94,7 +97,15 @@ def undisturbed() -> Iterator[None]:
         signal.pthread_sigmask(signal.SIG_SETMASK, before)
 
 
-_running: set[subprocess.Popen[bytes]] = set()
+class Running(Protocol):
+    """A process that can be ended."""
+
+    def kill(self) -> None: ...
+
+    def wait(self) -> object: ...
+
+
+_running: set[Running] = set()
 
 
 def end_all() -> None:
@@ -103,6 +114,17 @@ def end_all() -> None:
         process.kill()
         process.wait()
         _running.discard(process)
+
+
+def worked(program: int, begun: float) -> float:
+    """How many seconds of a processor a program has had; since it was begun, where the system doesn't tell that."""
+    try:
+        with open(f"/proc/{program}/stat", "rb") as file:
+            # A name may have any byte in it.
+            words = file.read().rpartition(b")")[2].split()
+        return (int(words[11]) + int(words[12])) / os.sysconf("SC_CLK_TCK")
+    except (OSError, ValueError, IndexError):
+        return time.monotonic() - begun
 
 
 class Run:
@@ -125,7 +147,11 @@ class Run:
 
         path = find(program) if path is None else path
         self.program = program
-        self._deadline = None if seconds is None else time.monotonic() + min(seconds, _LONGEST)
+        # Whether its output came to an end.
+        self.has_ended = False
+        self._begun = time.monotonic()
+        self._is_paused = False
+        self._deadline = None if seconds is None else self._begun + min(seconds, _LONGEST)
         with tempfile.TemporaryFile() as given:
             given.writelines(text)
             given.seek(0)
@@ -143,28 +169,54 @@ class Run:
         if self._process.poll() is None:
             self._process.kill()
             self._process.wait()
+        self.go_on()
         _running.discard(self._process)
         if self._process.stdout is not None:
             self._process.stdout.close()
         self._told.close()
 
-    def chunks(self) -> Iterator[bytes]:
-        """What the program prints, as it comes. Raises `OutOfTime`."""
-        assert self._process.stdout is not None
-        out = self._process.stdout.fileno()
+    def chunks(
+        self, meanwhile: Callable[[Run], object] | None = None, until: Run | None = None
+    ) -> Iterator[bytes]:
+        """What the program prints, as it comes, until it ends or another run does. Raises `OutOfTime`.
+
+        meanwhile: is called with this run some times a second while neither prints anything.
+        """
+        out = self.fileno()
         _widen(out)
+        is_watched = self._deadline is not None or meanwhile is not None or until is not None
         while True:
-            if self._deadline is not None:
-                self._wait_for(out)
+            if is_watched and not self._is_first(until, meanwhile):
+                return
             chunk = os.read(out, _CHUNK)
             if not chunk:
+                self.has_ended = True
                 return
             yield chunk
 
-    def _wait_for(self, out: int) -> None:
-        left = self._time_left()
-        if left <= 0 or not select.select([out], [], [], left)[0]:
-            raise OutOfTime(f"{self.program} took longer than it was given")
+    def _is_first(self, other: Run | None, meanwhile: Callable[[Run], object] | None) -> bool:
+        """Waits for the program's output or the other's, and says whether it is the program's."""
+        both = [self] if other is None else [self, other]
+        while True:
+            left = self._time_left()
+            if left <= 0:
+                raise OutOfTime(f"{self.program} took longer than it was given")
+            most = left if meanwhile is None else min(left, _LOOK_SECONDS)
+            ready = select.select(both, [], [], None if most == float("inf") else most)[0]
+            if ready:
+                return self in ready
+            if meanwhile is not None:
+                meanwhile(self)
+
+    def fileno(self) -> int:
+        """The program's output."""
+        assert self._process.stdout is not None
+        return self._process.stdout.fileno()
+
+    def go_behind(self) -> None:
+        """Lets processes of the usual priority go before this one, which loses nothing on a processor of its own."""
+        with suppress(OSError):
+            os.setpriority(os.PRIO_PROCESS, self._process.pid, os.getpriority(os.PRIO_PROCESS, 0) + _NICE)
 
     def _time_left(self) -> float:
         return float("inf") if self._deadline is None else self._deadline - time.monotonic()
@@ -176,6 +228,23 @@ class Run:
             return self._process.wait(left)
         except subprocess.TimeoutExpired:
             raise OutOfTime(f"{self.program} took longer than it was given") from None
+
+    def worked(self) -> float:
+        """How many seconds of a processor it has had; since its start, where the system doesn't tell that."""
+        return worked(self._process.pid, self._begun)
+
+    def pause(self) -> None:
+        """Stops it until it goes on, or this process ends."""
+        guard.watch(self._process.pid)
+        self._is_paused = True
+        self._process.send_signal(signal.SIGSTOP)
+
+    def go_on(self) -> None:
+        """Has it go on, where it was stopped."""
+        if self._is_paused:
+            self._process.send_signal(signal.SIGCONT)
+            self._is_paused = False
+            guard.let_go(self._process.pid)
 
     def messages(self) -> str:
         """What the program said on standard error."""

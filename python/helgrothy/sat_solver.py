@@ -1,36 +1,63 @@
-"""A second opinion on whether there is a solution, by a SAT solver where one is on the path.
+"""Other engines where the path has one: cadical, which is given clauses, and clasp, which is given sums.
 
-The problem is written as clauses once. Whether some items can be held, the others being let off, is then a question
-of a few more clauses.
+What an engine says is a claim. A solution of it is one where dlxcheck judges it to be one, and that there is none stays
+what the engine reports. It runs with limits of memory and output, in a session of its own that is killed as a whole.
 """
 
 from __future__ import annotations
 
 import os
 import shutil
-from collections.abc import Hashable
-from typing import Any
+import signal
+import subprocess
+import tempfile
+import time
+from collections.abc import Hashable, Iterable, Iterator
+from contextlib import suppress
+from typing import Any, NamedTuple
 
-from .errors import OutOfTime
-from .export import clauses
+from . import answers, export, guard, programs
+from .errors import AnswerFault, HelgrothyError, ListingFault, OutOfTime, ProblemFault, ProgramFailed
 from .problem import Problem
-from .programs import Run
+from .shown import bytes_of
 
-# Solvers, and the words by which they answer by their status alone.
-SOLVERS = {"cadical": ["-q", "-n"], "clasp": ["-q"]}
-# A solver's status has the first where it found a solution; the second alone says that there is none.
-_FOUND = (10, 30)
+# Engines, and the words by which they print an answer and little else.
+SOLVERS = {"cadical": ["-q"], "clasp": ["-V0"]}
+# The status of an engine that reports that there is no solution.
 _NONE = 20
+# Of the engine: its address space, and what it may print beside twice as much as it was given.
+_MEMORY = 4 << 30
+_OUTPUT = 1 << 20
+_LIMITED = 'ulimit -c 0; ulimit -v "$1"; ulimit -f "$2"; shift 2; exec "$@"'
+_BLOCK = 512
 # To write the clauses of 600,000 uses took 8 seconds.
 _WRITING_SECONDS = 1.3e-5
+# An engine that is waited for is looked at so often.
+_LOOK_SECONDS = 0.01
 
 
-def find() -> tuple[str, list[str]] | None:
-    """The name of the first solver that the path has, and its command."""
-    for name, words in SOLVERS.items():
-        path = path_of(name)
-        if path is not None:
-            return name, [path, *words]
+class NoAnswer(HelgrothyError):
+    """An engine gave no answer, or one that isn't right."""
+
+
+class Engine(NamedTuple):
+    """An engine: its name, and where it is."""
+
+    name: str
+    path: str
+
+
+def find(problem: Problem[Any]) -> Engine | None:
+    """The engine for a problem: clasp for one of sums alone, cadical for colours, or that one which the path has.
+
+    There is none where there is no dlxcheck that could judge what it says.
+    """
+    if programs.has("dlxcheck"):
+        # Sums take several times as long a text as clauses as they do for clasp; colours take a shorter one.
+        for name in sorted(SOLVERS, reverse=problem.kind != 2):
+            path = path_of(name)
+            if path is not None:
+                return Engine(name, path)
     return None
 
 
@@ -46,32 +73,139 @@ def writing_seconds(problem: Problem[Any]) -> float:
     return _WRITING_SECONDS * sum(1 for option in problem.options for _ in problem._pairs(option))
 
 
-class Solver:
-    """A SAT solver for one problem: which primary items are to be held is told with each question."""
+def judge(engine: str, problem: Problem[Any], options: Iterable[Any]) -> None:
+    """Writes what an engine calls a solution as a listing. Raises `NoAnswer` where dlxcheck judges it to be none."""
+    try:
+        is_solution = problem.check([options]) == [True]
+    except (ListingFault, ProblemFault, ProgramFailed):
+        is_solution = False
+    if not is_solution:
+        raise NoAnswer(f"what {engine} calls a solution is none, as dlxcheck judges it")
 
-    def __init__(self, problem: Problem[Any], command: list[str]) -> None:
-        self._command = command
+
+class Asked:
+    """An engine at work on a problem. As a context manager it leaves no process behind, however it is left.
+
+    name: the engine's. begun: when it was begun, by the clock that only goes on.
+    """
+
+    def __init__(self, engine: Engine, problem: Problem[Any], text: Iterable[bytes]) -> None:
+        """text: the problem as `export` writes it for the engine, perhaps with more rules."""
+        self.name = engine.name
+        self._problem = problem
+        with tempfile.TemporaryFile() as given:
+            given.writelines(text)
+            self.begun = time.monotonic()
+            output = _OUTPUT + 2 * given.tell()
+            given.seek(0)
+            limits = [str(_MEMORY >> 10), str(output // _BLOCK)]
+            command = ["/bin/sh", "-c", _LIMITED, "sh", *limits, engine.path, *SOLVERS[engine.name]]
+            self._told = tempfile.TemporaryFile()
+            with programs.undisturbed():
+                self._process = guard.start(
+                    command, stdin=given, stdout=self._told, stderr=subprocess.DEVNULL, start_new_session=True
+                )
+                programs._running.add(self)
+
+    def __enter__(self) -> Asked:
+        return self
+
+    def __exit__(self, *_: object) -> None:
+        self.kill()
+        self.wait()
+        programs._running.discard(self)
+        self._told.close()
+
+    def kill(self) -> None:
+        """Kills the engine and what it has begun."""
+        # Once it was waited for, its number may be another one's.
+        if self._process.returncode is None:
+            with suppress(OSError):
+                os.killpg(self._process.pid, signal.SIGKILL)
+
+    def wait(self) -> object:
+        """Waits for the engine's end."""
+        status = self._process.wait()
+        guard.let_go(-self._process.pid)
+        return status
+
+    def worked(self) -> float:
+        """How many seconds of a processor it has had."""
+        return programs.worked(self._process.pid, self.begun)
+
+    def has_ended(self) -> bool:
+        """Whether the engine has ended by itself."""
+        return self._ended() is not None
+
+    def wait_for(self, seconds: float) -> None:
+        """Waits until the engine has ended. Raises `OutOfTime`."""
+        deadline = time.monotonic() + seconds
+        while not self.has_ended():
+            if time.monotonic() > deadline:
+                raise OutOfTime(f"{self.name} took longer than it was given")
+            time.sleep(_LOOK_SECONDS)
+
+    def numbers(self) -> list[int] | None:
+        """The options that an engine which has ended takes, or None where it reports that there is no solution.
+
+        Raises `NoAnswer`.
+        """
+        ended = self._ended()
+        # Nothing is written any more.
+        self.kill()
+        self._told.seek(0)
+        try:
+            first = next(answers.solutions(self.name, self._problem, self._told), None)
+        except AnswerFault as fault:
+            raise NoAnswer(f"{self.name} gave no answer ({fault})") from None
+        if first is not None:
+            return first.numbers
+        if ended is None or ended.si_code != os.CLD_EXITED or ended.si_status != _NONE:
+            raise NoAnswer(f"{self.name} gave no answer (it didn't end as it does where there is no solution)")
+        return None
+
+    def _ended(self) -> Any:
+        """How the engine ended, if it has. Its number stays its own until it is waited for."""
+        return os.waitid(os.P_PID, self._process.pid, os.WEXITED | os.WNOHANG | os.WNOWAIT)
+
+
+def text(engine: Engine, problem: Problem[Any]) -> Iterator[bytes]:
+    """The problem as an engine takes it."""
+    lines = export.opb(problem) if engine.name == "clasp" else export.cnf(problem)
+    return (bytes_of(f"{line}\n") for line in lines)
+
+
+class Solver:
+    """An engine for a problem that is written once: which primary items are to be held is told with each question."""
+
+    def __init__(self, problem: Problem[Any], engine: Engine) -> None:
+        self.name = engine.name
+        self._engine = engine
+        self._problem = problem
         options = len(problem.options)
         self._let_off: dict[Hashable, int] = {item: options + k for k, item in enumerate(problem.items, 1)}
-        found = clauses(problem, list(self._let_off.values()))
-        self._variables = found.last
-        self._count = found.count
-        self._text = "".join(found.lines).encode()
+        given = list(self._let_off.values())
+        if engine.name == "clasp":
+            self._last, lines = export.sums(problem, given)
+            self._count = len(lines)
+            self._head = "* #variable= {} #constraint= {}\n"
+            self._held, self._off = "-1 x{} >= 0 ;\n", "+1 x{} >= 1 ;\n"
+        else:
+            found = export.clauses(problem, given)
+            self._last, self._count, lines = found.last, found.count, found.lines
+            self._head = "p cnf {} {}\n"
+            self._held, self._off = "-{} 0\n", "{} 0\n"
+        self._text = "".join(lines).encode()
 
-    def has_solution(self, kept: set[Hashable], seconds: float) -> bool:
-        """Whether these items can be held as their bounds say, the others being let off. Raises `OutOfTime`."""
-        units = [-variable if item in kept else variable for item, variable in self._let_off.items()]
-        head = b"p cnf %d %d\n" % (self._variables, self._count + len(units))
-        path, *words = self._command
-        name = os.path.basename(path)
-        try:
-            with Run(name, words, [head, self._text, *(b"%d 0\n" % unit for unit in units)], seconds, path) as run:
-                for _ in run.chunks():
-                    pass
-                status = run.status()
-        except OSError:
-            # Time that is over is one too.
-            status = None
-        if status not in (*_FOUND, _NONE):
-            raise OutOfTime(f"{name} gave no answer")
-        return status != _NONE
+    def numbers(self, kept: set[Hashable], seconds: float) -> list[int] | None:
+        """Options that hold these items as their bounds say, the others being let off; None where the engine reports
+        that none do. Raises `NoAnswer` and `OutOfTime`.
+        """
+        rules = [
+            (self._held if item in kept else self._off).format(variable) for item, variable in self._let_off.items()
+        ]
+        head = self._head.format(self._last, self._count + len(rules))
+        text = (head.encode(), self._text, "".join(rules).encode())
+        with Asked(self._engine, self._problem, text) as asked:
+            asked.wait_for(seconds)
+            return asked.numbers()

@@ -38,6 +38,12 @@ class Watch:
     def __exit__(self, *_: object) -> None:
         self.end()
 
+    def wait(self) -> None:
+        """Waits for the count to end."""
+        # One that never began can't be waited for.
+        with suppress(RuntimeError):
+            self._timer.join(2 * _QUIET_SECONDS)
+
     def end(self) -> None:
         """Tells nothing from now on."""
         self._is_over = True

@@ -1,9 +1,9 @@
 """Why a problem has no solution: primary items that can't all be held as their bounds say.
 
 First the bounds are counted, which proves most conflicts of mistaken data at once. Then the programs search and, where
-one is on the path, a SAT solver does. Items are let off one by one while there is still no solution: one that is let
-off may be held less often than its bounds say, but not more often. What is left is a conflict. Each question has a time
-limit, so an item of which it isn't known in time whether it can be let off stays in.
+one is on the path, cadical or clasp beside them. Items are let off one by one while there is still no solution: one
+that is let off may be held less often than its bounds say, but not more often. What is left is a conflict. Each
+question has a time limit, so an item of which it isn't known in time whether it can be let off stays in.
 """
 
 from __future__ import annotations
@@ -13,7 +13,7 @@ from collections.abc import Callable, Hashable, Iterator
 from dataclasses import dataclass
 from typing import Any
 
-from . import sat_solver
+from . import engines, sat_solver
 from .errors import OutOfTime
 from .problem import Problem
 from .sums import Count, Sums
@@ -24,7 +24,7 @@ __all__ = ["Conflict", "find"]
 # The largest part of the whole time that one question may take, and the search for weights; and that of the matching.
 _SHARE = 0.1
 _COUNTED = 0.2
-# Who answers is asked for so long first, and then for so many times longer again.
+# Who is asked what may be let off answers for so long first, and then for so many times longer again.
 _FIRST_SECONDS = 0.1
 _LONGER = 3
 
@@ -49,7 +49,7 @@ class Conflict:
         if self.sums is not None:
             yield self.sums.text(problem.name)
         if self.by in sat_solver.SOLVERS:
-            yield f"{self.by} says so; dlx{problem.kind} came to no end in the time"
+            yield f"{self.by} reports so; dlx{problem.kind}, which would prove it, came to no end in the time"
         if self.is_least and len(self.items) > 1:
             yield "without any one of them the others can be held"
         elif not self.is_least and not (self.sums is not None and self.sums.is_whole):
@@ -67,10 +67,12 @@ class Conflict:
             yield f"it is in {count} option{'' if count == 1 else 's'}, and to be held {low} times"
 
 
-def find(problem: Problem[Any], seconds: float = 10.0) -> Conflict | None:
+def find(
+    problem: Problem[Any], seconds: float = 10.0, tell: Callable[[str], object] = lambda line: None
+) -> Conflict | None:
     """A conflict, as small as leaving out finds in so many seconds; None where there is a solution.
 
-    Raises `OutOfTime` where not even that is known in the time.
+    tell: is told by a line what an engine did wrong. Raises `OutOfTime` where not even that is known in the time.
     """
     deadline = time.monotonic() + seconds
     short = [item for item, count in _held(problem).items() if count < problem.items[item].low]
@@ -78,7 +80,7 @@ def find(problem: Problem[Any], seconds: float = 10.0) -> Conflict | None:
         return Conflict(short[:1], True)
     count = Count(problem)
     found = count.by_matching(seconds * _COUNTED)
-    question = _Question(problem, deadline, seconds * _SHARE)
+    question = _Question(problem, deadline, seconds * _SHARE, tell)
     if found is not None and found.is_whole:
         return Conflict(found.asking, question.needs_all(found), found)
     asked = [item for item, bounds in problem.items.items() if bounds.low]
@@ -87,7 +89,7 @@ def find(problem: Problem[Any], seconds: float = 10.0) -> Conflict | None:
         if question.is_soon_solved(set(asked)):
             return None
         found = count.by_climbing(seconds * _SHARE)
-    if found is None and question.has_solution(set(asked), deadline - time.monotonic()):
+    if found is None and question.is_solved():
         return None
     items = asked if found is None else found.asking
     kept = _left(items, question)
@@ -115,14 +117,17 @@ class _Question:
     is_sure: whether each question was answered in time. by: who answered the last one that has no solution.
     """
 
-    def __init__(self, problem: Problem[Any], deadline: float, most: float) -> None:
+    def __init__(
+        self, problem: Problem[Any], deadline: float, most: float, tell: Callable[[str], object]
+    ) -> None:
         self._problem = problem
+        self._tell = tell
         self._deadline = deadline
         self._most = most
         self._answers: list[tuple[str, _Answer]] = [(f"dlx{problem.kind}", self._searched)]
         # A problem whose clauses would take too long to write is left to the programs.
         is_small = sat_solver.writing_seconds(problem) < (deadline - time.monotonic()) / 2
-        self._solver = sat_solver.find() if is_small else None
+        self._engine = sat_solver.find(problem) if is_small else None
         self.is_sure = True
         self.by = ""
 
@@ -149,6 +154,18 @@ class _Question:
         except OutOfTime:
             return False
 
+    def is_solved(self) -> bool:
+        """Whether there is a solution that holds all items. Raises `OutOfTime`."""
+        by = f"dlx{self._problem.kind}"
+        try:
+            with engines.solve(self._problem, self._deadline - time.monotonic(), self._tell) as solutions:
+                if next(iter(solutions), None) is not None:
+                    return True
+        except engines.Claimed as claim:
+            by = claim.by
+        self.by = by
+        return False
+
     def needs_all(self, found: Sums) -> bool:
         """Whether there is a solution without any one of the items that sums ask too much of."""
         asked = set(found.asking)
@@ -160,7 +177,7 @@ class _Question:
     def has_solution(self, kept: set[Hashable], seconds: float) -> bool:
         """Asks each who may answer in turn, ever longer, and first the one who answered last. Raises `OutOfTime`."""
         deadline = time.monotonic() + seconds
-        is_alone = len(self._answers) == 1 and self._solver is None
+        is_alone = len(self._answers) == 1 and self._engine is None
         turn = seconds if is_alone else _FIRST_SECONDS
         while True:
             for name, answer in list(self._answers):
@@ -171,35 +188,55 @@ class _Question:
                     has_one = answer(kept, min(left, turn))
                 except OutOfTime:
                     continue
+                except sat_solver.NoAnswer as error:
+                    self._answers = [one for one in self._answers if one[0] != name]
+                    self._tell(f"{error}; dlx{self._problem.kind} goes on")
+                    continue
                 self._answers.sort(key=lambda one: one[0] != name)
                 if not has_one:
                     self.by = name
                 return has_one
             turn *= _LONGER
-            if self._solver is not None:
-                # The clauses are written where the program didn't answer at once.
-                name, command = self._solver
-                self._solver = None
-                self._answers.append((name, sat_solver.Solver(self._problem, command).has_solution))
+            if self._engine is not None:
+                # The problem is written for it where the program didn't answer at once.
+                engine, self._engine = self._engine, None
+                solver = sat_solver.Solver(self._problem, engine)
+                self._answers.append((engine.name, lambda kept, left: self._asked(solver, kept, left)))
 
     def _searched(self, kept: set[Hashable], seconds: float) -> bool:
-        problem = self._problem
-        items: dict[Hashable, Bounds] = {}
-        secondary: list[Hashable] = []
-        for item, (low, high) in problem.items.items():
-            if item in kept:
-                items[item] = Bounds(low, high)
-            elif high == 1:
-                secondary.append(item)
-            else:
-                items[item] = Bounds(0, high)
-        if not items:
-            return True
-        options = [
-            option for option in problem.options if any(item in items for item, _ in problem._pairs(option))
-        ]
-        relaxed: Problem[Any] = Problem(items, [*secondary, *problem.secondary], options)
-        return relaxed.count(limit=1, seconds=seconds) > 0
+        relaxed = _relaxed(self._problem, kept)
+        return relaxed is None or relaxed.count(limit=1, seconds=seconds) > 0
+
+    def _asked(self, solver: sat_solver.Solver, kept: set[Hashable], seconds: float) -> bool:
+        """What an engine answers, where dlxcheck takes its solution. Raises `NoAnswer`."""
+        numbers = solver.numbers(kept, seconds)
+        relaxed = _relaxed(self._problem, kept)
+        if numbers is None or relaxed is None:
+            return relaxed is None
+        # Options without an item that is left to be held aren't of that problem.
+        chosen = [self._problem.options[number] for number in numbers]
+        known = [one for one in chosen if any(item in relaxed.items for item, _ in relaxed._pairs(one))]
+        sat_solver.judge(solver.name, relaxed, known)
+        return True
+
+
+def _relaxed(problem: Problem[Any], kept: set[Hashable]) -> Problem[Any] | None:
+    """The problem with bounds for these items alone, the others being held as often as they may be or less. None where
+    no choice is left to be made.
+    """
+    items: dict[Hashable, Bounds] = {}
+    secondary: list[Hashable] = []
+    for item, (low, high) in problem.items.items():
+        if item in kept:
+            items[item] = Bounds(low, high)
+        elif high == 1:
+            secondary.append(item)
+        else:
+            items[item] = Bounds(0, high)
+    if not items:
+        return None
+    options = [option for option in problem.options if any(item in items for item, _ in problem._pairs(option))]
+    return Problem(items, [*secondary, *problem.secondary], options)
 
 
 def _left(items: list[Hashable], question: _Question) -> list[Hashable]:

@@ -282,8 +282,8 @@ class Time(unittest.TestCase):
             signal.pthread_kill(threading.get_ident(), signal.SIGALRM)
             return begun[-1]
 
-        clauses = sat_solver.Solver(make.langford.problem(4), [programs.find("dlx1"), "t0"])
-        for act in (make.langford.problem(14).count, lambda: clauses.has_solution(set(), 100)):
+        clauses = sat_solver.Solver(make.langford.problem(4), sat_solver.Engine("cadical", "/bin/cat"))
+        for act in (make.langford.problem(14).count, lambda: clauses.numbers(set(), 100)):
             with mock.patch.object(subprocess, "Popen", slow):
                 with self.assertRaises(OutOfTime), console.limited(1000):
                     act()

@@ -22,8 +22,8 @@ MISTAKES = (
     (["make", "queens", "8", "--all"], "helgrothy make queens: --all: no such option; see helgrothy make queens --help"),
     (
         ["queens", "8", "--solutions", "3"],
-        "helgrothy queens: --solutions: no such option (there are --number, --limit, --all, --svg, --html, --json, --csv, --seconds, "
-        "--shuffle and --up-to-symmetry); see helgrothy queens --help",
+        "helgrothy queens: --solutions: no such option (there are --number, --limit, --all, --count, --unique, --svg, --html, --json, --csv, --seconds, "
+        "--with, --without, --shuffle, --up-to-symmetry and --cost); see helgrothy queens --help",
     ),
     (["queens", "8", "--limt=3"], "helgrothy queens: --limt: no such option (is it --limit?); see helgrothy queens --help"),
     (["queens", "8", "--al"], "helgrothy queens: --al: no such option (is it --all?); see helgrothy queens --help"),

@@ -5,6 +5,7 @@ import math
 import random
 import unittest
 import xml.etree.ElementTree as ElementTree
+from unittest import mock
 
 from helgrothy import NoPicture, Problem, TableFault, make
 from helgrothy.draw import Cell, Picture
@@ -155,10 +156,53 @@ class Nonograms(Puzzles):
             problem = make.nonogram.problem(clues_of(board))
             self.assertIn(clues_of(board), {clues_of(self.board(problem, one)) for one in problem.solve(limit=3)})
 
+    def test_by_runs(self):
+        """The same pictures, clues beside them, and as many; and lines with many arrangements are made so."""
+        rng = random.Random(4)
+        for _ in range(30):
+            high, wide = rng.randint(1, 5), rng.randint(1, 5)
+            clues = clues_of([[rng.random() < 0.5 for _ in range(wide)] for _ in range(high)])
+            whole = make.nonogram.problem(clues)
+            with mock.patch.object(make.nonogram, "_are_shorter_by_runs", lambda lines: True):
+                runs = make.nonogram.problem(clues)
+            self.assertTrue(all("/" in name for name in runs.item_names))
+            pictures = [sorted(str(one.draw(solution)) for solution in one.solve()) for one in (whole, runs)]
+            self.assertEqual(*pictures)
+            self.assertEqual(len(pictures[0]), len(set(pictures[0])))
+            again = Problem.parse(runs.text)
+            self.assertEqual(sorted(str(again.draw(solution)) for solution in again.solve()), pictures[0])
+            self.assertEqual(str(runs.draw()), str(whole.draw()))
+        board = [[rng.random() < 0.5 for _ in range(25)] for _ in range(25)]
+        large = make.nonogram.problem(clues_of(board))
+        self.assertIn("row1/0", large.item_names)
+        self.assertLess(len(large.options), 20_000)
+        taken = [option for option in large.options if self.fits(option, board)]
+        self.assertEqual(large.check([taken]), [True])
+
+    def fits(self, option, board):
+        """Whether a run lies as it does in a board, and the next one does."""
+        for name, colour in option.items():
+            if name[0] == "r" and name[1].isdigit():
+                r, c = map(int, name[1:].split("c"))
+                if board[r - 1][c - 1] != (colour == "#"):
+                    return False
+        line = next(iter(option))
+        kind, number, part = line[:3], int(line[3:].split("/")[0]), int(line.split("/")[1])
+        marks = board[number - 1] if kind == "row" else [row[number - 1] for row in board]
+        begins = [i + 1 for i, mark in enumerate(marks) if mark and not (i and marks[i - 1])]
+        at = {f"{line.split('/')[0]}@{k}": str(i) for k, i in enumerate(begins, 1)}
+        return all(at[name] == colour for name, colour in option.items() if "@" in name) and part <= len(begins)
+
     def board(self, problem, solution):
-        lines = [problem.line(option).split() for option in solution]
-        rows = {int(name[3:]): marks for name, *marks in lines if name.startswith("row")}
-        return [[mark.endswith("#") for mark in rows[r]] for r in sorted(rows)]
+        cells = {}
+        for option in solution:
+            for mark in problem.line(option).split():
+                name, _, colour = mark.partition(":")
+                if colour in ("#", "."):
+                    r, c = name[1:].split("c")
+                    cells[int(r), int(c)] = colour == "#"
+        high, wide = max(cells)
+        return [[cells[r, c] for c in range(1, wide + 1)] for r in range(1, high + 1)]
 
     def test_other_forms(self):
         wanted = make.nonogram.problem("2,1\n0\n\n1\n1\n0\n1\n").text

@@ -21,7 +21,7 @@ except SystemExit as end:
 sys.stderr.write(" ".join(set(sys.modules) - before))
 """
 # Of Python and the package. All commands' help is told by loading all kinds.
-MOST, MORE = 125, {"--version": 80, "--help": 180, "make --help": 150}
+MOST, MORE = 125, {"--version": 80, "--help": 180, "make --help": 150, "hint --help": 150}
 
 
 def loaded(*words):

@@ -195,9 +195,14 @@ class Solvers(unittest.TestCase):
             }
             wanted = Problem(relaxed, "x", options).count() > 0
             for name in SOLVERS:
-                command = [sat_solver.shutil.which(name), *sat_solver.SOLVERS[name]]
+                engine = sat_solver.Engine(name, sat_solver.shutil.which(name))
                 with self.subTest(name=name, problem=problem.text, kept=kept):
-                    self.assertEqual(sat_solver.Solver(problem, command).has_solution(kept, 300), wanted)
+                    numbers = sat_solver.Solver(problem, engine).numbers(kept, 300)
+                    self.assertEqual(numbers is not None, wanted)
+                    held = [item for number in numbers or () for item in options[number]]
+                    for item, (low, high) in problem.items.items():
+                        self.assertLessEqual(held.count(item), high)
+                        self.assertTrue(numbers is None or item not in kept or held.count(item) >= low)
 
     @unittest.skipUnless(SOLVERS, "needs cadical or clasp")
     def test_where_the_programs_come_to_no_end(self):
@@ -219,8 +224,8 @@ class Solvers(unittest.TestCase):
                 file.write("#!/bin/sh\nexit 1\n")
             os.chmod(wrong, stat.S_IRWXU)
             with mock.patch.dict(os.environ, PATH=folder):
-                self.assertEqual(sat_solver.find(), ("cadical", [wrong, "-q", "-n"]))
+                self.assertEqual(sat_solver.find(make.queens.problem(6)), ("cadical", wrong))
                 with self.assertRaises(OutOfTime):
                     why.find(make.langford.problem(14), 0.5)
             with mock.patch.dict(os.environ, PATH=os.path.relpath(folder)):
-                self.assertIsNone(sat_solver.find())
+                self.assertIsNone(sat_solver.find(make.queens.problem(6)))

@@ -297,4 +297,5 @@ def main():
         put(given.page, lines)
 
 
-main()
+if __name__ == "__main__":
+    main()

@@ -3,8 +3,9 @@
 
 The marks in C are built, and ours are the programs that `make all` built or, where one of them isn't there and with
 --unproved, builds without proofs, which take half a minute each; the first line says which. Then come the tables of
-instructions, which are steady, and those of times from bench.py, which gets the other words, as --core 3. All that is
-made is in scripts/bench/out. With --page the tables take the places of those with the same heads in a page.
+instructions, which are steady, that of counts.py, and those of times from bench.py, which gets the other words, as
+--core 3. All that is made is in scripts/bench/out. With --page the tables take the places of those with the same heads
+in a page.
 """
 
 from __future__ import annotations
@@ -15,6 +16,7 @@ import subprocess
 import sys
 from pathlib import Path
 
+import counts
 import problems
 from instructions import OUT, table, text_of
 from page import put
@@ -22,7 +24,7 @@ from unproved import built
 
 HERE = Path(__file__).resolve().parent
 TOP = HERE.parent.parent
-PROGRAMS = ["dlx1", "dlx2", "dlx3"]
+PROGRAMS = ["dlx1", "dlx2", "dlx3", "dlx_count"]
 
 
 def ours(is_unproved: bool) -> Path:
@@ -55,6 +57,8 @@ def main() -> None:
             put(given.page, lines)
     if given.no_times:
         return
+    # The page has no such table yet.
+    print("\n".join(counts.table(folders[2])), end="\n\n", flush=True)
     for problem in problems.PROBLEMS:
         text_of(problem.name)
     command = [sys.executable, str(HERE / "bench.py"), str(OUT / "problems"), "--ours", str(folders[2]), "--c-alone"]

@@ -1,7 +1,7 @@
 #!/usr/bin/env python3
 """programs.py [DIR]: tries the built programs on want of memory, on failing calls and streams, and on input made to hurt.
 
-DIR holds dlx1, dlx2, dlx3, dlxcheck and dlx-span; without it they are taken from where `make test` leaves them. Each
+DIR holds dlx1, dlx2, dlx3, dlxcheck and dlx-count; without it they are taken from where `make test` leaves them. Each
 try that goes wrong is told in a line. The last line is `N passed, M failed`. Needs cc for the parts that refuse memory
 and let calls fail.
 """
@@ -9,6 +9,7 @@ import errno
 import fcntl
 import os
 import select
+import signal
 import socket
 import subprocess
 import sys
@@ -27,7 +28,8 @@ HANG = 600
 
 
 def path(program):
-    return os.path.join(PROGRAMS, program) if PROGRAMS else f"{TOP}/crates/{program}/out/{program}"
+    crate = program.replace("-", "_")
+    return os.path.join(PROGRAMS, program) if PROGRAMS else f"{TOP}/crates/{crate}/out/{crate}"
 
 
 def tell(is_well, what):
@@ -97,6 +99,9 @@ def want_of_memory(folder):
     refused_in_turn("bounds", shim, ["dlx3", "m1"], BOUNDED)
     refused_in_turn("an ignored option", shim, ["dlx1", "m1"], WITH_IGNORED)
     refused_in_turn("a thousand options", shim, ["dlx2", "m1", "t3"], thousand())
+    refused_in_turn("a count of colours", shim, ["dlx-count", "2"], COLOURED)
+    refused_in_turn("a count with an ignored option", shim, ["dlx-count", "1"], WITH_IGNORED)
+    refused_in_turn("a count of dominoes", shim, ["dlx-count", "1"], dominoes(4, 4))
     for name, words, text in (
         ("colours", ["dlx2", "m1"], COLOURED),
         ("bounds", ["dlx3", "m1"], BOUNDED),
@@ -169,7 +174,7 @@ def each_read_fails(shim, folder):
     file = f"{folder}/reads.dlx"
     with open(file, "wb") as it:
         it.write(text)
-    for words, given in ((["dlx1"], b"A\n" * 100000), (["dlx2", "t1"], text), (["dlx3", "t1"], text), (["dlxcheck", file, "2"], b"1:\n" * 100000)):
+    for words, given in ((["dlx1"], b"A\n" * 100000), (["dlx2", "t1"], text), (["dlx3", "t1"], text), (["dlx-count", "2", "b0"], text), (["dlxcheck", file, "2"], b"1:\n" * 100000)):
         reads = len(calls_of(shim, "read", 0, 0, words, given, stdout=subprocess.PIPE)[3])
         for n in range(1, reads + 1):
             status, out, err, calls = calls_of(shim, "read", n, ERRORS[n % len(ERRORS)], words, given, stdout=subprocess.PIPE)
@@ -313,6 +318,65 @@ def deep(folder):
     tell((done.returncode, done.stdout) == (0, b"1: cover\n"), f"50,000 lines judged on a small stack: {done.returncode}, {done.stdout[:80]!r}")
 
 
+# ---- counts
+
+def dominoes(rows, columns):
+    cells = [(r, c) for r in range(rows) for c in range(columns)]
+    options = [f"{r}.{c} {r + down}.{c + 1 - down}" for r, c in cells for down in (0, 1) if r + down < rows and c + 1 - down < columns]
+    return "\n".join([" ".join(f"{r}.{c}" for r, c in cells), *options, ""]).encode()
+
+
+def hurting():
+    """Texts of some 1 MB each, with what dlx-count has to say of them within 1 MB of states, where that is known."""
+    names = [f"n{k}" for k in range(30000)]
+    pairs = [f"{a} {b}" for k, a in enumerate(names[:400]) for b in names[k + 1 : 400]]
+    yield "items with an option each", "1", "\n".join([" ".join(names), *names, ""]), "1 solution."
+    yield "two options of each item", "1", "\n".join([" ".join(names), *names, *names, ""]), None
+    yield "an option with all items", "1", "\n".join([" ".join(names), *[" ".join(names)] * 4, ""]), "4 solutions."
+    yield "one item in all options", "1", "A\n" + "A\n" * 500000, "500000 solutions."
+    yield "an item apart", "1", "\n".join([" ".join(names), *names[1:], ""]), "0 solutions."
+    yield "a chain", "1", "\n".join([" ".join(names), *map(" ".join, zip(names, names[1:])), ""]), "1 solution."
+    yield "a star of secondary items", "1", "\n".join([f"A B | {' '.join(names)}", *(f"A {n}" for n in names), *(f"B {n}" for n in names), ""]), None
+    yield "a star of colours", "2", "\n".join(["A B | x", *(f"{it} x:{k}" for it in "AB" for k in range(50000)), ""]), None
+    yield "pairs of 400 items", "1", "\n".join([" ".join(names[:400]), *pairs, ""]), None
+    yield "a board of 100 by 100", "1", dominoes(100, 100).decode(), None
+    yield "a strip of 3 by 10,000", "1", dominoes(3, 10000).decode(), None
+    yield "secondary items in no option", "1", "\n".join([f"A | {' '.join(names)}", "A", ""]), "1 solution."
+    yield "permutations of 300", "1", "\n".join([" ".join(names[:600]), *(f"{a} {b}" for a in names[:300] for b in names[300:600]), ""]), None
+
+
+def counts():
+    """Whatever the text is, a count ends soon, by its bound of memory if not before, and takes little more than that."""
+    for what, kind, text, wanted in hurting():
+        begun = time.monotonic()
+        with subprocess.Popen([path("dlx-count"), kind, "b1"], stdin=subprocess.PIPE, stdout=subprocess.PIPE, stderr=subprocess.PIPE) as run_of_it:
+            out, err = run_of_it.communicate(text.encode(), timeout=HANG)
+        took = time.monotonic() - begun
+        allowed = ("Altogether ",) if wanted else ("Altogether ", "No count within 1 megabytes.")
+        is_right = out == b"" and err.decode().startswith(allowed) and run_of_it.returncode == (0 if err.startswith(b"Altogether") else 6)
+        tell(is_right and took < HANG and err.decode().endswith(f"Altogether {wanted}\n" if wanted else "\n"), f"a count of {what}: {run_of_it.returncode}, {err[:80]!r}, {took:.1f} s")
+
+
+def bounds_of_counts():
+    """The bound is kept, want of memory is told, and ^C ends a count at once."""
+    board = dominoes(20, 20)
+    for megabytes in (0, 1, 4):
+        expect(f"a count within {megabytes} MB", ["dlx-count", "1", f"b{megabytes}"], board, 6, b"", b"No count within %d megabytes.\n" % megabytes)
+    small = ["sh", "-c", 'ulimit -v 20000; exec "$@"', "sh", path("dlx-count"), "1", "b4000"]
+    done = subprocess.run(small, input=board, capture_output=True)
+    tell((done.returncode, done.stdout, done.stderr) == (4, b"", b"Out of memory.\n"), f"a count in 20 MB: {done.returncode}, {done.stderr[:80]!r}")
+    with subprocess.Popen([path("dlx-count"), "1", "b4000"], stdin=subprocess.PIPE, stderr=subprocess.PIPE) as count:
+        count.stdin.write(dominoes(40, 40))
+        count.stdin.close()
+        time.sleep(0.5)
+        is_counting = count.poll() is None
+        count.send_signal(signal.SIGINT)
+        begun = time.monotonic()
+        status = count.wait(HANG)
+        tell(is_counting and status == -signal.SIGINT, f"a count that is stopped: {status}, {count.stderr.read()[:80]!r}")
+        tell(time.monotonic() - begun < 10, "a count that is stopped doesn't end at once")
+
+
 # ---- streams as they are
 
 def streams(folder):
@@ -333,6 +397,13 @@ def streams(folder):
     shell("standard error closed", f"{dlx1} 2>&-", 3, b"")
     shell("standard input a folder", f"{dlx1} <{folder}", 3, b"Read failed.\n")
     shell("standard input closed", f"{dlx1} <&-", 3, b"Read failed.\n")
+    counter = path("dlx-count")
+    shell("a count into standard error that is full", f"{counter} 1 2>/dev/full", 3, b"")
+    shell("a count without standard error", f"{counter} 1 2>&-", 3, b"")
+    shell("a count without standard output", f"{counter} 1 >&-", 0, b"Altogether 1 solution.\n")
+    shell("a count of a folder", f"{counter} 1 <{folder}", 3, b"Read failed.\n")
+    shell("a count of nothing", f"{counter} 1 <&-", 3, b"Read failed.\n")
+    shell("a count of words that aren't UTF-8", f"{counter} 1 b$(printf '\\377')", 4, b"Out of memory.\n")
     ours, theirs = os.pipe()
     os.close(ours)
     done = subprocess.run([dlx1, "m1"], input=text, stdout=theirs, stderr=subprocess.PIPE)
@@ -386,7 +457,7 @@ def main():
     with tempfile.TemporaryDirectory(prefix="hostile-") as folder:
         for part in (want_of_memory, failing_calls, listing_cut_at_each_byte, deep, streams):
             part(folder)
-        for part in (lines_in_one_write, seen_at_once, chosen_words, large_inputs, long_tokens, cut_at_each_byte):
+        for part in (lines_in_one_write, seen_at_once, chosen_words, large_inputs, long_tokens, cut_at_each_byte, counts, bounds_of_counts):
             part()
     print(f"{tried['passed']} passed, {tried['failed']} failed")
     return 1 if tried["failed"] else 0

@@ -5,7 +5,7 @@ from __future__ import annotations
 import itertools
 import re
 from collections.abc import Hashable, Iterable, Iterator, Sequence
-from dataclasses import dataclass
+from dataclasses import dataclass, field
 from math import comb, prod
 from typing import Optional
 
@@ -13,7 +13,7 @@ from ..errors import TableFault
 from ..names import colour_names
 from ..problem import Problem
 from ..shown import bytes_of
-from ..syntax import MOST_USES
+from ..syntax import MOST_USES, Nearest
 from .kind import check_items, numbered
 
 Option = dict[Hashable, Optional[str]]
@@ -24,6 +24,8 @@ MOST_STRENGTH = 10
 # Numbers of values, such as `3,3,2` or `3^2,2`.
 LEVELS = re.compile(r"[0-9]+(?:\^[0-9]+)?(?:,[0-9]+(?:\^[0-9]+)?)*\Z")
 _LEVEL = re.compile(r"([0-9]{1,9})(?:\^([0-9]{1,9}))?\Z")
+# What begins a line of values that never come together, and of a test that exists.
+_FORBIDDEN, _GIVEN = "-", "+"
 _NOT_IN_FACTOR = re.compile(r"[:|=\0]")
 # An item is a test's number and a factor's name, and has at most 32 bytes.
 _LONGEST_FACTOR = 24
@@ -73,7 +75,7 @@ def _by_lines(text: str) -> Iterator[Factor]:
     lines: dict[str, int] = {}
     for number, line in numbered(text):
         words = line.split()
-        if not words or words[0].startswith("#"):
+        if not words or words[0].startswith("#") or words[0] in (_FORBIDDEN, _GIVEN):
             continue
         name, *values = words
         if name in lines:
@@ -93,6 +95,59 @@ def _by_lines(text: str) -> Iterator[Factor]:
             seen.add(value)
         lines[name] = number
         yield Factor.of(name, values)
+
+
+@dataclass(frozen=True)
+class Rules:
+    """Values that never come together in a test, and tests that exist: of each the values by factors, as numbers."""
+
+    bans: list[dict[int, int]] = field(default_factory=list)
+    given: list[dict[int, int]] = field(default_factory=list)
+
+    def __bool__(self) -> bool:
+        return bool(self.bans or self.given)
+
+
+def read_rules(text: str, factors: Sequence[Factor]) -> Rules:
+    """The lines of a table that begin with `-` or `+`, `- system=linux browser=safari`. Raises `TableFault`."""
+    rules = Rules()
+    bans: dict[int, dict[int, int]] = {}
+    given: dict[int, dict[int, int]] = {}
+    for number, line in [] if LEVELS.match(text.strip()) else numbered(text):
+        sign, *words = line.split() or [""]
+        if sign in (_FORBIDDEN, _GIVEN):
+            (bans if sign == _FORBIDDEN else given)[number] = _values(number, words, factors)
+    for number, ban in bans.items():
+        if len(ban) < 2:
+            raise TableFault(number, "", "a forbidden combination has two values at least")
+    for number, test in given.items():
+        if not test:
+            raise TableFault(number, "", "a test that exists has values, FACTOR=VALUE")
+        for line_of_ban, ban in bans.items():
+            if ban.items() <= test.items():
+                raise TableFault(number, "", f"this test has what line {line_of_ban} forbids")
+    rules.bans.extend(bans.values())
+    rules.given.extend(given.values())
+    return rules
+
+
+def _values(number: int, words: Iterable[str], factors: Sequence[Factor]) -> dict[int, int]:
+    """The factors and values that words `FACTOR=VALUE` say. Raises `TableFault`."""
+    names = {factor.name: place for place, factor in enumerate(factors)}
+    found: dict[int, int] = {}
+    for word in words:
+        name, sign, value = word.partition("=")
+        if not sign:
+            raise TableFault(number, word, "no FACTOR=VALUE")
+        if name not in names:
+            raise TableFault(number, word, f"no factor {name}", Nearest().question(name, names))
+        values = factors[names[name]].values
+        if value not in values:
+            raise TableFault(number, word, f"{name} has no such value", Nearest().question(value, values))
+        if names[name] in found:
+            raise TableFault(number, word, f"{name} has a value in this line already")
+        found[names[name]] = values.index(value)
+    return found
 
 
 # ---- the model

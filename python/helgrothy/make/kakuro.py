@@ -13,6 +13,7 @@ from typing import Any
 from ..draw import Cell, Drawing, Picture, check_size
 from ..errors import TableFault
 from ..problem import Problem
+from .clues import Clues, options_of
 from .kind import Counted, Kind, check_items, cut, picture, read_text
 
 Square = tuple[int, int]
@@ -25,6 +26,7 @@ _SUMS = re.compile(r"([0-9]{0,4})[\\/]([0-9]{0,4})\Z")
 _SUM = re.compile(r"[0-9]{2,4}\Z")
 _RUN = re.compile(r"(across|down)-r([0-9]+)c([0-9]+)\Z")
 _HELD = re.compile(r"(?:across|down)-r[0-9]+c[0-9]+=([1-9])\Z")
+_WORD, _GIVEN = re.compile(r"\S+"), re.compile(r"(?<!\S)[1-9](?!\S)")
 _CELL = re.compile(r"r([0-9]+)c([0-9]+)\Z")
 
 
@@ -258,4 +260,30 @@ def _make(arguments: argparse.Namespace) -> Problem[list[str]]:
     return problem(read_text(arguments.grid))
 
 
-KIND = Kind("kakuro", "a Kakuro from its grid", _add_arguments, _make, drawing)
+def _clues(arguments: argparse.Namespace) -> Clues:
+    grid = read_text(arguments.grid)
+    problem(grid)
+    empty = problem(_GIVEN.sub(".", grid))
+    lines = [empty.line(option) for option in empty.options]
+    cells = {place: at for place, at in enumerate(map(_cut, lines)) if at[0] is not None and at[1] is not None}
+    first = picture(grid)[0][0]
+
+    def write(kept: Sequence[int]) -> str:
+        digits = dict(cells[place] for place in kept)
+        rows = []
+        for r, line in enumerate(grid.splitlines(), 2 - first):
+            columns = itertools.count(1)
+            rows.append(_WORD.sub(lambda found: _shown(digits, (r, next(columns)), found.group()), line) + "\n")
+        return "".join(rows)
+
+    marks = _marks([(number, line.split()) for number, line in picture(grid)])
+    held = [(_name(at), f"*={mark}") for at, mark in marks.items() if mark.isdigit()]
+    return Clues(empty, options_of(empty, held), list(cells), write)
+
+
+def _shown(digits: dict[Square | None, str | None], at: Square, word: str) -> str:
+    """What stands in a cell where these digits are given."""
+    return digits.get(at) or (_WHITE[0] if word.isdigit() or word in _WHITE else word)
+
+
+KIND = Kind("kakuro", "a Kakuro from its grid", _add_arguments, _make, drawing, clues=_clues)

@@ -7,13 +7,17 @@ import errno
 import re
 from collections.abc import Callable, Iterable, Sequence, Sized
 from dataclasses import dataclass
-from typing import Any, TypeVar
+from typing import TYPE_CHECKING, Any, TypeVar
 
 from ..console import did_you_mean, read
 from ..draw import Drawing
 from ..errors import TableFault
 from ..problem import Problem
 from ..syntax import MOST_ITEMS, MOST_USES
+
+if TYPE_CHECKING:
+    from ..wishes import Wish
+    from .clues import Clues
 
 T = TypeVar("T", bound=Sized)
 
@@ -37,6 +41,8 @@ class Kind:
     cell: of a board or a box the pattern that finds the cells of an option, as `symmetry.motions` takes it.
     add_search_arguments, search: of a kind that has a search of its own the arguments of that search, and what searches
     for so many seconds, or for its own time without a number; None where the arguments don't ask for it.
+    wishes: of a kind whose table may have wishes those of a problem, from the table in its comments.
+    clues: of a kind whose clues are options what these are, for who makes such puzzles.
     """
 
     name: str
@@ -47,6 +53,8 @@ class Kind:
     add_search_arguments: Callable[[argparse.ArgumentParser], None] = lambda parser: None
     search: Callable[[argparse.Namespace], Callable[[float | None], Found] | None] = lambda arguments: None
     cell: str | None = None
+    wishes: Callable[[Problem[Any]], list[Wish]] = lambda problem: []
+    clues: Callable[[argparse.Namespace], Clues] | None = None
 
 
 def kind_of(comments: Sequence[str]) -> str | None:

@@ -6,6 +6,8 @@ Its lines; last cells that are empty may be left out:
     room,NAME,,PLACES,SEATS
     lesson,NAME,PEOPLE,PLACES,SEATS,TIMES        or exam
     person,NAME,LESSONS,PLACES,LIMIT
+
+Among PLACES may be wishes, `fri=3`.
 """
 
 from __future__ import annotations
@@ -18,6 +20,7 @@ from collections.abc import Iterator
 from dataclasses import dataclass, field
 from typing import NoReturn
 
+from ..amounts import number_of
 from ..data import of_csv
 from ..errors import TableFault
 from ..shown import bytes_of
@@ -85,10 +88,13 @@ class Slot:
 
 @dataclass(frozen=True)
 class Places:
-    """Where something may be: of days, hours, slots and rooms in any of those that are wanted, and in none barred."""
+    """Where something may be: of days, hours, slots and rooms in any of those that are wanted, and in none barred; and
+    what it costs there, each place with a number, and the line that says so."""
 
     wanted: dict[str, set[str]] = field(default_factory=dict)
     barred: set[str] = field(default_factory=set)
+    wishes: list[tuple[str, str]] = field(default_factory=list)
+    line: int = 0
 
     def allow(self, slot: Slot, room: str) -> bool:
         names = {"day": slot.day, "hour": slot.hour, "slot": slot.name, "room": room}
@@ -198,13 +204,18 @@ class Plan:
         self._kinds[name] = kind
 
     def _places(self, line: _Line) -> Places:
-        places = Places({}, set())
+        places = Places(line=line.number)
         for word in line.words("places"):
             is_barred = word.startswith("-")
-            name = word[is_barred:]
+            name, sign, wished = word[is_barred:], "", ""
+            if name not in self._kinds and not is_barred and "=" in word:
+                name, sign, wished = word.rpartition("=")
             if name not in self._kinds:
                 line.refuse(word, "no day, hour, slot or room", self._nearest.question(name, self._kinds))
-            if is_barred:
+            if sign:
+                number_of(line.number, wished)
+                places.wishes.append((name, wished))
+            elif is_barred:
                 places.barred.add(name)
             else:
                 places.wanted.setdefault(self._kinds[name], set()).add(name)

@@ -14,20 +14,20 @@ from ..errors import TableFault
 from ..problem import Problem
 from ..syntax import MOST_USES
 from .kind import Counted, Kind, cut, numbered, read_text
+from .runs import EMPTY, FILLED, Clue, arrangements, count, known, steps
 
 Option = dict[str, Optional[str]]
-Clue = tuple[int, ...]
-
-FILLED, EMPTY = "#", "."
 _HEADS = ("rows", "columns")
 # What else stands at the beginning of lines in files of the format `non`.
 _OTHERS = ("catalogue", "title", "by", "copyright", "license", "color", "goal", "width", "height")
 _NUMBER = re.compile(r"[0-9]{1,4}\Z")
-_LINE = re.compile(r"(row|col)([0-9]+)\Z")
+_LINE = re.compile(r"(row|col)([0-9]+)(?:/([0-9]+))?\Z")
 _CELL = re.compile(r"r([0-9]+)c([0-9]+):([#.])\Z")
 _MOST_SIDE = 100
 # Squares are ruled out by so many steps at most, which take a second or two; then the arrangements are many, not wrong.
 _MOST_STEPS = 2_000_000
+# Whole lines say more, so the programs search them faster unless they have so many times the uses of runs.
+_FAR_FEWER = 10
 
 
 @dataclass(frozen=True)
@@ -53,26 +53,31 @@ def problem(clues: str) -> Problem[Option]:
     without any. Files of the format `non`, with the headings `rows` and `columns`, are read too.
 
     An option is an arrangement of a row or a column, `row3 r3c1:# r3c2:. ..`: a square has # or . as a colour. What the
-    clues that cross it rule out is left out. Raises `TableFault`.
+    clues that cross it rule out is left out. Where the arrangements are many, an option is a run with its first square
+    and that of the next run, `row3/2 row3@2:5 row3@3:9 r3c5:# r3c6:# r3c7:. r3c8:.`. Raises `TableFault`.
     """
     rows, columns = _read(clues)
     _check(rows, columns)
     board = _Board(rows, columns)
     board.rule_out()
+    lines = [
+        _Made(name, line.clue, [board.marks[at] for at in squares], [f"r{r}c{c}" for r, c in squares])
+        for name, line, squares in board.lines()
+    ]
+    by_runs = _are_shorter_by_runs(lines)
     options: Counted[Option] = Counted()
-    for name, line, squares in board.lines():
-        marks = [board.marks[at] for at in squares]
-        if _count(line.clue, marks) * (1 + len(marks)) > MOST_USES:
-            raise ValueError(f"the problem would have more than {MOST_USES} uses of items")
-        for arranged in _arrangements(line.clue, marks):
-            options.add({name: None, **{f"r{r}c{c}": mark for (r, c), mark in zip(squares, arranged)}})
+    for line in lines:
+        for option in line.by_runs() if by_runs else line.as_wholes():
+            options.add(option)
+    chains = [item for line in lines for item in line.chain] if by_runs else []
+    what = "Each run and where it and the next one begin" if by_runs else "An arrangement of each row and column"
     return Problem(
-        [name for name, _, _ in board.lines()],
-        [f"r{r}c{c}" for r, c in board.marks],
+        [item for line in lines for item in (line.items if by_runs else [line.name])],
+        [*(f"r{r}c{c}" for r, c in board.marks), *chains],
         options,
         comments=[
             "helgrothy make nonogram CLUES",
-            "An arrangement of each row and column; whether a square rRcC is filled is its colour. The clues:",
+            f"{what}; whether a square rRcC is filled is its colour. The clues:",
             *map(str, rows),
             "",
             *map(str, columns),
@@ -145,90 +150,6 @@ def _check(rows: Sequence[_Line], columns: Sequence[_Line]) -> None:
         raise TableFault(columns[0].number, "", told)
 
 
-# ---- arrangements of a line
-
-
-def _ends(clue: Clue, marks: Sequence[str]) -> list[list[bool]]:
-    """[k][i]: whether the runs from k on may be laid into the squares from i on. A mark is #, ., or a blank: either."""
-    size = len(marks)
-    may = [[False] * (size + 2) for _ in range(len(clue) + 1)]
-    may[-1][size] = may[-1][size + 1] = True
-    for i in range(size - 1, -1, -1):
-        may[-1][i] = may[-1][i + 1] and marks[i] != FILLED
-    for k in range(len(clue) - 1, -1, -1):
-        for i in range(size - clue[k], -1, -1):
-            is_laid = _lies(clue[k], marks, i) and may[k + 1][i + clue[k] + 1]
-            may[k][i] = is_laid or marks[i] != FILLED and may[k][i + 1]
-    return may
-
-
-def _lies(length: int, marks: Sequence[str], at: int) -> bool:
-    """Whether a run may lie there: its squares may be filled, and the next one may be empty."""
-    end = at + length
-    return EMPTY not in marks[at:end] and (end == len(marks) or marks[end] != FILLED)
-
-
-def _arrangements(clue: Clue, marks: Sequence[str]) -> Iterator[str]:
-    """All arrangements of a line that keep to its marks."""
-    may, size = _ends(clue, marks), len(marks)
-    # What is still to be tried: the runs that are laid, the square after them, and the text up to there.
-    left = [(0, 0, "")] if may[0][0] else []
-    while left:
-        k, i, text = left.pop()
-        if i >= size:
-            yield text[:size]
-            continue
-        if k < len(clue) and _lies(clue[k], marks, i) and may[k + 1][i + clue[k] + 1]:
-            left.append((k + 1, i + clue[k] + 1, text + FILLED * clue[k] + EMPTY))
-        if marks[i] != FILLED and may[k][i + 1]:
-            left.append((k, i + 1, text + EMPTY))
-
-
-def _count(clue: Clue, marks: Sequence[str]) -> int:
-    """How many arrangements a line has."""
-    size = len(marks)
-    ways = [1] * (size + 2)
-    for i in range(size - 1, -1, -1):
-        ways[i] = ways[i + 1] if marks[i] != FILLED else 0
-    for length in reversed(clue):
-        before, ways = ways, [0] * (size + 2)
-        for i in range(size - length, -1, -1):
-            ways[i] = ways[i + 1] if marks[i] != FILLED else 0
-            if _lies(length, marks, i):
-                ways[i] += before[i + length + 1]
-    return ways[0]
-
-
-def _known(clue: Clue, marks: Sequence[str]) -> list[str] | None:
-    """The marks that all arrangements have in common, or None where there is no arrangement."""
-    size = len(marks)
-    after = _ends(clue, marks)
-    if not after[0][0]:
-        return None
-    # The same from the other end: whether the first k runs may be laid into the first i squares.
-    turned = _ends(clue[::-1], marks[::-1])
-    may_be_filled = [0] * (size + 1)
-    may_be_empty = [False] * size
-    for k, length in enumerate(clue):
-        before = turned[len(clue) - k]
-        for i in range(size - length + 1):
-            # A run at i has an empty square, or the edge, before it.
-            fits_before = before[size - i + 1] if i and marks[i - 1] != FILLED else i == 0 and k == 0
-            if fits_before and _lies(length, marks, i) and after[k + 1][i + length + 1]:
-                may_be_filled[i] += 1
-                may_be_filled[i + length] -= 1
-    for k in range(len(clue) + 1):
-        before = turned[len(clue) - k]
-        for i in range(size):
-            if marks[i] != FILLED and after[k][i + 1] and before[size - i]:
-                may_be_empty[i] = True
-    known, depth = [], 0
-    for i in range(size):
-        depth += may_be_filled[i]
-        known.append(" " if depth and may_be_empty[i] else FILLED if depth else EMPTY)
-    return known
-
-
 class _Board:
     """The squares by what is known of them: #, ., or a blank."""
 
@@ -255,15 +176,76 @@ class _Board:
             _, line, squares = lines[number]
             marks = [self.marks[at] for at in squares]
             steps += (1 + len(line.clue)) * len(marks)
-            known = _known(line.clue, marks)
-            if known is None:
+            found = known(line.clue, marks)
+            if found is None:
                 kind, crossing = ("row", "columns") if number < len(self._rows) else ("column", "rows")
                 reason = f"no arrangement of this {kind} fits what the clues of the {crossing} leave"
                 raise TableFault(line.number, cut(str(line)), reason)
-            for at, before, now in zip(squares, marks, known):
+            for at, before, now in zip(squares, marks, found):
                 if before != now:
                     self.marks[at] = now
                     waiting[len(self._rows) + at[1] - 1 if number < len(self._rows) else at[0] - 1] = None
+
+
+@dataclass(frozen=True)
+class _Made:
+    """A row or a column with the marks of its squares, and these as items."""
+
+    name: str
+    clue: Clue
+    marks: list[str]
+    squares: list[str]
+
+    @property
+    def items(self) -> list[str]:
+        """Its runs, behind what is before the first one."""
+        return [f"{self.name}/{k}" for k in range(len(self.clue) + 1)]
+
+    @property
+    def chain(self) -> list[str]:
+        """The items whose colours say where its runs begin."""
+        return [f"{self.name}@{k}" for k in range(1, len(self.clue) + 1)]
+
+    def as_wholes(self) -> Iterator[Option]:
+        """An option for each arrangement."""
+        for arranged in arrangements(self.clue, self.marks):
+            yield {self.name: None, **dict(zip(self.squares, arranged))}
+
+    def by_runs(self) -> Iterator[Option]:
+        """An option for each run, where it begins, and where the next one does."""
+        items, chain = self.items, self.chain
+        for k, begin, following in steps(self.clue, self.marks):
+            option: Option = {items[k]: None}
+            if k:
+                option[chain[k - 1]] = str(begin + 1)
+            if k < len(chain):
+                option[chain[k]] = str(following + 1)
+            filled = self.clue[k - 1] if k else 0
+            option.update(dict.fromkeys(self.squares[begin : begin + filled], FILLED))
+            option.update(dict.fromkeys(self.squares[begin + filled : following], EMPTY))
+            yield option
+
+    @property
+    def uses_as_wholes(self) -> int:
+        return count(self.clue, self.marks) * (1 + len(self.marks))
+
+    @property
+    def uses_by_runs(self) -> int:
+        ends = len(self.clue)
+        return sum(1 + (k > 0) + (k < ends) + to - begin for k, begin, to in steps(self.clue, self.marks))
+
+
+def _are_shorter_by_runs(lines: Sequence[_Made]) -> bool:
+    """Whether options for runs have far fewer uses. Raises `ValueError` where a problem has too many either way."""
+    whole = sum(line.uses_as_wholes for line in lines)
+    most = whole // _FAR_FEWER if whole <= MOST_USES else MOST_USES
+    by_runs = 0
+    for line in lines:
+        # What is too much needs no count to its end.
+        by_runs += line.uses_by_runs if by_runs <= most else 0
+    if by_runs > most and whole > MOST_USES:
+        raise ValueError(f"the problem would have more than {MOST_USES} uses of items")
+    return by_runs <= most
 
 
 # ---- pictures
@@ -271,16 +253,7 @@ class _Board:
 
 def drawing(problem: Problem[Any]) -> Drawing:
     """Filled squares, with the clues beside the rows and above the columns."""
-    clues: dict[str, list[Clue]] = {"row": [], "col": []}
-    numbers = {name: found for name in problem.item_names if (found := _LINE.match(name))}
-    for kind, own in clues.items():
-        count = max(int(found.group(2)) for found in numbers.values() if found.group(1) == kind)
-        if count > len(numbers):
-            raise ValueError("a row or column has no item")
-        own.extend([()] * count)
-    for option in problem.options:
-        name, *words = problem.line(option).split()
-        clues[numbers[name].group(1)][int(numbers[name].group(2)) - 1] = _clue_of(words)
+    clues = _clues(problem)
     left, top = (max(1, *map(len, clues[kind])) for kind in ("row", "col"))
     rows, columns = len(clues["row"]), len(clues["col"])
     check_size(rows + top, columns + left, rows * columns)
@@ -311,7 +284,25 @@ def drawing(problem: Problem[Any]) -> Drawing:
     return draw
 
 
-def _clue_of(words: Sequence[str]) -> Clue:
+def _clues(problem: Problem[Any]) -> dict[str, list[Clue]]:
+    """The clues of the rows and of the columns, as options show them: whole lines, or a part of one for each run."""
+    numbers = {name: found.groups("0") for name in problem.item_names if (found := _LINE.match(name))}
+    parts: dict[str, dict[int, dict[int, Clue]]] = {"row": {}, "col": {}}
+    for kind, number, _ in numbers.values():
+        parts[kind][int(number)] = {}
+    if any(max(own) > len(own) for own in parts.values()):
+        raise ValueError("a row or column has no item")
+    for option in problem.options:
+        name, *words = problem.line(option).split()
+        kind, number, part = numbers[name]
+        parts[kind][int(number)][int(part)] = _lengths(words)
+    return {
+        kind: [tuple(length for _, lengths in sorted(own[n].items()) for length in lengths) for n in sorted(own)]
+        for kind, own in parts.items()
+    }
+
+
+def _lengths(words: Sequence[str]) -> Clue:
     """The lengths of the runs of an option."""
     marks = [found.group(3) for found in map(_CELL.match, words) if found]
     return tuple(len(list(run)) for mark, run in groupby(marks) if mark == FILLED)

@@ -5,26 +5,33 @@ from __future__ import annotations
 import argparse
 import re
 from collections.abc import Iterator, Sequence
-from dataclasses import dataclass
+from dataclasses import dataclass, field
 from typing import Any
 
+from ..amounts import number_of
 from ..draw import Cell, Drawing, Picture, Shades, check_size
 from ..errors import TableFault
 from ..problem import Problem
 from ..syntax import MOST_USES
+from ..wishes import Wish, check
 from .kind import Counted, Kind, numbered, read_text
 
 # How many people a shift of a day takes, at least and at most.
 Needs = dict[tuple[str, str], tuple[int, int]]
 
+# Where the table begins in the comments of a problem.
+_TABLE_AT = 2
 _NUMBERS = re.compile(r"([0-9]{1,9})(?::([0-9]{1,9}))?\Z")
 
 
 @dataclass
 class _Person:
     name: str
+    line: int
     bounds: tuple[int, int]
-    off: set[str]
+    off: set[str] = field(default_factory=set)
+    # A day, a shift, or a shift on a day, and the number that is wished for it.
+    wishes: list[tuple[str, str]] = field(default_factory=list)
 
 
 def problem(table: str, *, rest: bool = False) -> Problem[list[str]]:
@@ -35,14 +42,15 @@ def problem(table: str, *, rest: bool = False) -> Problem[list[str]]:
         late   1   2   0:1
 
         ann    2:3
-        bob    2    -tue
+        bob    2    -tue late=3
         cat    1:2  -late -mon/early
 
     The first line names the days behind a word that counts for nothing; each further line up to a blank one is a
     shift and how many people it takes on each day, a number or the least and the most. Behind the blank line stand
     the people, each with the number of shifts and what is not for him or her: a day, a shift, or a shift on a day.
-    Lines that begin with # are skipped. Nobody has two shifts on a day. `rest`: nor a shift on the next day that
-    stands higher in the table.
+    `late=3` is a wish: each late shift of bob's costs 3; a number below 0 is for what is liked. `helgrothy.wishes`
+    reads them from the problem. Lines that begin with # are skipped. Nobody has two shifts on a day. `rest`: nor a
+    shift on the next day that stands higher in the table.
 
     An option is a person in a shift: `DAY/SHIFT PERSON PERSON-DAY`. Raises `TableFault`.
     """
@@ -58,7 +66,7 @@ def problem(table: str, *, rest: bool = False) -> Problem[list[str]]:
             once = [f"{person.name}-{day}", *(rests.items(person.name, day, shift) if rest else [])]
             secondary.update(dict.fromkeys(once))
             options.add([f"{day}/{shift}", person.name, *once])
-    return Problem(
+    made = Problem(
         {
             **{f"{day}/{shift}": bounds for (day, shift), bounds in needs.items() if bounds[1]},
             **{person.name: person.bounds for person in people},
@@ -71,6 +79,29 @@ def problem(table: str, *, rest: bool = False) -> Problem[list[str]]:
             *(line for _, line in numbered(table)),
         ],
     )
+    check(wishes(made), "no shift of this person is one of these")
+    return made
+
+
+def wishes(problem: Problem[Any]) -> list[Wish]:
+    """The wishes of the table in a problem's comments. Raises `TableFault`."""
+    _, _, people = _read("\n".join(problem.comments[_TABLE_AT:]))
+    own: dict[str, list[tuple[int, set[str]]]] = {}
+    if any(person.wishes for person in people):
+        for place, option in enumerate(problem.options):
+            slot, name = problem.line(option).split()[:2]
+            own.setdefault(name, []).append((place, {slot, *slot.split("/")}))
+    return [
+        Wish(
+            person.line,
+            f"{person.name} {what}={number}",
+            number_of(person.line, number),
+            frozenset(place for place, names in own.get(person.name, ()) if what in names),
+            is_of_table=True,
+        )
+        for person in people
+        for what, number in person.wishes
+    ]
 
 
 class _Rests:
@@ -121,13 +152,19 @@ def _read(table: str) -> tuple[list[str], Needs, list[_Person]]:
 
 def _person(number: int, words: Sequence[str], days: Sequence[str], known: set[str]) -> _Person:
     name, *rest = words
-    bounds = (0, len(days))
-    if rest and not rest[0].startswith("-"):
-        bounds = _numbers(number, rest.pop(0))
+    person = _Person(name, number, (0, len(days)))
+    if rest and not rest[0].startswith("-") and "=" not in rest[0]:
+        person.bounds = _numbers(number, rest.pop(0))
     for word in rest:
-        if word[:1] != "-" or word[1:] not in known:
-            raise TableFault(number, word, "neither -DAY, -SHIFT nor -DAY/SHIFT of the table")
-    return _Person(name, bounds, {word[1:] for word in rest})
+        what, sign, wished = word.rpartition("=")
+        if word.startswith("-") and word[1:] in known:
+            person.off.add(word[1:])
+        elif sign and what in known:
+            number_of(number, wished)
+            person.wishes.append((what, wished))
+        else:
+            raise TableFault(number, word, "neither -DAY, -SHIFT nor -DAY/SHIFT of the table, nor one with =NUMBER")
+    return person
 
 
 def _numbers(number: int, word: str) -> tuple[int, int]:
@@ -165,7 +202,8 @@ def _add_arguments(parser: argparse.ArgumentParser) -> None:
         "table",
         metavar="TABLE",
         help="a file: a line of days behind a word, lines of shifts with numbers of people, a blank line, lines of "
-        "people with numbers of shifts and what is not for them (-DAY, -SHIFT, -DAY/SHIFT)",
+        "people with numbers of shifts, what is not for them (-DAY, -SHIFT, -DAY/SHIFT) and what it costs if they have "
+        "it (DAY=3, SHIFT=3, DAY/SHIFT=3)",
     )
     parser.add_argument("--rest", action="store_true", help="no shift on the next day that stands higher in the table")
 
@@ -174,4 +212,4 @@ def _make(arguments: argparse.Namespace) -> Problem[list[str]]:
     return problem(read_text(arguments.table), rest=arguments.rest)
 
 
-KIND = Kind("roster", "shifts of people on days", _add_arguments, _make, drawing)
+KIND = Kind("roster", "shifts of people on days", _add_arguments, _make, drawing, wishes=wishes)

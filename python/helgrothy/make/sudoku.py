@@ -16,6 +16,7 @@ from ..problem import Problem
 from ..syntax import MOST_USES
 from . import areas
 from .areas import Cage, Square
+from .clues import Clues, options_of
 from .kind import Counted, Kind, cut, numbered, read_text
 
 _DIGITS = "123456789ABCDEFGHIJKLMNOP"
@@ -255,13 +256,40 @@ def _add_arguments(parser: argparse.ArgumentParser) -> None:
     )
 
 
-def _make(arguments: argparse.Namespace) -> Problem[list[str]]:
+def _texts(arguments: argparse.Namespace) -> tuple[str, str | None, str | None]:
+    """Clues, regions and cages. Raises `ValueError` and `OSError`."""
     given = arguments.clues
     is_file = given == "-" or os.path.exists(given) or any(c not in _EMPTY and c.upper() not in _DIGITS for c in given)
     if not given and arguments.regions is None and arguments.cages is None:
         raise ValueError("the clues are missing; only with --regions or --cages there may be none")
     regions, cages = (None if path is None else read_text(path) for path in (arguments.regions, arguments.cages))
-    return problem(read_text(given, "clues") if is_file else given, regions=regions, cages=cages)
+    return read_text(given, "clues") if is_file else given, regions, cages
 
 
-KIND = Kind("sudoku", "a Sudoku from its clues", _add_arguments, _make, drawing)
+def _make(arguments: argparse.Namespace) -> Problem[list[str]]:
+    clues, regions, cages = _texts(arguments)
+    return problem(clues, regions=regions, cages=cages)
+
+
+def _clues(arguments: argparse.Namespace) -> Clues:
+    text, regions, cages = _texts(arguments)
+    marks = _marks(text)
+    problem(text, regions=regions, cages=cages)
+    empty = problem("." * len(marks), regions=regions, cages=cages)
+    lines = [empty.line(option) for option in empty.options]
+    cells = {place: _cut(line) for place, line in enumerate(lines) if _CAGE.match(line.split(" ", 1)[0]) is None}
+    size = 1 + max(r for (r, _), _, _ in cells.values())
+    squares = [(r, c) for r in range(size) for c in range(size)]
+    layout = text if marks else f"{'.' * size}\n" * size
+
+    def write(kept: Sequence[int]) -> str:
+        digits = {square: digit for square, digit, _ in map(cells.__getitem__, kept)}
+        left = iter(squares)
+        return "".join(mark if mark.isspace() else digits.get(next(left), ".") for mark in layout).rstrip("\n") + "\n"
+
+    held = [(r, c, mark.upper()) for (r, c), mark in zip(squares, marks) if mark not in _EMPTY]
+    given = options_of(empty, [(f"r{r + 1}c{c + 1}", f"r{r + 1}={digit}") for r, c, digit in held])
+    return Clues(empty, given, list(cells), write)
+
+
+KIND = Kind("sudoku", "a Sudoku from its clues", _add_arguments, _make, drawing, clues=_clues)

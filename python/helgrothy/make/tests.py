@@ -10,7 +10,8 @@ from typing import Any
 from ..console import positive
 from ..draw import Cell, Drawing, Picture, check_size, shade
 from ..problem import Problem
-from .designs import LEVELS, Design, Option, read_factors
+from . import allowed
+from .designs import LEVELS, Design, Option, read_factors, read_rules
 from .fewest import Few, fewest
 from .kind import Found, Kind, read_text
 
@@ -23,7 +24,8 @@ def problem(factors: str, tests: int, strength: int = 2) -> Problem[Option]:
     """So many tests in which all values of any `strength` factors come together at least once.
 
     factors: a line for each factor, its name and its values, and lines that begin with # are skipped; or numbers of
-        values, such as `3,3,2` or `3^2,2`.
+        values, such as `3,3,2` or `3^2,2`. Only `few` takes lines of values that never come together,
+        `- system=linux browser=safari`, and of tests that exist, `+ system=mac browser=safari`.
 
     What has to come together is a primary item. An option holds it in a test, `t3/system:linux t3/browser:firefox`:
     a test's factor has its value as a colour. The first tests have, in order, all values of those factors that have
@@ -32,16 +34,23 @@ def problem(factors: str, tests: int, strength: int = 2) -> Problem[Option]:
 
     Raises `TableFault`, or `ValueError` for fewer tests than these.
     """
-    return Design(read_factors(factors), tests, strength).problem()
+    read = read_factors(factors)
+    if read_rules(factors, read):
+        raise ValueError("the table has lines that begin with - or +: --least takes them, --tests doesn't")
+    return Design(read, tests, strength).problem()
 
 
 def few(factors: str, strength: int = 2, seconds: float | None = None) -> Few:
     """The design of the fewest tests that is found in the time; without a time in some ten seconds of a processor, and
-    then the same on every machine.
+    then the same on every machine. It begins with the tests that exist.
 
     Raises `TableFault`, `ValueError`, or `OutOfTime` where the time isn't enough for any.
     """
-    return fewest(read_factors(factors), strength, seconds)
+    read = read_factors(factors)
+    rules = read_rules(factors, read)
+    if rules:
+        return allowed.fewest(factors, read, strength, rules, seconds)
+    return fewest(read, strength, seconds)
 
 
 def drawing(problem: Problem[Any]) -> Drawing:
@@ -68,8 +77,9 @@ def _add_arguments(parser: argparse.ArgumentParser) -> None:
     parser.add_argument(
         "factors",
         metavar="FACTORS",
-        help="a file with a line for each factor, its name and its values; or numbers of values, such as 3,3,2 or "
-        "3^2,2",
+        help="a file with a line for each factor, its name and its values, and with --least lines of values that never "
+        "come together (- system=linux browser=safari) and of tests that exist (+ system=mac browser=safari); or "
+        "numbers of values, such as 3,3,2 or 3^2,2",
     )
     parser.add_argument("--tests", type=positive, metavar="N", help="so many tests")
     parser.add_argument(

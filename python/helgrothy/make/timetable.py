@@ -6,9 +6,11 @@ import argparse
 from collections.abc import Sequence
 from typing import Any
 
+from ..amounts import number_of
 from ..console import positive
 from ..draw import Cell, Drawing, Picture, Shades, check_size
 from ..problem import Problem
+from ..wishes import Wish, check
 from .kind import Counted, Kind, check_items, numbered, read_text
 from .lessons import Lesson, Plan, Slot
 
@@ -31,9 +33,11 @@ def problem(table: str, *, daily: int | None = None) -> Problem[list[str]]:
     with `exam`, or `person,NAME,LESSONS,PLACES,LIMIT`. Lines that begin with # are skipped.
 
     PLACES are words: days, hours, slots such as mon-1, and rooms. Of the words of one kind any will do, and what a
-        minus bars is left out. SEATS are those of a room, or those that a lesson needs, without a number one for each
-        of its people. TIMES is how often a lesson is held, once without a number. LIMIT is how many lessons a person
-        has a day at most. LESSONS are further ones of a person, beside those whose PEOPLE name him or her.
+        minus bars is left out. `fri=3` is a wish: each lesson there (of this room, or of this person) costs 3.
+        `helgrothy.wishes` reads them from the problem. SEATS are those of a room, or those that a lesson needs, without
+        a number one for each of its people. TIMES is how often a lesson is held, once without a number. LIMIT is how
+        many lessons a person has a day at most. LESSONS are further ones of a person, beside those whose PEOPLE name
+        him or her.
     daily: the limit of people without one of their own.
 
     An option is a lesson in a slot and a room, `maths mon-1/hall ann@mon-1 1a@mon-1`. Raises `TableFault`.
@@ -55,7 +59,7 @@ def problem(table: str, *, daily: int | None = None) -> Problem[list[str]]:
     }
     secondary = [name for name in dict.fromkeys(name for option in options for name in option) if name not in primary]
     check_items(len(primary) + len(secondary))
-    return Problem(
+    made = Problem(
         primary,
         secondary,
         options,
@@ -65,6 +69,49 @@ def problem(table: str, *, daily: int | None = None) -> Problem[list[str]]:
             *(line for _, line in numbered(table)),
         ],
     )
+    check(_wishes(made, plan), "no lesson or exam can be there")
+    return made
+
+
+def wishes(problem: Problem[Any]) -> list[Wish]:
+    """The wishes of the table in a problem's comments. Raises `TableFault`."""
+    return _wishes(problem, Plan("\n".join(problem.comments[_TABLE_AT:])))
+
+
+def _wishes(problem: Problem[Any], plan: Plan) -> list[Wish]:
+    # What has wishes: lessons, rooms and people, of which the first two may have the same names.
+    owners = [("lesson", lesson.name, lesson.places) for lesson in plan.lessons.values()]
+    owners += [("room", room.name, room.places) for room in plan.rooms]
+    owners += [("person", person.name, person.places) for person in plan.people.values()]
+    owners = [owner for owner in owners if owner[2].wishes]
+    options = _Options(problem, plan).by_owner if owners else {}
+    return [
+        Wish(
+            places.line,
+            f"{name} {where}={number}",
+            number_of(places.line, number),
+            frozenset(place for place, names in options.get((kind, name), ()) if where in names),
+            is_of_table=True,
+        )
+        for kind, name, places in owners
+        for where, number in places.wishes
+    ]
+
+
+class _Options:
+    """The options of each lesson, room and person: their places, and the names of day, hour, slot and room."""
+
+    def __init__(self, problem: Problem[Any], plan: Plan) -> None:
+        slots = {slot.name: slot for slot in plan.slots}
+        self.by_owner: dict[tuple[str, str], list[tuple[int, set[str]]]] = {}
+        for place, option in enumerate(problem.options):
+            lesson, word, *_ = problem.line(option).split()
+            name, sign, room = word.partition("/")
+            slot = slots[name if sign else word.rpartition("@")[2]]
+            names = {slot.day, slot.hour, slot.name, room}
+            people = plan.lessons[lesson].people
+            for owner in (("lesson", lesson), ("room", room), *(("person", person) for person in people)):
+                self.by_owner.setdefault(owner, []).append((place, names))
 
 
 class _Limits:
@@ -129,7 +176,7 @@ def _add_arguments(parser: argparse.ArgumentParser) -> None:
         metavar="TABLE",
         help="a file of CSV, with lines day,NAME,HOURS and room,NAME,,PLACES,SEATS and "
         "lesson,NAME,PEOPLE,PLACES,SEATS,TIMES and person,NAME,LESSONS,PLACES,LIMIT; a place is a day, an hour, a "
-        "slot DAY-HOUR or a room, and a minus bars one",
+        "slot DAY-HOUR or a room, a minus bars one, and DAY=3 is what it costs there",
     )
     parser.add_argument("--daily", type=positive, metavar="N", help="nobody has more than N lessons a day")
 
@@ -138,4 +185,4 @@ def _make(arguments: argparse.Namespace) -> Problem[list[str]]:
     return problem(read_text(arguments.table), daily=arguments.daily)
 
 
-KIND = Kind("timetable", "lessons or exams in slots and rooms", _add_arguments, _make, drawing)
+KIND = Kind("timetable", "lessons or exams in slots and rooms", _add_arguments, _make, drawing, wishes=wishes)

@@ -1,0 +1,152 @@
+"""One solution, by the programs or by another engine beside them: cadical or clasp, where the path has one.
+
+The program searches alone first. Where it has no solution soon the engine is given the problem, and has a short turn of
+its own; then both go on until one of them answers. What the engine calls a solution is written as a listing and is one
+where dlxcheck judges it to be one; that there is none is what the engine reports, and no proof. Which solution is the
+first in their order, how many there are and that these are all is for the programs alone to say.
+"""
+
+from __future__ import annotations
+
+import time
+from collections.abc import Callable, Generator
+from typing import Any, TypeVar
+
+from . import sat_solver
+from .errors import HelgrothyError, OutOfTime
+from .problem import Problem
+from .programs import Run
+from .sat_solver import Asked, NoAnswer
+from .solution import Solution
+from .stream import Outcome, Solutions, sooner
+from .wire import OfNumbers
+
+__all__ = ["Claimed", "solve"]
+
+Option = TypeVar("Option", bound=Any)
+
+# The program is alone for so many seconds of a processor, with what this process takes beside it, or for this part of
+# its time where that is less.
+_ALONE_SECONDS, _ALONE_SHARE = 2.0, 0.25
+# Then the engine is, for so many seconds of a processor, or by the clock where it has had less; and both are.
+_TURN_SECONDS, _MOST_TURN = 2.0, 10.0
+# The engine may take so long, and the writing of the problem for it.
+_MOST_SECONDS, _MOST_WRITING = 600.0, 8.0
+# Behind so many seconds without a solution, and without an engine, a line says what would help.
+_LONG_SECONDS = 10.0
+_HELP = "no solution yet; cadical or clasp, if it were on the path, would look for one too"
+
+
+class Claimed(HelgrothyError):
+    """An engine reports that there is no solution, where the programs came to no end. by: its name."""
+
+    by: str
+
+    def __init__(self, by: str, program: str) -> None:
+        super().__init__(f"{by} reports that there is no solution; {program} hasn't proved it")
+        self.by = by
+
+
+def solve(
+    problem: Problem[Option], seconds: float | None = None, tell: Callable[[str], object] = lambda line: None
+) -> Solutions[Option]:
+    """One solution, whoever finds it.
+
+    tell: is told by a line who found it, where that is an engine, and what an engine did wrong. Raises what
+    `Problem.solve` does, and `Claimed`.
+    """
+
+    def begin(outcome: Outcome) -> Generator[Solution[Option], None, None]:
+        with _Beside(problem, seconds, tell) as beside:
+            try:
+                with problem._search(limit=1, seconds=seconds, meanwhile=beside.look) as solutions:
+                    yield from solutions
+                    outcome.end(solutions.total or 0, bool(solutions.complete))
+            except _Answered as answered:
+                yield Solution(OfNumbers(problem), answered.numbers)
+                outcome.end(1, False)
+            except OutOfTime:
+                beside.help()
+                raise
+
+    return Solutions(begin, lambda most: solve(problem, sooner(seconds, most)))
+
+
+class _Answered(Exception):
+    """An engine has found a solution: the numbers of its options."""
+
+    def __init__(self, numbers: list[int]) -> None:
+        self.numbers = numbers
+
+
+class _Beside:
+    """An engine beside a program's search, looked at while that finds nothing."""
+
+    def __init__(self, problem: Problem[Any], seconds: float | None, tell: Callable[[str], object]) -> None:
+        self._problem = problem
+        self._tell = tell
+        self._program = f"dlx{problem.kind}"
+        self._begun, self._used = time.monotonic(), time.process_time()
+        self._seconds = float("inf") if seconds is None else seconds
+        self._engine = sat_solver.find(problem)
+        self._asked: Asked | None = None
+        self._is_over = False
+
+    def __enter__(self) -> _Beside:
+        return self
+
+    def __exit__(self, *_: object) -> None:
+        self._is_over = True
+        if self._asked is not None:
+            self._asked.__exit__()
+
+    def look(self, run: Run) -> None:
+        """Begins the engine where it is time for it. Raises `_Answered` and `Claimed` where it has answered."""
+        if self._is_over:
+            return
+        if self._asked is not None:
+            self._look_at(self._asked, run)
+        elif self._engine is None:
+            if self._passed() > _LONG_SECONDS:
+                self.help()
+        elif self._worked(run) > _ALONE_SECONDS or self._passed() > self._seconds * _ALONE_SHARE:
+            left = self._seconds - self._passed()
+            if sat_solver.writing_seconds(self._problem) > min(left / 2, _MOST_WRITING):
+                self._is_over = True
+            else:
+                self._asked = Asked(self._engine, self._problem, sat_solver.text(self._engine, self._problem))
+                run.pause()
+
+    def help(self) -> None:
+        """Says what would help, where there is no engine."""
+        if self._engine is None and not self._is_over and self._passed() > _ALONE_SECONDS:
+            self._is_over = True
+            self._tell(_HELP)
+
+    def _passed(self) -> float:
+        return time.monotonic() - self._begun
+
+    def _worked(self, run: Run) -> float:
+        return run.worked() + time.process_time() - self._used
+
+    def _look_at(self, asked: Asked, run: Run) -> None:
+        passed = time.monotonic() - asked.begun
+        try:
+            if asked.has_ended():
+                self._end(asked.name, asked.numbers())
+            elif passed > _MOST_SECONDS:
+                raise NoAnswer(f"{asked.name} gave no answer in its time")
+            elif passed > _MOST_TURN or asked.worked() > _TURN_SECONDS:
+                run.go_on()
+        except NoAnswer as error:
+            self.__exit__()
+            run.go_on()
+            self._tell(f"{error}; {self._program} goes on")
+
+    def _end(self, name: str, numbers: list[int] | None) -> None:
+        if numbers is None:
+            raise Claimed(name, self._program)
+        sat_solver.judge(name, self._problem, [self._problem.options[number] for number in numbers])
+        found = f"{name} found a solution, and dlxcheck judges it to be one"
+        self._tell(f"{found}; {self._program} had none in {self._passed():.2g} seconds")
+        raise _Answered(numbers)

@@ -1,0 +1,33 @@
+"""Puzzles whose clues are options that are given: each with the problem that has none of them."""
+
+from __future__ import annotations
+
+from collections.abc import Callable, Iterable, Sequence
+from dataclasses import dataclass
+from typing import Any
+
+from ..named import Named
+from ..problem import Problem
+
+
+@dataclass(frozen=True)
+class Clues:
+    """problem: without clues. given: the options that are clues. cells: those that may be. write: the puzzle as it was
+    typed, with these clues."""
+
+    problem: Problem[Any]
+    given: list[int]
+    cells: list[int]
+    write: Callable[[Sequence[int]], str]
+
+
+def options_of(problem: Problem[Any], clues: Iterable[tuple[str, str]]) -> list[int]:
+    """The options of clues, each two items of one. Raises `ValueError` for a clue that no option has."""
+    named = Named(problem)
+    found = []
+    for items in clues:
+        places = named.having(items)
+        if not places:
+            raise ValueError(f"{' '.join(items)} can't be, whatever else is")
+        found += places
+    return found

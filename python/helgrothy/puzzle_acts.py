@@ -1,0 +1,97 @@
+"""What the commands do for who solves puzzles by hand, and for who makes them; their words are in `puzzle_commands`."""
+
+from __future__ import annotations
+
+from typing import TYPE_CHECKING, Any
+
+from . import console
+from .errors import OutOfTime
+from .given import forbidden, given
+from .make.kind import kind_of
+from .problem import Problem
+from .puzzle_commands import WITH_CLUES
+
+if TYPE_CHECKING:
+    import argparse
+    from collections.abc import Sequence
+
+    from .make.clues import Clues
+
+# Of the time that a command is given, so that what was found by then can be told.
+_SHARE = 0.9
+
+
+def choices(problem: Problem[Any], arguments: argparse.Namespace) -> tuple[list[int], set[int]]:
+    """The places of options that are given and forbidden. Raises `ValueError`."""
+    held = given(problem, arguments.given)
+    dropped = forbidden(problem, arguments.forbidden)
+    for text, place in zip(arguments.given, held):
+        if place in dropped:
+            raise ValueError(f"--with {text}: a --without forbids this option")
+    return held, dropped
+
+
+# ---- hint
+
+
+def hint(problem: Problem[Any], arguments: argparse.Namespace) -> int:
+    from . import hint as hints
+
+    held, dropped = choices(problem, arguments)
+    has_clues = kind_of(problem.comments) in WITH_CLUES
+    try:
+        found = hints.find(problem, held, dropped, arguments.seconds * _SHARE, has_clues=has_clues)
+    except hints.NoHint as none:
+        for line in f"helgrothy: {none}".split("\n"):
+            console.say(line)
+        return 1
+    except OutOfTime:
+        console.say(f"helgrothy: in {arguments.seconds:g} seconds nothing was found that is forced")
+        return 2
+    console.write(f"{line}\n" for line in hints.lines(problem, found))
+    return 0
+
+
+# ---- unique, minimal
+
+
+def uniqueness(problem: Problem[Any], found: Sequence[Sequence[int]], among: str = "") -> list[str]:
+    """Whether there is exactly one solution, of two at most that were found: in words."""
+    if len(found) == 1:
+        return [f"There is exactly one solution{among}."]
+    if not found:
+        return ["There is no solution."]
+    from .minimal import differences
+
+    return [f"There are several solutions{among}. Of these two:", *differences(problem, *found)]
+
+
+def clues_of(problem: Problem[Any], arguments: argparse.Namespace) -> Clues:
+    """Options of a problem as clues, of which those are given that the command says."""
+    from .make.clues import Clues
+
+    return Clues(
+        problem,
+        given(problem, arguments.given),
+        list(range(len(problem.options))),
+        lambda kept: "".join(f"{problem.line(problem.options[place])}\n" for place in kept),
+    )
+
+
+def minimal(clues: Clues, arguments: argparse.Namespace) -> int:
+    from . import minimal as minimals
+
+    left = arguments.seconds * _SHARE
+    try:
+        cells = set(clues.cells)
+        held = clues.given or [one for one in minimals.some(clues.problem, arguments.seed, left) if one in cells]
+        found = minimals.find(clues.problem, held, arguments.seed, left)
+    except minimals.NotUnique as none:
+        for line in uniqueness(clues.problem, none.solutions):
+            console.say(line)
+        return 1
+    console.write([clues.write(found.kept)])
+    enough = f"{len(found.kept)} of {len(held)} clues {'is' if len(found.kept) == 1 else 'are'} enough"
+    untried = f"{found.untried} weren't tried in {arguments.seconds:g} seconds"
+    console.say(f"{enough}; {untried if found.untried else 'none of them can go'}.")
+    return 0

@@ -1,0 +1,149 @@
+"""Whether there is one solution, and clues that are dropped while there is."""
+
+import unittest
+from unittest import mock
+
+from folders import InFolder
+from test_commands import run
+
+from helgrothy import OutOfTime, Problem, make, minimal, puzzle_commands
+
+CLUES = "53..7....6..195....98....6.8...6...34..8.3..17...2...6.6....28....419..5....8..79"
+SMALL = "12.4 3.12 2.43 4.21"
+GRID = "#   4\\  16\\ #\n\\8  .   .   13\\\n\\17 .   .   .\n#   \\8  .   .\n"
+REGIONS = "aabb\naabb\nccdd\nccdd\n"
+
+
+def is_minimal(clues):
+    """Whether a Sudoku has one solution, and more without any of its clues."""
+    if make.sudoku.problem(clues).count(limit=2) != 1:
+        return False
+    places = [place for place, mark in enumerate(clues) if mark not in ". \n"]
+    return all(make.sudoku.problem(f"{clues[:at]}.{clues[at + 1 :]}").count(limit=2) == 2 for at in places)
+
+
+class Unique(InFolder):
+    def test_commands(self):
+        self.assertEqual(run("sudoku", CLUES, "--unique")[::2], (0, "There is exactly one solution.\n"))
+        status, text, told = run("queens", "4", "--unique")
+        self.assertEqual((status, text.count("Q")), (1, 8))
+        lines = [
+            "There are several solutions. Of these two:",
+            "only the first has r1 c3 a3 b6; r2 c1 a2 b3; r3 c4 a6 b5; and 1 more",
+            "only the second has r1 c2 a2 b5; r2 c4 a5 b6; r3 c1 a3 b2; and 1 more",
+        ]
+        self.assertEqual(sorted(told.splitlines()[1:]), sorted(lines[1:]) if "first has r1 c3" in told else told.splitlines()[1:])
+        self.assertEqual(told.splitlines()[0], lines[0])
+        told = run("queens", "4", "--unique", "--up-to-symmetry")
+        self.assertEqual((told[0], told[2]), (0, "There is exactly one solution up to 8 symmetries.\n"))
+        self.assertEqual(run("queens", "4", "--unique", "--with", "r1 c2")[2], "There is exactly one solution.\n")
+        told = run("solve", "--unique", given="A B\nA\n")
+        self.assertEqual(told, (1, "", "There is no solution.\ncan't all be held: B\nit is in no option\n"))
+        told = run("solve", "--unique", "--json", given="A B\nA\nB\nA B\n")
+        self.assertEqual((told[0], told[1].count("number")), (1, 2))
+        self.assertIn("only the first has A; B\nonly the second has A B\n", told[2])
+        for words in (["--all"], ["--limit", "3"], ["--number", "2"]):
+            self.assertEqual(run("queens", "4", "--unique", *words)[0], 2)
+        self.assertEqual(run("queens", "4", "--unique", "--svg")[2], "helgrothy: an SVG is of one solution: --number says which\n")
+        page = run("queens", "4", "--unique", "--html")
+        self.assertEqual((page[0], '"total":2' in page[1]), (1, True))
+        told = run("tests", "2,2", "--least", "--unique")
+        self.assertEqual(told[2], "helgrothy: this search finds one solution: without --all, --limit, --number, --count and --unique\n")
+
+
+class Minimal(InFolder):
+    def test_kinds(self):
+        kinds = tuple(name for name, kind in make.KINDS.items() if kind.clues is not None)
+        self.assertEqual(puzzle_commands.WITH_CLUES, kinds)
+
+    def test_sudokus(self):
+        for seed in ("0", "7"):
+            status, text, told = run("minimal", "sudoku", CLUES, "--seed", seed)
+            self.assertEqual((status, len(text)), (0, 82))
+            self.assertTrue(all(mark in (".", clue) for mark, clue in zip(text, CLUES)))
+            self.assertTrue(is_minimal(text[:81]))
+            left = 81 - text.count(".")
+            self.assertEqual(told, f"{left} of 30 clues are enough; none of them can go.\n")
+        self.assertEqual(run("minimal", "sudoku", CLUES, "--seed", "7")[1], text)
+
+    def test_layout(self):
+        path = self.file("clues", SMALL.replace(" ", "\n") + "\n")
+        status, text, told = run("minimal", "sudoku", path)
+        self.assertEqual((status, [len(line) for line in text.split("\n")]), (0, [4, 4, 4, 4, 0]))
+        self.assertTrue(is_minimal("".join(text.split())))
+
+    def test_new_sudokus(self):
+        found = [run("minimal", "sudoku", "." * 16, "--seed", seed)[1] for seed in "123"]
+        self.assertTrue(all(is_minimal(text.strip()) for text in found))
+        self.assertGreater(len(set(found)), 1)
+        status, text, _ = run("minimal", "sudoku", "--regions", self.file("regions", REGIONS))
+        self.assertEqual((status, [len(line) for line in text.split("\n")]), (0, [4, 4, 4, 4, 0]))
+
+    def test_no_single_solution(self):
+        status, text, told = run("minimal", "sudoku", CLUES.replace("3", ".").replace("5", "."))
+        self.assertEqual((status, text, told.splitlines()[0]), (1, "", "There are several solutions. Of these two:"))
+        told = run("minimal", "sudoku", CLUES.replace("53", "52").replace("..7", ".27", 1))
+        self.assertEqual(told, (1, "", "There is no solution.\n"))
+
+    def test_kakuro(self):
+        path = self.file("grid", GRID)
+        status, text, told = run("minimal", "kakuro", path)
+        self.assertEqual((status, [len(line) for line in text.split("\n")]), (0, [len(line) for line in GRID.split("\n")]))
+        self.assertEqual(make.kakuro.problem(text).count(), 1)
+        digits = [word for word in text.split() if word in set("123456789")]
+        self.assertGreater(make.kakuro.problem(GRID).count(), 1)
+        self.assertEqual(told, f"{len(digits)} of 7 clues {'is' if len(digits) == 1 else 'are'} enough; none of them can go.\n")
+        again = run("minimal", "kakuro", self.file("again", f"\n{text}"))
+        self.assertEqual(again[1].strip("\n"), text.strip("\n"))
+
+    def test_problems(self):
+        board = make.queens.problem(6)
+        path = self.file("q.dlx", board.text)
+        status, text, told = run("minimal", path, "--seed", "3")
+        kept = text.splitlines()
+        self.assertEqual((status, told.partition(" of 6 clues ")[0]), (0, str(len(kept))))
+        words = [word for line in kept for word in ("--with", line)]
+        self.assertEqual(run("queens", "6", "--unique", *words)[0], 0)
+        self.assertEqual(run("minimal", path, *words)[1], text)
+        self.assertEqual(run("minimal", "--with", "r1 c1", path)[:2], (1, ""))
+        self.assertEqual(run("minimal", given="A\nA\n")[1:], ("", "0 of 1 clues are enough; none of them can go.\n"))
+
+    def test_of_all_sets(self):
+        problem = Problem("abcdef", options=["ab", "cd", "ef", "af", "bc", "de", "a", "b", "cdef"])
+        covers = [frozenset(one.numbers) for one in problem.solve()]
+        for cover in covers:
+            for seed in range(5):
+                kept = set(minimal.find(problem, sorted(cover), seed).kept)
+                self.assertEqual([one for one in covers if one >= kept], [cover])
+                for place in kept:
+                    self.assertGreater(sum(one >= kept - {place} for one in covers), 1)
+        with self.assertRaises(minimal.NotUnique) as raised:
+            minimal.find(problem, [])
+        self.assertEqual(len(raised.exception.solutions), 2)
+
+    def test_time(self):
+        asked = minimal.solutions
+        calls = []
+
+        def slow(problem, given, deadline):
+            calls.append(given)
+            if len(calls) > 4:
+                raise OutOfTime("no")
+            return asked(problem, given, deadline)
+
+        with mock.patch.object(minimal, "solutions", slow):
+            status, text, told = run("minimal", "sudoku", CLUES, "--seconds", "20")
+        self.assertRegex(told, r"\A2[6789] of 30 clues are enough; 27 weren't tried in 20 seconds\.\n\Z")
+        self.assertEqual((status, make.sudoku.problem(text).count(limit=2)), (0, 1))
+        with self.assertRaises(OutOfTime):
+            minimal.find(make.sudoku.problem(CLUES), [], seconds=0)
+
+    def test_mistakes(self):
+        told = run("minimal", "nonogram", "x")
+        self.assertEqual((told[0], told[2].partition(";")[0]), (2, "helgrothy minimal: nonogram: neither a problem nor sudoku or kakuro"))
+        told = run("minimal", "sudoku", CLUES, "--with", "r1c3 r1=4")
+        self.assertEqual(told, (2, "", "helgrothy: the clues stand in the puzzle: without --with\n"))
+
+
+if __name__ == "__main__":
+    unittest.main()
