@@ -13,7 +13,7 @@ from unittest import mock
 from folders import InFolder
 from test_commands import run, run_until
 
-from helgrothy import Problem, commands, console, engines, make, programs, sat_solver
+from helgrothy import Problem, acts, console, engines, make, programs, sat_solver
 
 # A problem with one solution, options 1, 4 and 5; and one without, of which no sum says so.
 TEXT = "A B C D | x\nA C x:1\nA B x:2\nC D x:1\nB\nD\n"
@@ -293,7 +293,7 @@ class Whys(WithEngines):
         told = run_until("isn't known", "why", self.problem)[2]
         self.assertIn(f"{engines._HELP}\nhelgrothy: in ", told)
 
-    @mock.patch.object(commands, "_SEARCH_SECONDS", 60.0)
+    @mock.patch.object(acts, "_SEARCH_SECONDS", 60.0)
     def test_lint(self):
         self.assertEqual(run("lint", self.none)[:2], (1, "line 3: dlx1 finds that there is no solution\n"))
         forget = self.after_the_engine()
@@ -309,7 +309,7 @@ class Whys(WithEngines):
                 self.assertIn(FALSE[name][1], told)
                 self.nothing_is_left()
 
-    @mock.patch.object(commands, "_SEARCH_SECONDS", 1.0)
+    @mock.patch.object(acts, "_SEARCH_SECONDS", 1.0)
     def test_lint_with_one_that_hangs(self):
         self.program("exec /bin/sleep 1000")
         self.engine(HANG)
