@@ -1,5 +1,5 @@
-//! Counts the solutions of the problems in `examples`: a program of its own, since the gate compares what a program
-//! prints.
+//! Counts the solutions of the problems in `examples`, but for the dominoes, which only `dlx-count` counts: a program
+//! of its own, since the gate compares what a program prints.
 #![tactic(auto)]
 
 use std::fs;
