@@ -1,6 +1,7 @@
 pub mod AnyItem
 pub mod Apart
 pub mod Below
+pub mod ByOption
 pub mod HolderLemmas
 pub mod KeyLemmas
 pub mod LeftBy
