@@ -101,20 +101,20 @@ from_met k (c ∷ bs) s each =
     rw here (from_met (k + 1) bs s (λ i b e. subst (λ n. b.low ≤ s n) (let z : k + suc i ≡ k + 1 + i = omega arith in z)
     (each (suc i) b e)))
 
-met_at : (p : Puzzle) (s : Marks) (i : ℕ) (b : Bounds) → all_met p s ≡ true → bounds_at p i ≡ Some b → b.low ≤ s i
+pub met_at : (p : Puzzle) (s : Marks) (i : ℕ) (b : Bounds) → all_met p s ≡ true → bounds_at p i ≡ Some b → b.low ≤ s i
 met_at p s zero b a e = cc
 met_at p s (suc i) b a e =
     subst (λ n. b.low ≤ s n) (let z : 1 + i ≡ suc i = omega arith in z) (met_from 1 i p.bounds b s a e)
 
-at_met : (p : Puzzle) (s : Marks) → ((i : ℕ) (b : Bounds) → bounds_at p i ≡ Some b → b.low ≤ s i) → all_met p s ≡ true
+pub at_met : (p : Puzzle) (s : Marks) → ((i : ℕ) (b : Bounds) → bounds_at p i ≡ Some b → b.low ≤ s i) → all_met p s ≡ true
 at_met p s each = from_met 1 p.bounds s (λ i b e. subst (λ n. b.low ≤ s n) (let z : suc i ≡ 1 + i = omega arith in z)
     (each (suc i) b e))
 
-bound_primary : (p : Puzzle) (i : ℕ) (b : Bounds) → bounds_at p i ≡ Some b → i ≤ primary_count p
+pub bound_primary : (p : Puzzle) (i : ℕ) (b : Bounds) → bounds_at p i ≡ Some b → i ≤ primary_count p
 bound_primary p zero b e = cc
 bound_primary p (suc i) b e = let l = slice_get_within p.bounds i b e in omega (arith, l)
 
-high_of : (p : Puzzle) (i : ℕ) (b : Bounds) → bounds_at p i ≡ Some b → high_at p i ≡ b.high
+pub high_of : (p : Puzzle) (i : ℕ) (b : Bounds) → bounds_at p i ≡ Some b → high_at p i ≡ b.high
 high_of p i b e = ap (λ (o : Option Bounds). (unwrap_or {T = Bounds} o (record { low = 0; high = 0 })).high) e
 
 -- a primary item once uses are taken
@@ -185,7 +185,7 @@ may_secondary p (u ∷ us) s i c a e l = by_bool (eqb u.item i)
         (λ e. let rest : (nat_lt 0 d && eqb m (d + 1)) ≡ true = rw e at a in
         inr (ltb-true _ _ (and_left _ _ rest), eqb-true _ _ (and_right (nat_lt 0 d) _ rest)))
 
-count_by-cons : (f : ℕ → Bool) (x : ℕ) (xs : List ℕ) → count_by f (x ∷ xs) ≡ cond (f x) 1 0 + count_by f xs
+pub count_by-cons : (f : ℕ → Bool) (x : ℕ) (xs : List ℕ) → count_by f (x ∷ xs) ≡ cond (f x) 1 0 + count_by f xs
 count_by-cons f x xs = sum_by-cons (λ y. cond (f y) 1 0) x xs
 
 -- ---- each set is a cover
@@ -354,7 +354,7 @@ record Suits (p : Puzzle) (os : List ℕ) (s : Marks) (f : ℕ → Bool) : Type 
 abbrev OwnUses : Puzzle → ℕ → Type 0
 OwnUses p o = AllByRecursion (λ u. (colour_in (uses_of p o) u.item ≡ Some u.colour) × (1 ≤ u.item)) (uses_of p o)
 
-bounds_there : (p : Puzzle) (i : ℕ) → 1 ≤ i → i ≤ primary_count p → (b : Bounds) × (bounds_at p i ≡ Some b)
+pub bounds_there : (p : Puzzle) (i : ℕ) → 1 ≤ i → i ≤ primary_count p → (b : Bounds) × (bounds_at p i ≡ Some b)
 bounds_there p zero h l = absurd (omega (arith, h))
 bounds_there p (suc k) h l = by_option (slice_get p.bounds k) (λ e. absurd (omega (arith, l, not_some p.bounds k e)))
     (λ b e. (b, e))
