@@ -65,7 +65,7 @@ no_use [] i a = refl
 no_use (v ∷ us) i a = by_bool (eqb v.item i) (λ e. absurd (a.0 (sym (eqb-true _ _ e)))) (λ e. rw e (no_use us i a.1))
 
 -- no use after a use is of its item
-none_again : (us : List Use) → EachTwo (λ u v. u.item ≢ v.item) us → (n : ℕ) (d : Use) → n < length us
+pub none_again : (us : List Use) → EachTwo (λ u v. u.item ≢ v.item) us → (n : ℕ) (d : Use) → n < length us
     → colour_in (drop (suc n) us) (get_or us n d).item ≡ None
 none_again [] t n d h = absurd (omega (arith, h))
 none_again (u ∷ us) t zero d h = no_use us u.item t.0

@@ -1,11 +1,14 @@
 pub mod AnyItem
 pub mod Apart
 pub mod Below
+pub mod ByOption
+pub mod Forgetting
 pub mod HolderLemmas
 pub mod KeyLemmas
 pub mod LeftBy
 pub mod Matched
 pub mod Number
+pub mod Orders
 pub mod PlanLemmas
 pub mod Split
 pub mod WorthLemmas

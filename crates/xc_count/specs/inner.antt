@@ -1,3 +1,4 @@
+pub mod ByOption
 pub mod Held
 pub mod Keys
 pub mod Plans

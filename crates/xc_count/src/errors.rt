@@ -11,8 +11,6 @@ pub enum CountError {
     Memory,
     /// The states would have taken more bytes than the caller allows.
     OutOfBound,
-    /// A primary item may be held more than once. Such problems are not counted yet.
-    HeldTwice,
 }
 
 impl From<AllocError> for CountError {

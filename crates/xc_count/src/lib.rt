@@ -1,12 +1,15 @@
 //! How many covers a problem has, found without making each.
 #![tactic(auto)]
 
+mod by_option;
 mod counting;
 mod errors;
 mod holders;
 mod keys;
 mod layer;
+mod marks;
 mod narrow;
+mod options;
 mod order;
 mod plan;
 mod ranking;

@@ -40,8 +40,7 @@ abbrev pub Reports : SinkState → SinkState → ℕ → ℕ × List ℕ → Typ
 Reports old new status reason = (status ≡ reason.0) × WasTold old new reason.1
 
 -- What counting the covers of a problem did, by the status. 0: the number was printed; 3: or it couldn't be. 4: there
--- was no memory. 6: the states would have taken more than the bound. 7: an item has bounds, and such problems are not
--- counted.
+-- was no memory. 6: the states would have taken more than the bound.
 abbrev pub DidCount : Named → ℕ → ℕ → SinkState → SinkState → Type 0
 DidCount a megabytes status old new =
     let text = count_text (length (members a.puzzle)) in
@@ -49,7 +48,6 @@ DidCount a megabytes status old new =
     ⊎ ((status ≡ 3) × BrokeOff old new text)
     ⊎ Reports old new status (4, codes "Out of memory.\n")
     ⊎ Reports old new status (6, bound_text megabytes)
-    ⊎ Reports old new status (7, codes "Items with bounds are not counted.\n")
 
 -- A warning couldn't be printed, at 3; or the warnings were printed, and then the covers were counted.
 abbrev pub DidWarnAndCount : ℕ → ℕ → SinkState → SinkState → Named → List ℕ → Type 0

@@ -27,8 +27,6 @@ const FAILED: u8 = 3;
 const NO_MEMORY: u8 = 4;
 /// The states would have taken more than the bound.
 const BOUND_MET: u8 = 6;
-/// An item has bounds.
-const HAS_BOUNDS: u8 = 7;
 
 /// Reports why there is no count, as far as that goes, and returns its status.
 fn refuse<E: Sink>(status: u8, text: &[u8], err: &mut E) -> u8
@@ -91,11 +89,6 @@ fn count_problem<E: Sink>(alloc: Global, problem: &Problem, megabytes: u64, err:
         Ok(covers) => tell_count(alloc, problem, megabytes, &covers, err),
         Err(CountError::Memory) => out_of_memory(err),
         Err(CountError::OutOfBound) => bound_met(megabytes, err),
-        Err(CountError::HeldTwice) => refuse(
-            HAS_BOUNDS,
-            b"Items with bounds are not counted.\n",
-            err,
-        ),
     }
 }
 
@@ -114,7 +107,7 @@ fn count_read<E: Sink>(alloc: Global, read: &Read, megabytes: u64, err: &mut E) 
 /// `err`. The words are `1`, `2` or `3` for the program that the problem is written for, and perhaps `b` with the most
 /// megabytes that the states may take. It returns the status: 0 where the number was printed, 1 for other words, 2 for
 /// a fault of the problem, 3 where a read or a write failed, 4 where memory ran out, 6 where the states would take more
-/// than the bound, 7 where an item has bounds. Names are hashed by the input's seed.
+/// than the bound. Names are hashed by the input's seed.
 pub fn count_covers<S: Source, E: Sink>(
     alloc: Global,
     words: &[Vec<u8>],

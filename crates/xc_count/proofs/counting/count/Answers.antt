@@ -8,5 +8,5 @@ use Rattle.xc_count.proofs.counting.count.Goals as goal
 pub returns-clause-covers : goal.returns-clause-covers
 returns-clause-covers c =
     let p = c.args.problem.now.puzzle in
-    IfOk-weaker c.sweep.result (λ n. n ≡ length (members p)) (HasCovers p)
-    (λ n e. subst (HasCovers p) (sym e) (listed p c.is_once.ensures.valid)) c.sweep.ensures
+    IfOk-weaker c.sweep_for.result (λ n. n ≡ length (members p)) (HasCovers p)
+    (λ n e. subst (HasCovers p) (sym e) (listed p c.sweep_for.ensures.valid)) c.sweep_for.ensures.members

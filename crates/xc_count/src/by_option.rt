@@ -1,0 +1,152 @@
+//! The sweep option by option, for problems with bounds.
+
+ghost use Rattle.std.specs.Prelude.{ℕ, ◌≡◌, ◌+◌, ◌*◌, ◌≤◌, List, [], ◌∷◌, length, All, IfOk, OnOk};
+ghost use Rattle.xc_input.specs.Problem.{IsItem, IsOption, IsValid};
+ghost use Rattle.xc_input.specs.Limits.{most_uses};
+ghost use Rattle.xc_search.specs.Cover.{members};
+ghost use Rattle.xc_count.specs.inner.ByOption.{AtMost, ways, ways_from, ways_taken};
+ghost use Rattle.xc_count.specs.inner.Plans.{IsPlan};
+ghost use Rattle.xc_count.specs.inner.Worth.{worth_by};
+
+use crate::errors::CountError;
+use crate::layer::{Layer, State, pop_state};
+use crate::marks::{are_met, forget, take_uses};
+use crate::options::{holders_left, options_in_order, remove_uses};
+use crate::order::filled;
+use crate::plan::Plan;
+use natural::Natural;
+use std::alloc::Global;
+use xc_input::{Problem, Use};
+
+/// Adds ways to the state of a key, unless some bounds can't be met any more. The key may be changed.
+fn add_left(
+    problem: &Problem,
+    left: &[u32],
+    uses: &[Use],
+    layer: &mut Layer,
+    key: &mut Vec<u32>,
+    ways: &Natural,
+) -> Result<(), CountError>
+    requires { All (λ u. IsItem problem.now.puzzle u.item) uses.now }
+    ensures { (os : List ℕ) → AtMost problem.now.puzzle os left.now → OnOk result (
+        worth_by (ways_from problem.now.puzzle os) layer.new.states.items
+        ≡ worth_by (ways_from problem.now.puzzle os) layer.old.states.items
+        + ways.now * ways_from problem.now.puzzle os key.old.items) }
+{
+    if !forget(problem, left, key, uses)? {
+        return Ok(());
+    }
+    layer.add(key.as_slice(), ways)
+}
+
+/// Adds what a state becomes once an option is passed over.
+fn leave(
+    problem: &Problem,
+    left: &[u32],
+    uses: &[Use],
+    layer: &mut Layer,
+    scratch: &mut Vec<u32>,
+    state: &State,
+) -> Result<(), CountError>
+    requires { All (λ u. IsItem problem.now.puzzle u.item) uses.now }
+    ensures { (os : List ℕ) → AtMost problem.now.puzzle os left.now → OnOk result (
+        worth_by (ways_from problem.now.puzzle os) layer.new.states.items
+        ≡ worth_by (ways_from problem.now.puzzle os) layer.old.states.items
+        + state.now.ways * ways_from problem.now.puzzle os state.now.key.items) }
+{
+    scratch.clear();
+    scratch.extend_from_slice(state.key.as_slice())?;
+    add_left(problem, left, uses, layer, scratch, &state.ways)
+}
+
+/// Adds what a state becomes once an option is taken, if it may be.
+fn take(
+    problem: &Problem,
+    left: &[u32],
+    uses: &[Use],
+    layer: &mut Layer,
+    scratch: &mut Vec<u32>,
+    state: &State,
+) -> Result<(), CountError>
+    requires { All (λ u. IsItem problem.now.puzzle u.item × (u.colour ≤ most_uses)) uses.now }
+    ensures { (os : List ℕ) → AtMost problem.now.puzzle os left.now → OnOk result (
+        worth_by (ways_from problem.now.puzzle os) layer.new.states.items
+        ≡ worth_by (ways_from problem.now.puzzle os) layer.old.states.items
+        + state.now.ways * ways_taken problem.now.puzzle os uses.now state.now.key.items) }
+{
+    if !take_uses(problem, state.key.as_slice(), scratch, uses)? {
+        return Ok(());
+    }
+    add_left(problem, left, uses, layer, scratch, &state.ways)
+}
+
+/// What the states of a layer become once an option is passed over or taken.
+fn choose(
+    alloc: Global,
+    problem: &Problem,
+    left: &[u32],
+    option: u32,
+    layer: Layer,
+    bound: usize,
+) -> Result<Layer, CountError>
+    requires { IsOption problem.now.puzzle option }
+    ensures { (os : List ℕ) → AtMost problem.now.puzzle os left.now → IfOk result (λ l.
+        worth_by (ways_from problem.now.puzzle os) l.states.items
+        ≡ worth_by (ways_from problem.now.puzzle (option ∷ os)) layer.states.items) }
+{
+    let uses = problem.option(option);
+    let mut next = Layer::new(alloc, layer.beside(bound));
+    let mut scratch = Vec::new(alloc);
+    let mut states = layer.states;
+    while let Some(state) = pop_state(&mut states) {
+        leave(problem, left, uses, &mut next, &mut scratch, &state)?;
+        take(problem, left, uses, &mut next, &mut scratch, &state)?;
+    }
+    Ok(next)
+}
+
+/// The first layer: one state, in which no item is held.
+fn first_layer(alloc: Global, problem: &Problem, bound: usize) -> Result<Layer, CountError>
+    ensures { (os : List ℕ) → IfOk result (λ l. worth_by (ways_from problem.now.puzzle os) l.states.items
+        ≡ ways problem.now.puzzle os (λ i. 0)) }
+{
+    let key = filled(alloc, problem.items() as usize + 1, 0)?;
+    let mut layer = Layer::new(alloc, bound);
+    layer.add(key.as_slice(), &Natural::from_u64(alloc, 1))?;
+    Ok(layer)
+}
+
+/// The ways to the states in which all lower bounds are met.
+fn total(alloc: Global, problem: &Problem, layer: Layer) -> Result<Natural, CountError>
+    ensures { IfOk result (λ n. n ≡ worth_by (ways_from problem.now.puzzle []) layer.states.items) }
+{
+    let mut states = layer.states;
+    let mut sum = Natural::zero(alloc);
+    while let Some(state) = pop_state(&mut states) {
+        if are_met(problem, state.key.as_slice()) {
+            sum.add_assign(&state.ways)?;
+        }
+    }
+    Ok(sum)
+}
+
+/// How many covers a problem has. Its states take no more than so many bytes at once.
+pub fn sweep_options(
+    alloc: Global,
+    problem: &Problem,
+    plan: &Plan,
+    bound: usize,
+) -> Result<Natural, CountError>
+    requires plan { IsPlan problem.now.puzzle plan.now }
+    requires valid { IsValid problem.now.puzzle }
+    ensures { IfOk result (λ n. n ≡ length (members problem.now.puzzle)) }
+{
+    let order = options_in_order(alloc, problem, plan)?;
+    let mut left = holders_left(alloc, problem, order.as_slice())?;
+    let mut layer = first_layer(alloc, problem, bound)?;
+    for k in 0..order.len() {
+        remove_uses(&mut left, problem.option(order[k]));
+        layer = choose(alloc, problem, left.as_slice(), order[k], layer, bound)?;
+    }
+    total(alloc, problem, layer)
+}
