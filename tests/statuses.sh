@@ -132,6 +132,12 @@ A
 A
 A
 END
+tells 'Altogether 6 solutions.' dlx_count 3 <<'END'
+1:2|A 0:1|B
+A B
+A
+A
+END
 tells 'No count within 0 megabytes.' dlx_count 3 b0 <<'END'
 A
 A

@@ -17,9 +17,9 @@ def main() -> int:
         if sys.argv[1:] and not name.startswith(tuple(sys.argv[1:])):
             continue
         made = make()
-        tally.expect(name, made.kind, count(made.kind, made.text()), wanted)
+        tally.expect(name, count(made.kind, made.text()), wanted)
         shuffled = made.shuffled(random.Random(name))
-        tally.expect(f"{name}, shuffled", made.kind, count(made.kind, shuffled.text()), wanted)
+        tally.expect(f"{name}, shuffled", count(made.kind, shuffled.text()), wanted)
     return tally.end()
 
 

@@ -49,26 +49,19 @@ def search(kind: int, text: bytes) -> Said:
     return run(f"dlx{kind}", [], text)
 
 
-# The status for items with bounds, which aren't counted yet.
-HAS_BOUNDS = 7
-
-
 class Tally:
     """Tells what goes wrong, each in a line, and how much did at the end."""
 
     def __init__(self) -> None:
-        self.passed = self.failed = self.left_out = 0
+        self.passed = self.failed = 0
 
-    def expect(self, what: str, kind: int, said: Said, wanted: int | None) -> None:
-        if said.status == HAS_BOUNDS and kind == 3:
-            self.left_out += 1
-        elif said.count == wanted is not None:
+    def expect(self, what: str, said: Said, wanted: int | None) -> None:
+        if said.count == wanted is not None:
             self.passed += 1
         else:
             self.failed += 1
             print(f"{what}: {said}, and not {wanted}", flush=True)
 
     def end(self) -> int:
-        left_out = f", {self.left_out} with bounds not counted" if self.left_out else ""
-        print(f"{self.passed} passed, {self.failed} failed{left_out}")
+        print(f"{self.passed} passed, {self.failed} failed")
         return 1 if self.failed else 0
