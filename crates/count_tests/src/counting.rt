@@ -29,7 +29,7 @@ fn is_refused(covers: Result<Natural, CountError>, wanted: CountError) -> bool {
 }
 
 /// Problems, each with the number of its covers.
-const COUNTS: [(Kind, &[u8], &[u8]); 9] = [
+const COUNTS: [(Kind, &[u8], &[u8]); 12] = [
     (Kind::Plain, SEVEN, b"1"),
     (Kind::Plain, THREE_ALIKE, b"3"),
     (Kind::Colours, COLOURED, b"1"),
@@ -51,6 +51,14 @@ const COUNTS: [(Kind, &[u8], &[u8]); 9] = [
     ),
     // A secondary item that stands in one option alone, and one in none.
     (Kind::Colours, b"A B | x y\nA x:r\nA\nB\nB A\n", b"3"),
+    (Kind::Bounds, TWICE, b"3"),
+    (Kind::Bounds, ALONE, b"4"),
+    // An item that is held twice or three times, in options that share a secondary item.
+    (
+        Kind::Bounds,
+        b"2:3|A B | x\nA x:r\nA x:g\nA x:r\nA\nB x:r\nB\nB x\n",
+        b"9",
+    ),
 ];
 
 #[test]
@@ -119,19 +127,4 @@ fn the_bound_is_kept(rt: HostRuntime) {
             |p| is_refused(count(alloc, p, 0), CountError::OutOfBound)
         )
     );
-}
-
-#[test]
-fn bounds_are_refused(rt: HostRuntime) {
-    let alloc = rt.alloc();
-    for text in [TWICE, ALONE] {
-        assert!(rt;
-            on_problem(
-                alloc,
-                Kind::Bounds,
-                text,
-                |p| is_refused(count(alloc, p, ROOM), CountError::HeldTwice)
-            )
-        );
-    }
 }
