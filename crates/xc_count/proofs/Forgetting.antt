@@ -1,7 +1,7 @@
 -- Which marks make no difference.
 use Rattle.std.proofs.Common.{ℕ, zero, suc, ◌≡◌, ◌≢◌, ◌≤◌, ◌<◌, ◌+◌, Bool, true, false, ◌&&◌, eqb, cond, List, [], ◌∷◌}
-use Rattle.std.proofs.Common.{Some, None}
-use Rattle.std.proofs.Common.{refl, sym, ap, ap₂, ◌∙◌, arith, subst, inl, inr, ◌⊎◌, eqb-true, eq-eqb, leb-true}
+use Rattle.std.proofs.Common.{Some}
+use Rattle.std.proofs.Common.{refl, sym, ap, ap₂, ◌∙◌, arith, subst, inl, inr, eqb-true, eq-eqb, leb-true}
 use Rattle.std.proofs.Common.{leb-false, lt-ltb, le-leb}
 use Rattle.std.specs.Prelude.{is_some, nat_lt, nat_le, unwrap_or, Option}
 use Rattle.std.specs.List.{list_all}
@@ -12,7 +12,7 @@ use Rattle.xc_input.proofs.Cases.{by_bool, by_option}
 use Rattle.xc_input.proofs.lists.Members.{IsIn}
 use Rattle.xc_count.specs.inner.ByOption.{Marks, may_hold, may_take, taking, all_met, ways, holders_among, ComeToSame}
 use Rattle.xc_count.specs.inner.ByOption.{IsLost}
-use Rattle.xc_count.proofs.ByOption.{met_at, at_met, bound_primary, high_of, bounds_there, count_by-cons}
+use Rattle.xc_count.proofs.ByOption.{met_at, at_met, bound_primary, bounds_there, count_by-cons}
 use Rattle.xc_count.proofs.ByOption.{taking_primary, taking_secondary}
 
 abbrev one_if : Bool → ℕ

@@ -1,7 +1,6 @@
-use Rattle.std.proofs.Common.{ℕ, suc, arith, ◌≡◌, ◌≤◌, ◌+◌, ◌∙◌, ◌∷◌, List, [], sym, ap, ap₂, subst, get_or, drop, drop-cons}
+use Rattle.std.proofs.Common.{suc, arith, ◌≡◌, ◌≤◌, ◌+◌, ◌∙◌, ◌∷◌, [], sym, ap, subst, get_or, drop, drop-cons}
 use Rattle.std.specs.Prelude.{unwrap_or}
 use Rattle.std.proofs.lemmas.List.{get_or_default}
-use Rattle.xc_input.specs.declared.problem.Use.{Use}
 use Rattle.xc_input.specs.Problem.{IsSoundOption, uses_of}
 use Rattle.xc_input.proofs.ValidLemmas.Known.{at_number}
 use Rattle.xc_count.specs.inner.ByOption.{AtMost, ways_from}

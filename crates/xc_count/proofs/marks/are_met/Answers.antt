@@ -1,5 +1,4 @@
-use Rattle.std.proofs.Common.{arith, ◌+◌, ◌∙◌, ap}
-use Rattle.std.specs.Prelude.{Option, unwrap_or}
+use Rattle.std.proofs.Common.{arith, ◌+◌, ap}
 use Rattle.xc_input.specs.declared.problem.Bounds.{Bounds}
 use Rattle.xc_count.specs.inner.ByOption.{marks_in}
 use Rattle.xc_count.proofs.Forgetting.{is_met, low_of, not_met}
