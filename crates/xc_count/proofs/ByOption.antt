@@ -106,7 +106,8 @@ met_at p s zero b a e = cc
 met_at p s (suc i) b a e =
     subst (λ n. b.low ≤ s n) (let z : 1 + i ≡ suc i = omega arith in z) (met_from 1 i p.bounds b s a e)
 
-pub at_met : (p : Puzzle) (s : Marks) → ((i : ℕ) (b : Bounds) → bounds_at p i ≡ Some b → b.low ≤ s i) → all_met p s ≡ true
+pub at_met : (p : Puzzle) (s : Marks) → ((i : ℕ) (b : Bounds) → bounds_at p i ≡ Some b → b.low ≤ s i)
+    → all_met p s ≡ true
 at_met p s each = from_met 1 p.bounds s (λ i b e. subst (λ n. b.low ≤ s n) (let z : suc i ≡ 1 + i = omega arith in z)
     (each (suc i) b e))
 

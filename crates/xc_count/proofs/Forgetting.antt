@@ -66,7 +66,8 @@ held_here (v ∷ us) u (inl q) =
     let z : eqb v.item u.item ≡ true = eq-eqb _ _ (ap (λ (w : Use). w.item) q) in rw z refl
 held_here (v ∷ us) u (inr q) = by_bool (eqb v.item u.item) (λ e. rw e refl) (λ e. rw e (held_here us u q))
 
-all_same : {X : Type 0} (f g : X → Bool) (xs : List X) → ((x : X) → IsIn xs x → f x ≡ g x) → list_all f xs ≡ list_all g xs
+all_same : {X : Type 0} (f g : X → Bool) (xs : List X) → ((x : X) → IsIn xs x → f x ≡ g x)
+    → list_all f xs ≡ list_all g xs
 all_same f g [] h = refl
 all_same f g (x ∷ xs) h = ap₂ (λ (a b : Bool). a && b) (h x (inl refl)) (all_same f g xs (λ y k. h y (inr k)))
 

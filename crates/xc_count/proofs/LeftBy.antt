@@ -119,7 +119,8 @@ module _ (p : Puzzle) (v : IsValid p) (once : AreOnce p) (s : Held) (i : ℕ) (x
           subst (λ z. z ≤ primary_count p) from.1 ((proper_whole p v).sound w back).0,
         )
 
-    pub fits_before : (o : Numbered) → IsIn (numbered_options p) o → fits (holding_option x s) o ≡ true → fits s o ≡ true
+    pub fits_before : (o : Numbered) → IsIn (numbered_options p) o → fits (holding_option x s) o ≡ true
+        → fits s o ≡ true
     fits_before o h f = list_all-each (λ u. agrees u.colour (s u.item)) o.uses (λ u k.
         let a = use_passes (λ u. agrees u.colour (holding_option x s u.item)) o.uses u.item u.colour f
         (each_in _ _ _ (own o h) k) in

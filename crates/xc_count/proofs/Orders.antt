@@ -101,9 +101,10 @@ pub once_more : (order seen : List ℕ) (o v : ℕ) → AreOnce order seen → 1
     → get_or seen (o - 1) 0 ≡ 0 → v ≢ 0 → AreOnce (order ++ o ∷ []) (set seen (o - 1) v)
 once_more order seen o v a h l free mark = record {
   known = subst (λ n. All (λ x. (1 ≤ x) × (x ≤ n)) (order ++ o ∷ [])) (sym (length-set seen (o - 1) v))
-      (All-append (λ x. (1 ≤ x) × (x ≤ length seen)) order (o ∷ []) a.known (All-from_recursion (λ x. (1 ≤ x) × (x ≤ length seen)) (o ∷ []) ((h, l), tt)));
-  distinct = AllPairs-from_each_two _ _ (EachTwo-append (λ a b. a ≢ b) order (o ∷ []) (each_two_from_AllPairs _ _ a.distinct)
-      (tt, tt) (λ x y k m e. elim m [
+      (All-append (λ x. (1 ≤ x) × (x ≤ length seen)) order (o ∷ []) a.known
+      (All-from_recursion (λ x. (1 ≤ x) × (x ≤ length seen)) (o ∷ []) ((h, l), tt)));
+  distinct = AllPairs-from_each_two _ _ (EachTwo-append (λ a b. a ≢ b) order (o ∷ [])
+      (each_two_from_AllPairs _ _ a.distinct) (tt, tt) (λ x y k m e. elim m [
         | inl q ↦ a.unlisted o h l free (subst (Contains order) (e ∙ sym q) (contains-in order x k))
         | inr q ↦ absurd q
       ]));

@@ -88,7 +88,8 @@ module _ (p : Puzzle) (v : IsValid p) (once : AreOnce p) (s : Held) (w : Wanted)
         (each_from _ _ (λ x h.
         let at = in-filter (λ o. holds o w.item) r.options x h in
         ap count (picked p v once s w.item x at.0 sound.0 at.1)))
-        ∙ ap (sum_by (λ x. below p (holding_option x s))) (filter_both (λ o. holds o w.item) (fits s) (numbered_options p))
+        ∙ ap (sum_by (λ x. below p (holding_option x s))) (filter_both (λ o. holds o w.item) (fits s)
+        (numbered_options p))
         ∙ sum-filter (λ x. below p (holding_option x s)) (λ x. fits s x && holds x w.item) (numbered_options p)
 
     left_out : sum_by (λ (b : Branch). count b.next) (nones (left_by p s) w) ≡ with_none p s w

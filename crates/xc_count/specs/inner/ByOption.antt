@@ -1,5 +1,6 @@
 -- Covers counted option by option.
-use Rattle.std.specs.Prelude.{ℕ, ◌≡◌, ◌≢◌, ◌<◌, ◌≤◌, ◌-◌, ◌⊎◌, ◌+◌, ◌==◌, ◌&&◌, ◌||◌, Bool, List, [], ◌∷◌, ◌++◌, All, AllPairs, Contains}
+use Rattle.std.specs.Prelude.{ℕ, ◌≡◌, ◌≢◌, ◌<◌, ◌≤◌, ◌-◌, ◌⊎◌, ◌+◌, ◌==◌, ◌&&◌, ◌||◌, Bool, List, []}
+use Rattle.std.specs.Prelude.{◌∷◌, ◌++◌, All, AllPairs, Contains}
 use Rattle.std.specs.Prelude.{nat_lt, nat_le, map, length, is_some, count_by, slice_index, if◌then◌else◌}
 use Rattle.std.specs.List.{list_all, enumerate_from}
 use Rattle.xc_input.specs.declared.problem.Use.{Use}
