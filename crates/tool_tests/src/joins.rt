@@ -371,7 +371,10 @@ fn misses_its_file(rt: &HostRuntime, told: &mut Told) -> bool {
     let Ok(words) = gathered(rt.alloc(), &[b"m0", b"missing.span"]) else {
         return false;
     };
-    let Ok(mut input) = span_files(rt.alloc(), rt, &words[1..], rt.stdin(), Seed::FIXED) else {
+    let [_, files @ ..] = words.as_slice() else {
+        return false;
+    };
+    let Ok(mut input) = span_files(rt.alloc(), rt, files, rt.stdin(), Seed::FIXED) else {
         return false;
     };
     join_spans(rt.alloc(), &words, &mut input, &mut told.out, &mut told.err) == 3
