@@ -1,4 +1,7 @@
-//! The sweep option by option, for problems with bounds.
+//! The sweep option by option, for problems with bounds: each state passes over an option or takes it where it fits.
+//!
+//! A mark of an item is replaced by the least that says as much, and a state is dropped once a lower bound can't be met
+//! any more. Both are proved to leave the number of ways.
 
 ghost use Rattle.std.specs.Prelude.{ℕ, ◌≡◌, ◌+◌, ◌*◌, ◌≤◌, List, [], ◌∷◌, length, All, IfOk, OnOk};
 ghost use Rattle.xc_input.specs.Problem.{IsItem, IsOption, IsValid};

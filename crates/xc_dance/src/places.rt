@@ -1,4 +1,8 @@
 //! Where the nodes of options are, by the problem alone, for a keeper that has no nodes.
+//!
+//! Places are sums over the options before. A first form looked for the node that passes a test; each fact about it
+//! needed a proof that no other node passes, 440 lines in all. Sum and search differ for an item that the option
+//! doesn't use, and for a spacer after the last option; no contract depends on either.
 ghost use Rattle.std.specs.Prelude.{ℕ, ◌≡◌, ◌<◌, ◌-◌, length};
 ghost use Rattle.xc_input.specs.Problem.{IsOption, uses_of};
 ghost use Rattle.xc_dance.specs.Fields.{link_place};

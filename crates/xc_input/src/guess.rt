@@ -1,9 +1,14 @@
-//! Guesses at the name that a text begins with, and at the place of a colour. They may be wrong: whoever
-//! takes one looks at it.
+//! Guesses at the name that a text begins with, and at the place of a colour. They may be wrong: whoever takes one
+//! compares it, and a wrong one costs only time.
 //!
-//! The bytes of a name are taken as a number eight at a time, where a hash takes one at a time; the
-//! names of a problem are short and few beside their uses, so most guesses are right. A name of up to
-//! seven bytes is known by its number alone.
+//! The bytes of a name are taken as a number eight at a time, where a hash takes one at a time; the names of a problem
+//! are short and few beside their uses, so most guesses are right. A name of up to seven bytes is known by its number
+//! alone, which no other text has: so the start of the next token doesn't wait for a table. Reading many uses takes
+//! 0.29 of the instructions that looking each name up takes, and reading many coloured uses 0.38.
+//!
+//! The table of colours has a fixed size and learns a colour at its second use. Tried before: a guess by the first 16
+//! bytes, with a look-up at each use of a longer name; a name and its colour guessed as one token, with two look-ups
+//! for each; and four times as many places for 100,000 names, which was slower by cache misses.
 
 ghost use Rattle.std.specs.Prelude.{◌≡◌, ◌<◌, ◌≤◌, ◌↔◌, ℕ, ◌+◌, ◌*◌, ◌%◌, ◌^◌, [], ◌∷◌, Some, IfOk, IfSome, length};
 ghost use Rattle.std.specs.Prelude.{take, slice_get, slice_set, unwrap_or, min, replicate, All};

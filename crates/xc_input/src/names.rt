@@ -1,4 +1,7 @@
 //! Sets of names, and look-ups in them.
+//!
+//! An item's name is in memory twice, in its set and in the `Item` that a call returns. A set of items that are found
+//! by name would need a look-up of our own, which the toolchain refuses for the library of sets.
 
 ghost use Rattle.std.specs.Prelude.{◌≡◌, ◌≤◌, ◌++◌, ◌∷◌, [], length, map, None, OnOk, IfOk};
 ghost use Rattle.xc_input.specs.Limits.{most_uses};

@@ -1,4 +1,6 @@
 //! A source over bytes that are in memory.
+//!
+//! It is a type of its own. An impl for `&[u8]`, as std has it for `Read`, couldn't record what the source gave.
 
 ghost use Rattle.std.specs.Prelude.{◌≡◌, ◌+◌, ◌<◌, ◌≤◌, [], ◌∷◌, ◌++◌, take, drop, Some, length, min, IfOk, IsOk};
 ghost use Rattle.std.specs.Prelude.{OnErr, is_err};

@@ -1,4 +1,11 @@
 //! Where bytes come from.
+//!
+//! A source has the seed of its text, since whoever makes it knows where the text comes from; so `read_problem`,
+//! `solve` and `judge` need no second form with a seed. The cost: a wrapper that doesn't pass on its source's seed has
+//! the fixed one, and no contract can show this mistake.
+//!
+//! It records what each read gave, for contracts alone. So what is proved of a text also holds for a stream whose bytes
+//! aren't known before they are read.
 
 ghost use Rattle.std.specs.Prelude.{◌≡◌, ◌+◌, ◌-◌, ◌<◌, ◌≤◌, ◌↔◌, ℕ, List, [], ◌∷◌, ◌++◌, take, drop, Option, Some};
 ghost use Rattle.std.specs.Prelude.{length, min, IfOk, IsErr, IsTrue, OnErr, is_err};
@@ -34,8 +41,7 @@ pub trait Source {
 
     /// The seed by which the names and colours in its text are hashed: the fixed one, unless the source
     /// says otherwise, as those of the programs do, whose texts may be written to be slow.
-    // The source has it, since whoever makes it knows where its text comes from. Provided, since to require it would
-    // break the sources that callers have; `Seeded` adds one to any of them.
+    // Provided, since to require it would break the sources that callers have; `Seeded` adds one to any of them.
     fn seed(&self) -> Seed {
         Seed::FIXED
     }

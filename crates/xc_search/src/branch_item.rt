@@ -1,4 +1,14 @@
-//! The branch item: the open primary item with the fewest branches.
+//! The branch item: the open primary item with the fewest branches, a rule of Golomb and Baumert (1965) that Knuth's
+//! programs follow; and the item that the search's loop goes on at.
+//!
+//! That loop looks for less (`choose_early`): it takes the first item with at most one branch, unless one of the next
+//! six has none. A look at all open items at each level takes 5 % more instructions, and a hundred times as long where
+//! 40,000 items have one option each; the cost is that a dead end is left some levels later. Looking at 12 more items
+//! takes 1 % more instructions, at 32 more 4 %, at 3 more as many. Tried and not faster: an index for the item that the
+//! loop is at, and a look from both ends of the ring.
+//!
+//! If each primary item is in exactly one option of a cover, lengths alone are compared (12 % of a search's
+//! instructions).
 ghost use Rattle.std.specs.Prelude.{◌≡◌, ◌-◌, ◌<◌, ◌≤◌, ◌^◌, true, length, Some, None, IfSome, IsNone};
 ghost use Rattle.xc_input.specs.Problem.{low_at};
 ghost use Rattle.xc_dance.specs.Moves.{IsOpenPrimary, open_items, spends};

@@ -1,4 +1,17 @@
 //! The levels of the search, and its loop.
+//!
+//! Walks and spans have one loop, `run`, by a constant parameter. At each turn it looks at what is below first. A
+//! search that is at a solution finds it again, as the first that it passes over, so that no flag says whether what is
+//! left was searched.
+//!
+//! Where the next choice is known to be the last, its solutions are counted and not made (`SEARCH.md`). That saves 11 %
+//! of the instructions. Open items are counted only at the depth of the last choice of the solution found last. That
+//! depth is a hint, so no invariant ties levels to open items.
+//!
+//! `run` isn't marked inline, so that it is inlined after what it calls; a level is pushed with its first branch: 1 %
+//! each. `unwind` ends levels by code of its own, so that the loop has the one call of `end_level`, which is inlined
+//! there (8 %). The end of a tweaked level is in the loop too (3 % with bounds). Tried and not faster: levels or their
+//! marks with numbers of 32 bits, solutions counted upward, and rare steps as calls that take the state by value.
 ghost use Rattle.std.specs.Prelude.{◌≡◌, ◌+◌, ◌-◌, ◌<◌, ◌≤◌, ◌^◌, ◌⊎◌, List, [], ◌∷◌, length, true, false, not};
 ghost use Rattle.std.specs.Prelude.{None, Bool, ℕ, Option, option_map, IfSome, IsNone, IsSome};
 ghost use Rattle.xc_input.specs.Problem.{Puzzle};

@@ -1,4 +1,7 @@
 //! The search: a walk whose choices are kept.
+//!
+//! All memory is taken before the first move, so `next` returns `Solution` or `Done` and nothing else, and lack of
+//! memory means that nothing was written.
 ghost use Rattle.std.specs.Prelude.{◌≡◌, ◌≤◌, [], ◌∷◌, drop, length, min};
 ghost use Rattle.std.specs.Prelude.{IfOk, IfErr};
 ghost use Rattle.xc_dance.specs.Dancing.{moves_made};
@@ -49,8 +52,6 @@ impl<'a, D: Dance> Model for Search<'a, D> {
 impl<'a, D: Dance> Search<'a, D> {
     /// Begins a search over a dance that has no moves and room for `2 * items + 2 * uses` of them.
     /// All memory is taken here: where there is none, the dance comes back as it was.
-    // Before the first move, so that `next` returns `Solution` or `Done` and nothing else, and lack of memory means
-    // that nothing was written.
     pub fn new(alloc: Global, dance: D, problem: &'a Problem) -> Result<Search<'a, D>, (D, Memory)>
         requires same { (D.state dance).puzzle ≡ problem.now.puzzle }
         requires none { (D.state dance).trail ≡ [] }

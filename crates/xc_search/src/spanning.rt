@@ -1,4 +1,17 @@
 //! The steps of a search of a span.
+//!
+//! A span begins at its row by a step of the search's loop for each number of the row, and enters a level's branch
+//! without committing those before it. At first it searched all that comes before the row: late in a wide first level
+//! that took longer than `dlx1` takes for the whole. A way of its own, with a second call of the loop's large
+//! functions, took these out of the loop, for a fifth of its instructions. The cost: a tweak, or a step along a list,
+//! for each branch before the row, and at each level a look at every open item.
+//!
+//! The way down chooses early. An item without branches keeps none, so where each open item has a branch in the end,
+//! each choice on the way was the branch item; else it goes down again by the branch items. Looking at all open items
+//! on the way took 1.4 s for a row of 30,000 numbers, where the whole search takes 0.02 s.
+//!
+//! Where its steps run out a span goes back to a row of the search's tree, since an early choice may lead to branches
+//! that are none. The branch item at each level, if steps have a bound, took more instructions.
 ghost use Rattle.std.specs.Prelude.{◌≡◌, ◌<◌, ◌≤◌, List, ℕ, Option, [], true, false, not};
 ghost use Rattle.std.specs.Prelude.{filter, map, length, option_map, IfSome, IsSome, Some, vec_capacity};
 ghost use Rattle.xc_search.specs.Spans.{precedes, row_of, is_before};

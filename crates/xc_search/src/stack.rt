@@ -1,4 +1,8 @@
 //! The stack of the search's levels, and their choices.
+//!
+//! All its memory is taken before the first move. The cost: no test can make it fail, since a small problem has a small
+//! stack; the hostile runs refuse this memory. A branch writes four fields of its level in place. That takes as many
+//! instructions as writing the whole, but no load waits for it.
 ghost use Rattle.std.specs.Prelude.{◌≡◌, ◌+◌, ◌<◌, ◌≤◌, [], ◌∷◌, ◌++◌, length, drop, map, reverse, vec_capacity};
 ghost use Rattle.std.specs.Prelude.{IfSome, IfOk, IsNone, All};
 ghost use Rattle.xc_search.specs.inner.Levels.{chosen, choices_of, newest_begun, IsShown};

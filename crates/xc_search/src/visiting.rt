@@ -1,4 +1,7 @@
 //! A call with each solution.
+//!
+//! The contract describes the calls by a relation (`Visits`): which solutions a closure was called with and what it
+//! returned can only be said over its states. A caller proves only that the closure may be called.
 ghost use Rattle.std.specs.Prelude.{◌≡◌, List};
 ghost use Rattle.std.specs.Fn.{CalledAt};
 ghost use Rattle.xc_search.specs.Outlook.{MakesFew};
@@ -11,8 +14,6 @@ use xc_dance::Dance;
 impl<'a, D: Dance> Search<'a, D> {
     /// Calls `visit` with the choices of each solution to come, in turn, until it returns false. It is
     /// true where no call did, and then no solution is left; else the search is at the last one.
-    // With what the closure was called can be said over its states alone: so the contract goes from one to the next,
-    // by `Visits`.
     pub fn for_each<F: FnMut(&[Choice]) -> bool>(&mut self, visit: &mut F) -> bool
         requires { F.IsAlwaysCallable visit.old }
         ensures still { self.new ≡ record self.old

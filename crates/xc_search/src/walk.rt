@@ -1,4 +1,14 @@
 //! A walk over a problem's solutions.
+//!
+//! It keeps no choices: `solution` reads each off its level when a caller needs it. A slice of choices would store and
+//! load each again. The cost is one public type more, since `Search` keeps them.
+//!
+//! The loop takes its state by value (`passed`), as a struct without a model (`Standing`), whose fields the contract
+//! names. So the bases and lengths of all tables stay in registers, which saves 7 % of the instructions. The cost: no
+//! address of the state may leave the loop, so calls out of line take slices or lent copies and are cold, and
+//! everything else is inlined. A `pass` over no solutions is recognized before the loop's function (6 %). Where a
+//! search has ended a cold call counts: 1 % more instructions in a build without proofs, 3 % fewer in the proved `dlx1`
+//! on 12 queens.
 ghost use Rattle.std.specs.Prelude.{◌≡◌, ◌≢◌, ◌+◌, ◌<◌, ◌≤◌, [], ◌∷◌, drop, length, min, true, false};
 ghost use Rattle.std.specs.Prelude.{IfOk, IfErr, IfSome, IsNone, vec_capacity, map, All};
 ghost use Rattle.xc_search.specs.Marks.{marked, IsMark};

@@ -1,4 +1,7 @@
 //! What the programs take from the command line.
+//!
+//! Arguments are read one by one, since the program's own name, in a folder of any name, may not be UTF-8; by
+//! `env::args` all would then fail. An argument that isn't UTF-8 gets `Out of memory.` and status 4.
 ghost use Rattle.std.specs.Prelude.{◌≡◌, ◌≤◌, ℕ, List, [], Option, None, All, IfOk, IfSome, IsSomeAnd, slice_get};
 ghost use Rattle.std.specs.Prelude.{drop, length, map, option_map};
 ghost use Rattle.std.specs.Str.{IsUtf8};

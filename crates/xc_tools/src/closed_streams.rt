@@ -1,4 +1,8 @@
 //! Standard streams that a program was started without.
+//!
+//! `dlxcheck` looks at its arguments first, then at its three streams, and opens the problem's file at its first read,
+//! since the file would get the number of a closed stream. Wrong arguments give status 1 whatever is closed, without
+//! waiting for a file that is a pipe. The solvers open no file, so there a closed stream fails when it is used.
 ghost use Rattle.std.specs.Prelude.{◌≡◌, ◌⊎◌, Bool, true, false, Option, None, Some, IfSome, MatchOption, codes};
 ghost use Rattle.xc_list.specs.Texts.{WasTold};
 

@@ -1,4 +1,8 @@
 //! A whole run that joins the texts of spans.
+//!
+//! The listing of a span begins with a line that names its first row and its problem. A record alone, at the end, would
+//! come too late: by the line a join knows before the first solution whether the ends meet, holds only a line, and
+//! never writes a solution after a gap.
 ghost use Rattle.std.specs.Prelude.{◌≡◌, ◌<◌, ◌++◌, ◌∷◌, [], ℕ, List, false, length, codes, IfErr, IfOk, OnOk};
 ghost use Rattle.std.specs.Prelude.{◌⊎◌, ◌==◌, IsOkAnd, MatchOption, drop, map, option_copied, if◌then◌else◌};
 ghost use Rattle.xc_list.specs.SpanTexts.{most_counted};

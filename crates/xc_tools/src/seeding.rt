@@ -1,4 +1,5 @@
-//! The seed of a run.
+//! The seed of a run: random bytes of the system, so that names can't be chosen to collide; without them the fixed
+//! seed, with no message. No contract depends on it.
 ghost use Rattle.std.specs.Int.{w128, from_le_bytes};
 ghost use Rattle.std.specs.Prelude.{◌≡◌, ◌/◌, ◌%◌, ◌^◌, ℕ, List, Option, None, Some, IfSome, MatchResult, bit_or};
 

@@ -1,4 +1,7 @@
 //! The calls of the system for its streams, and what they return.
+//!
+//! They go through traits of our own, which count the calls with their answers. std's contracts say what a call did and
+//! not that it was made: by them a read that is tried again and a flush that is forgotten would be proved.
 ghost use Rattle.std.specs.Prelude.{◌≡◌, ◌≤◌, ℕ, List, Option, length, IfOk};
 ghost use Rattle.std.specs.Io.KnownBytes.{Keeps, ReadConsumes, WriteAppends};
 ghost use Rattle.xc_tools.specs.Streams.{Asked, answered, calls_of, flushed, write_answer, answer_of};

@@ -1,6 +1,10 @@
 //! Cells that count their own writes, and the two tables that consist of them. Other modules read and write cells by
 //! place, and can't make, copy, replace or exchange one: only this file and those of its folder have to be read to see
 //! that each write is counted.
+//!
+//! `written` of `Links` is the sum over the cells. Tried before: a tally as a parameter, which a body can evade by a
+//! second tally; and a list of the writes in order, which would have to be one value beside three columns that are lent
+//! apart. The count is for contracts alone and takes nothing at run time.
 ghost use Rattle.std.specs.Prelude.{◌≡◌, ◌+◌, ◌==◌};
 ghost use Rattle.std.proofs.Common.{rules};
 ghost use Rattle.std.specs.Cmp.Rules.{comparing};

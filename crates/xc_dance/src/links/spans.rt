@@ -1,5 +1,6 @@
 //! Where the option of each node is, as contracts speak of it. It takes no memory: a walk finds the ends by the
-//! spacers. Spans that are kept would take 8 bytes a node, and a load at another place for each option that is hidden.
+//! spacers, Knuth's idea in 7.2.2.1 (in his paper of 2000 the nodes of an option were a ring). Spans that are kept
+//! would take 8 bytes a node, and a load at another place for each option that is hidden.
 ghost use Rattle.std.specs.Prelude.{◌≡◌};
 ghost use Rattle.xc_dance.specs.inner.Links.OptionSpans.{spans_of};
 

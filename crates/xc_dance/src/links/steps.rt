@@ -1,5 +1,10 @@
-//! Steps over the nodes of one option: hide and unhide. The compiler's output has eleven instructions for a node that
-//! is hidden or comes back, with four loads and three stores, no bounds check and no call.
+//! Steps over the nodes of one option: hide and unhide, which make links dance (Hitotumatu and Noshita, 1979; named by
+//! Knuth, 2000). The compiler's output has eleven instructions for a node that is hidden or comes back, with four loads
+//! and three stores, no bounds check and no call.
+//!
+//! Hide has two loops, over the nodes after p and over those before it, where Knuth's has one that turns at the spacer.
+//! Walks go over indices of 64 bits: with places of 32 bits the compiler counts beside three bases, 5 % more
+//! instructions. That the item of a node is read after the writes to its neighbours saves 2 %.
 ghost use Rattle.std.specs.Prelude.{◌≡◌, ◌≢◌, false, ℕ, ◌+◌, ◌-◌, ◌*◌, ◌<◌, ◌≤◌, ◌^◌, length, slice_index, fold};
 ghost use Rattle.std.specs.Prelude.{reverse};
 ghost use Rattle.xc_dance.specs.inner.Links.Columns.{values};

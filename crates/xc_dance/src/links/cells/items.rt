@@ -1,4 +1,6 @@
 //! The item table.
+//!
+//! LLINK and RLINK are two columns. One column of pairs, as the nodes have it, was tried and is not faster.
 ghost use Rattle.std.specs.Prelude.{◌≡◌, ℕ, ◌+◌, ◌-◌, ◌^◌, ◌<◌, ◌≤◌, List, length, slice_index, slice_set, replicate};
 ghost use Rattle.std.specs.Prelude.{IfOk, IsTrue, ◌↔◌, slice_get};
 

@@ -1,5 +1,7 @@
-//! The cells of a column as a walk borrows them: a pointer and a length, which stay in registers there. Those of a
-//! column would be loaded anew after every write.
+//! The cells of a column as a walk borrows them: a pointer and a length, which stay in registers there, behind calls
+//! that read and write a cell by its place. Tried before: vectors, whose bases are loaded again after every write;
+//! slices, whose cells a body could exchange with no write counted; and one type for all columns, whose address would
+//! leave the loop. The cost: each walk has a clause (`rows`) that the same memory is still lent.
 ghost use Rattle.std.specs.Prelude.{◌≡◌, ◌+◌, ◌<◌, length, slice_index, slice_set};
 ghost use Rattle.xc_dance.specs.inner.Links.Columns.{values, writes, ups, downs, link_writes};
 ghost use Rattle.xc_dance.specs.inner.Links.Lent.{IsRow, IsLinkRow};
