@@ -25,14 +25,14 @@ extern "C" {
 /* Kinds of text: as `dlx1` reads it, as `dlx2`, as `dlx3`. */
 enum { HELGROTHY_PLAIN = 1, HELGROTHY_COLOURS = 2, HELGROTHY_BOUNDS = 3 };
 
-/* What a call answers. At 3 and more nothing was searched. */
+/* What a call returns; up to 4 as the programs do. At HELGROTHY_NO_KIND, _FAULT and _NO_MEMORY nothing was searched. */
 enum {
     HELGROTHY_DONE = 0,      /* all solutions were counted or listed; the text has no fault */
-    HELGROTHY_LIMIT = 1,     /* there are as many solutions as the limit, and perhaps more */
-    HELGROTHY_NO_ROOM = 2,   /* the listing is longer than the buffer, which holds its beginning */
-    HELGROTHY_FAULT = 3,     /* the text has a fault */
+    HELGROTHY_NO_KIND = 1,   /* `kind` is not 1, 2 or 3 */
+    HELGROTHY_FAULT = 2,     /* the text has a fault */
+    HELGROTHY_NO_ROOM = 3,   /* the listing is longer than the buffer, which holds its beginning */
     HELGROTHY_NO_MEMORY = 4, /* malloc gave no memory */
-    HELGROTHY_NO_KIND = 5    /* `kind` is not 1, 2 or 3 */
+    HELGROTHY_LIMIT = 5      /* there are as many solutions as the limit, and perhaps more */
 };
 
 uint32_t helgrothy_version(void);

@@ -16,7 +16,7 @@ sys.path.insert(0, "tests/hostile")
 from collisions import WORDS, by_chance, colliding, of_names  # noqa: E402
 
 PLAIN, BOUNDS = 1, 3
-DONE, LIMIT, NO_ROOM, FAULT = 0, 1, 2, 3
+DONE, FAULT, NO_ROOM, LIMIT = 0, 2, 3, 5
 SEVEN = b"a b c d e f g\nc e\na d g\nb c f\na d f\nb g\nd e g\n"
 LISTING = b"1:\n a d f (2 of 2)\n b g (1 of 1)\n c e (1 of 1)\n"
 

@@ -96,9 +96,9 @@ pub fn fault_text(number: u32) -> &'static str {
 fn ended(kind: Kind, text: &[u8], status: u32) -> Result<End, Error> {
     match status {
         0 => Ok(End::Done),
-        1 => Ok(End::Limit),
-        2 => Ok(End::NoRoom),
-        3 => Err(fault(kind, text).err().unwrap_or(Error::Memory)),
+        2 => Err(fault(kind, text).err().unwrap_or(Error::Memory)),
+        3 => Ok(End::NoRoom),
+        5 => Ok(End::Limit),
         _ => Err(Error::Memory),
     }
 }
@@ -113,7 +113,7 @@ pub fn fault(kind: Kind, text: &[u8]) -> Result<(), Error> {
     let (mut line, mut number) = (0, 0);
     match unsafe { helgrothy_fault(kind as u32, text.as_ptr().cast(), text.len(), seed(), &mut line, &mut number) } {
         0 => Ok(()),
-        3 => Err(Error::Fault { line, number }),
+        2 => Err(Error::Fault { line, number }),
         _ => Err(Error::Memory),
     }
 }

@@ -34,7 +34,7 @@ stopped_short a spacing limit t x z xs e f s =
 
 status_of : (below : Bool) (found limit length room s : ℕ)
     → listing_status (if below then Done found else Limit limit) length room ≡ Some s
-    → s ≡ (if nat_lt room length then 2 else if below then 0 else 1)
+    → s ≡ (if nat_lt room length then 3 else if below then 0 else 5)
 status_of true found limit length room s e = cc e
 status_of false found limit length room s e = cc e
 
@@ -46,7 +46,7 @@ module _ (a : Named) (spacing limit : ℕ) (xs buf new : List ℕ) (used s : ℕ
 
   -- the end of one that was, since there was no room
   cut_off : (less : Bool) → nat_lt (length xs) (length buf) ≡ less → IsShort xs (output a spacing limit)
-      → (if less then None else Some 2) ≡ Some s → Lists spacing limit buf new s used a
+      → (if less then None else Some 3) ≡ Some s → Lists spacing limit buf new s used a
   cut_off true is short st = absurd (cc st)
   cut_off false is short st = grind (arith, common_steps, lt-ltb, length-append)
 

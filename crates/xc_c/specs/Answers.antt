@@ -12,19 +12,19 @@ use Rattle.xc_search.specs.Cover.{members, EachMemberCovers, EachCoverIsListedOn
 use Rattle.xc_list.specs.Output.{output}
 use Rattle.xc_c.specs.Numbers.{kind_by_number, faults}
 
--- a fault is reported with status 3, its line and its number; no fault with zeros
+-- a fault is reported with status 2, its line and its number; no fault with zeros
 abbrev pub IsTold : Option (ℕ × FaultKind) → ℕ → ℕ → ℕ → Type 0
 IsTold None status line fault = (status ≡ 0) × (line ≡ 0) × (fault ≡ 0)
-IsTold (Some found) status line fault = (status ≡ 3) × (line ≡ found.0) × (numbered_get faults fault ≡ Some found.1)
+IsTold (Some found) status line fault = (status ≡ 2) × (line ≡ found.0) × (numbered_get faults fault ≡ Some found.1)
 
 -- nothing is reported, at this status
 abbrev pub IsUntold : ℕ → ℕ → ℕ → ℕ → Type 0
 IsUntold why status line fault = (status ≡ why) × (line ≡ 0) × (fault ≡ 0)
 
--- The first fault of a text is reported, or that it has none; at 5 the number is of no kind, and at 4 memory ran out,
+-- The first fault of a text is reported, or that it has none; at 1 the number is of no kind, and at 4 memory ran out,
 -- which it never does where each line is blank or a comment.
 abbrev pub TellsFault : ℕ → List ℕ → ℕ → ℕ → ℕ → Type 0
-TellsFault number text status line fault = MatchOption (kind_by_number number) (IsUntold 5 status line fault) (λ kind.
+TellsFault number text status line fault = MatchOption (kind_by_number number) (IsUntold 1 status line fault) (λ kind.
     ((content (lines_of text) ≢ []) × IsUntold 4 status line fault)
     ⊎ IsTold (first_fault kind (lines_of text)) status line fault)
 
@@ -38,16 +38,16 @@ pub record IsSearched (kind : Kind) (text : List ℕ) (says : Named → Type 0) 
   pub complete : EachCoverIsListedOnce named.puzzle
   pub said : says named
 
--- What a search of a text answers: this is so of its problem; or nothing came of it, at status 5 since the number is of
--- no kind, at 3 since the text has a fault, at 4 for lack of memory, where a line is neither blank nor a comment.
+-- What a search of a text answers: this is so of its problem; or nothing came of it, at status 1 since the number is of
+-- no kind, at 2 since the text has a fault, at 4 for lack of memory, where a line is neither blank nor a comment.
 abbrev pub Searches : ℕ → List ℕ → ℕ → Type 0 → (Named → Type 0) → Type 0
-Searches number text status nothing says = MatchOption (kind_by_number number) ((status ≡ 5) × nothing) (λ kind.
-    ((status ≡ 3) × (first_fault kind (lines_of text) ≢ None) × nothing)
+Searches number text status nothing says = MatchOption (kind_by_number number) ((status ≡ 1) × nothing) (λ kind.
+    ((status ≡ 2) × (first_fault kind (lines_of text) ≢ None) × nothing)
     ⊎ ((status ≡ 4) × (content (lines_of text) ≢ []) × nothing) ⊎ IsSearched kind text says)
 
--- the status of a search that came to its end: 1 where it met the limit, else 0
+-- the status of a search that came to its end: 5 where it met the limit, else 0
 abbrev pub end_status : Named → ℕ → ℕ
-end_status a limit = if nat_lt (length (members a.puzzle)) limit then 0 else 1
+end_status a limit = if nat_lt (length (members a.puzzle)) limit then 0 else 5
 
 -- the solutions were counted up to the limit
 abbrev pub Counts : ℕ → ℕ → ℕ → Named → Type 0
@@ -58,8 +58,8 @@ abbrev pub IsFilled : List ℕ → List ℕ → List ℕ → ℕ → Type 0
 IsFilled text old new used =
     (new ≡ take (length old) text ++ drop (length text) old) × (used ≡ min (length text) (length old))
 
--- the solutions up to the limit were listed into a buffer; at status 2 their text is longer than the buffer
+-- the solutions up to the limit were listed into a buffer; at status 3 their text is longer than the buffer
 abbrev pub Lists : ℕ → ℕ → List ℕ → List ℕ → ℕ → ℕ → Named → Type 0
 Lists spacing limit old new status used a =
     let text = output a spacing limit in
-    IsFilled text old new used × (status ≡ (if nat_lt (length old) (length text) then 2 else end_status a limit))
+    IsFilled text old new used × (status ≡ (if nat_lt (length old) (length text) then 3 else end_status a limit))

@@ -1,8 +1,7 @@
 //! Exact cover problems for C, and for all that calls C: calls on numbers and bytes, whose header is
-//! `bindings/c/helgrothy.h`. Each answers a status: 0 where all was done, 1 where a search met its
-//! limit, 2 where a listing is longer than its buffer, 3 for a text with a fault, 4 for lack of memory,
-//! 5 for a number of no kind. Names and colours are hashed by the seed, and the answer is the same by
-//! each.
+//! `bindings/c/helgrothy.h`. Each returns a status: 0 where all was done, 1 for a number of no kind, 2 for a text
+//! with a fault, 3 where a listing is longer than its buffer, 4 for lack of memory, 5 where a search met its limit.
+//! Names and colours are hashed by the seed, and the answer is the same by each.
 //!
 //! A call keeps nothing: no handle to a search and the problem that it borrows can be both exported and proved
 //! (`docs/DECISIONS.md`).
@@ -34,7 +33,7 @@ pub extern "C" fn helgrothy_version() -> u32
     100
 }
 
-/// The line and the number of the first fault of a text, with status 3; zeros with another.
+/// The line and the number of the first fault of a text, with status 2; zeros with another.
 #[unsafe(no_mangle)]
 pub extern "C" fn helgrothy_fault(
     alloc: Global,

@@ -6,18 +6,20 @@ ghost use Rattle.xc_c.specs.inner.Statuses.{error_status};
 
 use xc_input::{FaultKind, InputError, Kind};
 
+// Up to 4 they are the statuses of the programs, where an argument is wrong, the input has a fault, not all could be
+// written, or memory ran out.
 /// All was done.
 pub(crate) const DONE: u32 = 0;
-/// The limit was met.
-pub(crate) const LIMIT: u32 = 1;
-/// The buffer has no room for all.
-pub(crate) const NO_ROOM: u32 = 2;
+/// The number is of no kind.
+pub(crate) const NO_KIND: u32 = 1;
 /// The text has a fault.
-pub(crate) const FAULT: u32 = 3;
+pub(crate) const FAULT: u32 = 2;
+/// The buffer has no room for all.
+pub(crate) const NO_ROOM: u32 = 3;
 /// There was no memory.
 pub(crate) const NO_MEMORY: u32 = 4;
-/// The number is of no kind.
-pub(crate) const NO_KIND: u32 = 5;
+/// The limit was met.
+pub(crate) const LIMIT: u32 = 5;
 
 /// The kind of a number.
 pub(crate) fn kind_by_number(number: u32) -> Option<Kind>

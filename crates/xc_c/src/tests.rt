@@ -11,6 +11,12 @@ const SEVEN_LISTING: &[u8] = b"1:\n a d f (2 of 2)\n b g (1 of 1)\n c e (1 of 1)
 
 const THREE_ALIKE: &[u8] = b"A\nA\nA\nA\n";
 
+/// Forty items with two equal options each: 2^40 solutions.
+const FORTY: &[u8] = b"a b c d e f g h i j k l m n o p q r s t u v w x y z A B C D E F G H I J K L M N\n\
+    a\na\nb\nb\nc\nc\nd\nd\ne\ne\nf\nf\ng\ng\nh\nh\ni\ni\nj\nj\nk\nk\nl\nl\nm\nm\nn\nn\no\no\np\np\nq\nq\
+    \nr\nr\ns\ns\nt\nt\nu\nu\nv\nv\nw\nw\nx\nx\ny\ny\nz\nz\nA\nA\nB\nB\nC\nC\nD\nD\nE\nE\nF\nF\nG\nG\nH\
+    \nH\nI\nI\nJ\nJ\nK\nK\nL\nL\nM\nM\nN\nN\n";
+
 const THREE_LISTING: &[u8] = b"1:\n A (1 of 3)\n2:\n A (2 of 3)\n3:\n A (3 of 3)\n";
 
 #[test]
@@ -31,11 +37,11 @@ fn first_faults(rt: HostRuntime) {
     let alloc = rt.alloc();
     assert!(rt; fault_of(alloc, 1, SEVEN) == (0, 0, 0));
     assert!(rt; fault_of(alloc, 2, b"a | b\na b:c\n") == (0, 0, 0));
-    assert!(rt; fault_of(alloc, 1, b"") == (3, 1, 1));
-    assert!(rt; fault_of(alloc, 1, b"a b\nc\n") == (3, 2, 11));
-    assert!(rt; fault_of(alloc, 1, b"a b\n\nc") == (3, 3, 11));
-    assert!(rt; fault_of(alloc, 1, b"| a b\n\n") == (3, 3, 1));
-    assert!(rt; fault_of(alloc, 0, SEVEN) == (5, 0, 0));
+    assert!(rt; fault_of(alloc, 1, b"") == (2, 1, 1));
+    assert!(rt; fault_of(alloc, 1, b"a b\nc\n") == (2, 2, 11));
+    assert!(rt; fault_of(alloc, 1, b"a b\n\nc") == (2, 3, 11));
+    assert!(rt; fault_of(alloc, 1, b"| a b\n\n") == (2, 3, 1));
+    assert!(rt; fault_of(alloc, 0, SEVEN) == (1, 0, 0));
 }
 
 /// The status and the count, by a seed.
@@ -55,9 +61,11 @@ fn counts(rt: HostRuntime) {
     let alloc = rt.alloc();
     assert!(rt; count_of(alloc, 1, SEVEN, 2) == (0, 1));
     assert!(rt; count_of(alloc, 1, THREE_ALIKE, u64::MAX) == (0, 3));
-    assert!(rt; count_of(alloc, 1, THREE_ALIKE, 3) == (1, 3));
-    assert!(rt; count_of(alloc, 1, b"a b\nc\n", 1) == (3, 0));
-    assert!(rt; count_of(alloc, 4, SEVEN, 1) == (5, 0));
+    assert!(rt; count_of(alloc, 1, THREE_ALIKE, 3) == (5, 3));
+    // Where it searched on, this would not end.
+    assert!(rt; count_of(alloc, 1, FORTY, 3) == (5, 3));
+    assert!(rt; count_of(alloc, 1, b"a b\nc\n", 1) == (2, 0));
+    assert!(rt; count_of(alloc, 4, SEVEN, 1) == (1, 0));
     assert!(rt; count_by(alloc, 0, 1, SEVEN, 2) == (0, 1));
     assert!(rt; count_by(alloc, u64::MAX, 1, SEVEN, 2) == (0, 1));
 }
@@ -90,9 +98,10 @@ fn listings(rt: HostRuntime) {
     let all = u64::MAX;
     assert!(rt; lists(alloc, SEVEN, all, 60, 0, SEVEN_LISTING));
     assert!(rt; lists(alloc, SEVEN, all, SEVEN_LISTING.len(), 0, SEVEN_LISTING));
-    assert!(rt; lists(alloc, SEVEN, all, 9, 2, b"1:\n a d f"));
-    assert!(rt; lists(alloc, THREE_ALIKE, 3, 100, 1, THREE_LISTING));
-    assert!(rt; lists(alloc, SEVEN, all, 0, 2, b""));
-    assert!(rt; lists(alloc, SEVEN, 0, 0, 1, b""));
-    assert!(rt; lists(alloc, b"a\nb\n", all, 10, 3, b""));
+    assert!(rt; lists(alloc, SEVEN, all, 9, 3, b"1:\n a d f"));
+    assert!(rt; lists(alloc, THREE_ALIKE, 3, 100, 5, THREE_LISTING));
+    assert!(rt; lists(alloc, FORTY, all, 10, 3, b"1:\n a (1 o"));
+    assert!(rt; lists(alloc, SEVEN, all, 0, 3, b""));
+    assert!(rt; lists(alloc, SEVEN, 0, 0, 5, b""));
+    assert!(rt; lists(alloc, b"a\nb\n", all, 10, 2, b""));
 }
