@@ -34,6 +34,7 @@ run: dlx1 ## build dlx1 and solve examples/seven.dlx
 test: bin ## the merge gate: proofs, wrong bodies, tests, programs
 	@sh tests/gate.sh
 	@sh tests/statuses.sh
+	@python3 tests/streams.py
 	@python3 tests/hostile/collisions.py
 	@$(MAKE) -s --no-print-directory bin
 	@python3 tests/count/trial.py 200 1

@@ -2,6 +2,10 @@
 """wheel.py VERSION: the Python package with the programs as built, as a wheel in dist/.
 
 The same files give the same bytes; they are of the time SOURCE_DATE_EPOCH.
+
+The programs are in it twice: in the package's folder, which finds them there whatever the path is, and on the path of
+an environment. The tag names glibc 2.34, since the programs use symbols of that version. It is written by `zipfile`, so
+that making it needs no build tool.
 """
 import base64
 import hashlib

@@ -2,6 +2,11 @@
 
 What an engine says is a claim. A solution of it is one where dlxcheck judges it to be one, and that there is none stays
 what the engine reports. It runs with limits of memory and output, in a session of its own that is killed as a whole.
+
+Its output is a file, so that nothing waits for it. That there is no solution needs its last line and its status.
+
+Clasp gets what has no colours, as sums, and cadical the rest, as clauses: that form is the shorter one. An item that
+many options hold is one sum, but a chain of clauses; if there are bounds, sums are shorter too.
 """
 
 from __future__ import annotations

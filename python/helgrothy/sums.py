@@ -4,6 +4,8 @@ Give each primary item a weight. An option weighs what its items weigh together,
 those of positive weight do. If the bounds ask for more than that, there is no solution. `search` looks for such
 weights, first by a matching of two classes of items; that they are right is then a matter of one sum in whole numbers,
 which `Sums.is_proof` does.
+
+Weights by climbing were tried first. They found none for the digits of a region with too few cells.
 """
 
 from __future__ import annotations

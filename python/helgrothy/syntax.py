@@ -2,6 +2,9 @@
 
 The programs tell the first fault and its line. `read` goes on behind a fault, and says which token it is. The first
 of its faults is the one that the programs tell.
+
+Readers stop, since a text of 1 MB can hold 500,000 faults: commands that report one fault at the first, `lint` after a
+thousand. The search for similar names takes at most a fifth of a second in all.
 """
 
 from __future__ import annotations

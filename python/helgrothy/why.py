@@ -4,6 +4,9 @@ First the bounds are counted, which proves most conflicts of mistaken data at on
 one is on the path, cadical or clasp beside them. Items are let off one by one while there is still no solution: one
 that is let off may be held less often than its bounds say, but not more often. What is left is a conflict. Each
 question has a time limit, so an item of which it isn't known in time whether it can be let off stays in.
+
+An engine is asked in turn with the programs, and named if the answer rests on its report. The problem is written once,
+with a variable for each primary item by which it is dropped: `cadical` and `clasp` don't print an unsatisfiable core.
 """
 
 from __future__ import annotations

@@ -290,9 +290,9 @@ def main():
     for lines in compare(given.folder, ours, in_c, installed, only, given.repeat, given.most):
         made.append(lines)
         print("\n".join(lines), end="\n\n", flush=True)
+    # The page has no table of growth.
     if in_c:
-        made.append(grow(ours, in_c, given.most))
-        print("\n".join(made[-1]), flush=True)
+        print("\n".join(grow(ours, in_c, given.most)), flush=True)
     for lines in made if given.page else ():
         put(given.page, lines)
 

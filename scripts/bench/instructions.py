@@ -124,7 +124,7 @@ def table(folders: list[Path], name: str) -> list[str]:
     """A row for each run of a set, and one of geometric means."""
     names = [it.name for it in folders]
     title = "Instructions" if name == "all" else f"Instructions of {name}"
-    lines = [f"| {title} | Words | {names[0]}, millions | " + " | ".join(names[1:]) + " |"]
+    lines = [f"| {title} | Arguments | {names[0]}, millions | " + " | ".join(names[1:]) + " |"]
     lines.append("|" + "---|" * (2 + len(folders)))
     all_ratios: list[list[float]] = []
     for run in SETS[name]:

@@ -2,8 +2,8 @@
 """plot.py PAGE > PICTURE: draws the tables of docs/BENCH.md that have a problem a row, and prints the picture as SVG.
 
 The figures are read from the page itself, so a picture and its tables can't differ. For each problem there is a bar
-for plain C, fast C and Sage, where a table has it: this solver's time over theirs, on a logarithmic scale, from the
-line at 1 to the left where this solver is faster and to the right where it is slower.
+for fast C: this solver's time over its, on a logarithmic scale, from the line at 1 to the left where this solver is
+faster and to the right where it is slower.
 """
 
 import math
@@ -12,7 +12,7 @@ import sys
 from html import escape
 
 # The columns that are drawn, each with its name in the picture and a colour that light and dark ground both show.
-SERIES = {"plain": ("plain C", "#2f81c7"), "fast": ("fast C", "#d9730d"), "Sage": ("Sage", "#129b72")}
+SERIES = {"fast": ("fast C", "#d9730d")}
 MEAN = "geometric mean"
 TICKS = [figure * 10.0**power for power in range(-3, 4) for figure in (1, 2, 5)]
 
@@ -107,7 +107,7 @@ def picture(rows):
     lines = [
         f'<svg xmlns="http://www.w3.org/2000/svg" width="{WIDTH}" height="{bottom + 30:.0f}" '
         f'viewBox="0 0 {WIDTH} {bottom + 30:.0f}" font-family="sans-serif" font-size="13">',
-        "<title>this solver's time over that of plain C, fast C and Sage, problem by problem</title>",
+        "<title>this solver's time over that of fast C, problem by problem</title>",
         STYLE,
         f'<rect class="ground" width="{WIDTH}" height="{bottom + 30:.0f}"/>',
         text(12, 24, "CPU time of this solver, divided by that of another (logarithmic scale)", font_size=15),

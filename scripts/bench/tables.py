@@ -49,7 +49,7 @@ def main() -> None:
     parser.add_argument("--page")
     given, words = parser.parse_known_args()
     subprocess.run([str(HERE / "c" / "build"), str(OUT)], check=True)
-    folders = [OUT / "fast", OUT / "plain", ours(given.unproved)]
+    folders = [OUT / "fast", ours(given.unproved)]
     for name in ("all", "reading", "printing"):
         lines = table(folders, name)
         print("\n".join(lines), end="\n\n", flush=True)
@@ -58,11 +58,11 @@ def main() -> None:
     if given.no_times:
         return
     # The page has no such table yet.
-    print("\n".join(counts.table(folders[2])), end="\n\n", flush=True)
+    print("\n".join(counts.table(folders[1])), end="\n\n", flush=True)
     for problem in problems.PROBLEMS:
         text_of(problem.name)
-    command = [sys.executable, str(HERE / "bench.py"), str(OUT / "problems"), "--ours", str(folders[2]), "--c-alone"]
-    command += [word for name in ("plain", "fast") for word in ("--c", f"{name}={OUT / name}")]
+    command = [sys.executable, str(HERE / "bench.py"), str(OUT / "problems"), "--ours", str(folders[1]), "--c-alone"]
+    command += ["--c", f"fast={OUT / 'fast'}"]
     command += ["--page", given.page] if given.page else []
     sys.exit(subprocess.run([*command, *words]).returncode)
 

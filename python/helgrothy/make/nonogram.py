@@ -1,4 +1,10 @@
-"""Nonograms: squares to be filled, of which the clues of each row and column say how long its runs are."""
+"""Nonograms: squares to be filled, of which the clues of each row and column say how long its runs are.
+
+An option is a whole line, or else a run with the place of the next one, for all lines alike. Whole lines are searched
+faster while they are few: 3,600 of them took 0.9 seconds, and 2,300 runs came to no end. 73,000 lines are too many for
+the programs and for cadical, which takes the 5,700 runs in a second. Lines of both sorts in one problem were slower
+than either.
+"""
 
 from __future__ import annotations
 

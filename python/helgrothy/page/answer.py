@@ -3,6 +3,9 @@
 The process reads the request from its standard input, which stays open as long as the page wants the answer: where it
 ends, the process and the programs that it runs are killed. So nothing goes on for nobody, whatever becomes of the
 server. Time, memory and files are limited, and the folder that it is in is its own.
+
+Threads of the server would all be stopped by one pattern with endless backtracking. The cost is the start of Python for
+each request.
 """
 
 from __future__ import annotations

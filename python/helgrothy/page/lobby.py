@@ -2,6 +2,9 @@
 
 Any process of this machine may connect, and then say nothing, or a byte now and then. So a connection has no thread
 before its head is there, a head has a few seconds in all, and where too many wait the oldest one goes.
+
+One loop reads all heads, and a thread takes over a request whose head has the page's word. `ThreadingHTTPServer` was
+shut to everybody by 32 silent connections.
 """
 
 from __future__ import annotations

@@ -3,6 +3,9 @@
 The first has the problem, each further one a solution with the steps of the search and its picture, the last one how it
 ended. A picture is a list of numbers: equal parts of pictures are told once, as elements with their attributes, and so
 is each option.
+
+So a name is never parsed as HTML, as it would be in a page with SVG as text, and a policy can refuse every other way to
+make an element.
 """
 
 from __future__ import annotations

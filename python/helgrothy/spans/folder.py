@@ -10,6 +10,9 @@ A file of spans is written under another name, flushed to the disk, and renamed.
 its line and its text: a file that was damaged, cut or is of another search is told by its name. No file is taken away
 but what a command has made here: a file of spans that was read as such, one with a name that nothing else has, the
 problem as it was written.
+
+What is done is written each half second, as one file for each row of spans that meet. With a file for each span, its
+flush to the disk took longer than a short span.
 """
 
 from __future__ import annotations

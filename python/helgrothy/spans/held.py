@@ -8,6 +8,9 @@ has a name and a text that nothing else has. So a command that is killed at any 
     the file with its whole text               the same command goes on; it writes `problem.dlx` if that is missing
 
 A folder with anything else in it is another one's, and is left as it is.
+
+A lock file of its own, or a folder that is made elsewhere and renamed, would not do: a folder that is mounted can't be
+renamed.
 """
 
 from __future__ import annotations

@@ -3,6 +3,10 @@ hands out what it left.
 
 It needs an executor of `concurrent.futures`, this machine's processors or another one. Which machine searched a span,
 and how often one was searched in vain, is nothing to the result: any chain of spans whose ends meet is the listing.
+
+The earliest span is handed out first, so the listing comes in its order, and what is done is few files. A level of many
+branches is cut into pieces of many branches. Cut only where a single branch is a hundredth of the span, a first level
+of 9,000 branches was searched by one worker, and the others waited.
 """
 
 from __future__ import annotations

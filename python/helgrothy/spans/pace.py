@@ -1,4 +1,11 @@
-"""How many steps a run is given: by the speed of those before it, and by how long the search has gone on."""
+"""How many steps a run is given: by the speed of those before it, and by how long the search has gone on.
+
+A run takes a third of what each worker is likely to have left, from a fortieth to half of the time so far and from 0.1
+seconds to a second, after hours and elsewhere to 10. To begin one takes 1 or 2 milliseconds of CPU time, the last ones
+to end keep the others waiting, and what a run has done is lost if it is stopped. The cost: ten times as many records in
+the first hours as with 10 seconds always. A program that writes its row when it is told to stop would need a signal
+heard amid the search's loop.
+"""
 
 from __future__ import annotations
 

@@ -6,6 +6,8 @@ its end.
 A tree has `PARTS` parts, and each branch of a node as many of the node's parts as any other one, give or take one. A
 row's place is the number of parts before it. The parts of a branch begin where those of the branch before it end, so
 places never fall from a row to a later one, however deep the rows are, and what is added up is exact.
+
+Floating-point numbers were tried: their last bits let a span end before it begins. Fractions grow with the depth.
 """
 
 from __future__ import annotations

@@ -1,4 +1,9 @@
-"""Workers: this machine's processors, another executor of `concurrent.futures`, or those of Dask."""
+"""Workers: this machine's processors, another executor of `concurrent.futures`, or those of Dask.
+
+Workers elsewhere are an executor, not a queue in a folder with claims and signs of life: engines such as Dask hand out
+work, survive lost workers and show what goes on. The cost: a machine that only sees the folder can't help. It runs
+`dlx-span` between the rows of `helgrothy rows`.
+"""
 
 from __future__ import annotations
 
