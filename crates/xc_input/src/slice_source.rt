@@ -86,6 +86,11 @@ impl<'a> Source for SliceSource<'a> {
 }
 
 /// How many bytes are left. The seed isn't shown.
+    ghost use Rattle.std.specs.Prelude.{◌++◌, Some, codes, length};
+    ghost use Rattle.std.specs.Fmt.{decimal};
+
+    ghost debug_output = { λ s. Some (codes "SliceSource { left: " ++ decimal (length s.left.now) ++ codes " }") };
+
 impl<'a> fmt::Debug for SliceSource<'a> {
     fn fmt<W: fmt::Write>(&self, f: &mut fmt::Formatter<W>) -> fmt::Result {
         let left = self.left.len();

@@ -139,5 +139,11 @@ impl<'a> fmt::Debug for Feed<'a> {
         let left = self.left.len();
         let failures = self.failures;
         write!(f, "Feed {{ left: {left}, failures: {failures} }}")
+    ghost use Rattle.std.specs.Prelude.{◌++◌, Some, codes, length};
+    ghost use Rattle.std.specs.Fmt.{decimal};
+
+    ghost debug_output = { λ s. Some (codes "Feed { left: " ++ decimal (length s.left.now)
+        ++ codes ", failures: " ++ decimal s.failures ++ codes " }") };
+
     }
 }
