@@ -4,8 +4,7 @@ ghost use Rattle.xc_input.specs.Problem.{IsItem};
 use crate::keepers::{after, links};
 use fixtures::{SEVEN, on_one, on_problem};
 use std::alloc::Global;
-use xc_dance::laws::are_equal;
-use xc_dance::{Count, Dance, Full, Links, Memory, Move, list_of};
+use xc_dance::{Dance, Full, Links, Memory, Move, list_of};
 use xc_input::{Kind, Problem};
 
 /// Whether the options of an item's list are these.
@@ -61,10 +60,4 @@ fn errors_and_values_in_words(rt: HostRuntime) {
             are_shown_behind_a_move(alloc, problem, wanted)
         })
     );
-}
-
-#[test]
-fn values_are_equal_or_not(rt: HostRuntime) {
-    let some = (Move::Cover(1), Count(2));
-    assert!(rt; are_equal(&some, &some) && !are_equal(&some, &(Move::Cover(1), Count(3))));
 }

@@ -1,7 +1,6 @@
 //! What is there for callers: sources, items and options in order, names and colours of uses.
 use fixtures::{COLOURED, SEVEN, on_problem, on_source};
-use xc_input::laws::are_equal;
-use xc_input::{Bounds, FaultKind, InputError, Kind, Problem, Seed, SliceSource, Use, place_in};
+use xc_input::{Kind, Problem, Seed, SliceSource, Use, place_in};
 
 #[test]
 fn a_slice_is_read_by_each_seed(rt: HostRuntime) {
@@ -90,29 +89,6 @@ fn first_is_its_copy(problem: &Problem) -> bool {
 #[test]
 fn an_item_is_its_copy(rt: HostRuntime) {
     assert!(rt; on_problem(rt.alloc(), Kind::Plain, SEVEN, first_is_its_copy));
-}
-
-#[test]
-fn values_are_equal_or_not(rt: HostRuntime) {
-    let bounds = Bounds { low: 1, high: 2 };
-    let used = Use { item: 3, colour: 0 };
-    let some = (
-        Kind::Plain,
-        FaultKind::NulByte,
-        InputError::Memory,
-        bounds,
-        used,
-        Seed::FIXED,
-    );
-    let others = (
-        Kind::Plain,
-        FaultKind::NoItems,
-        InputError::Memory,
-        bounds,
-        used,
-        Seed::new(1),
-    );
-    assert!(rt; are_equal(&some, &others) == (true, false, true, true, true, false));
 }
 
 #[test]

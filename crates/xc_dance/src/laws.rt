@@ -1,11 +1,12 @@
 //! What the tables promise of moves and their undoing, as calls whose contracts say it.
-ghost use Rattle.std.specs.Prelude.{◌≡◌, ◌<◌, ◌↔◌, ℕ, List, ◌∷◌, ◌++◌, AllPairs, IfOk, IsTrue, slice_get};
+ghost use Rattle.std.specs.Prelude.{◌≡◌, ◌<◌, ℕ, List, ◌∷◌, ◌++◌, AllPairs, IfOk, slice_get};
+ghost use Rattle.xc_input.specs.Laws.{DecidesEquality, IsEqualClone};
 ghost use Rattle.xc_input.specs.Problem.{Puzzle};
 ghost use Rattle.xc_dance.specs.Moves.{IsLegal, listed_numbers, next_above};
 ghost use Rattle.xc_dance.specs.Same.{IsSame};
 ghost use Rattle.xc_dance.specs.declared.dance.Move.{Move};
 
-use crate::{Count, Dance, Full, Links, Move};
+use crate::{Count, Dance, Field, Full, Links, Move};
 
 /// Makes a legal move and undoes it. Each field of the tables is then what it was, those of nodes
 /// that no list shows included, and both wrote as many cells. The same where the trail was full.
@@ -26,9 +27,16 @@ pub fn lists_rise()
         0 ∷ listed_numbers p t i ≡ front ++ o ∷ back → next_above o (listed_numbers p t i) ≡ slice_get back 0 }
 {}
 
-/// Whether two moves, and two counts, are equal: `==` says so of both.
-pub fn are_equal(a: &(Move, Count), b: &(Move, Count)) -> bool
-    ensures { IsTrue result ↔ (a.now ≡ b.now) }
-{
-    a == b
-}
+/// Two moves, counts or fields are equal exactly if `==` says so.
+pub fn equality()
+    ensures moves { DecidesEquality ⟦<Move as PartialEq>⟧.eq }
+    ensures counts { DecidesEquality ⟦<Count as PartialEq>⟧.eq }
+    ensures fields { DecidesEquality ⟦<Field as PartialEq>⟧.eq }
+{}
+
+/// A clone of a move, a count or a field is equal to it.
+pub fn clones()
+    ensures moves { IsEqualClone ⟦<Move as Clone>⟧.is_clone }
+    ensures counts { IsEqualClone ⟦<Count as Clone>⟧.is_clone }
+    ensures fields { IsEqualClone ⟦<Field as Clone>⟧.is_clone }
+{}

@@ -1,5 +1,8 @@
--- The faults in words.
-use Rattle.std.specs.Prelude.{ℕ, List, [], ◌∷◌, codes, flat_map, if◌then◌else◌}
+-- The faults in words, and why no problem was read.
+use Rattle.std.specs.Prelude.{ℕ, List, [], ◌∷◌, ◌++◌, codes, flat_map, if◌then◌else◌}
+use Rattle.std.specs.Fmt.{decimal}
+use Rattle.xc_input.specs.declared.fault.InputError.{InputError}
+use Rattle.xc_input.specs.declared.fault.InputError.TheVariants.{Fault, Device, Memory}
 use denote.Enum.Bare.{sameb}
 use Rattle.xc_input.specs.contracts.fault.FaultKind.{the_type}
 use Rattle.xc_input.specs.declared.fault.FaultKind.{FaultKind}
@@ -24,3 +27,9 @@ fault_words =
 -- a fault in words: those of its row (`sameb` says whether two faults are the same)
 abbrev pub fault_text : FaultKind → List ℕ
 fault_text fault = flat_map (λ row. if sameb the_type fault row.0 then row.1 else []) fault_words
+
+-- why no problem was read, in words
+abbrev pub error_text : InputError → List ℕ
+error_text (Fault line fault) = codes "line " ++ decimal line ++ codes ": " ++ fault_text fault
+error_text Device = codes "a read failed"
+error_text Memory = codes "out of memory"

@@ -1,13 +1,12 @@
 //! What is wrong with a text, and why no problem was read.
 
 ghost use Rattle.std.specs.Prelude.{◌≡◌};
-ghost use Rattle.xc_input.specs.FaultTexts.{fault_text};
+ghost use Rattle.xc_input.specs.FaultTexts.{fault_text, error_text};
 ghost use Rattle.xc_input.specs.declared.fault.InputError.TheVariants.{Device, Memory};
 
 use crate::source::ReadFailed;
 use std::alloc::AllocError;
 use std::fmt;
-use thiserror::Error;
 
 /// What is wrong with a line.
 #[derive(Clone, Copy, Debug, PartialEq, Eq, Hash)]
@@ -89,18 +88,31 @@ impl fmt::Display for FaultKind {
 impl std::error::Error for FaultKind {}
 
 /// Why no problem was read.
-#[derive(Clone, Copy, Debug, PartialEq, Eq, Error)]
+#[derive(Clone, Copy, Debug, PartialEq, Eq)]
 pub enum InputError {
     /// A line has a fault. Lines are counted from 1.
-    #[error("line {line}: {kind}")]
     Fault { line: u64, kind: FaultKind },
     /// A read of the source failed.
-    #[error("a read failed")]
     Device,
     /// Memory is out.
-    #[error("out of memory")]
     Memory,
 }
+
+impl fmt::Display for InputError {
+    ghost use Rattle.std.specs.Prelude.{Some};
+
+    ghost output = { λ error. Some (error_text error) };
+
+    fn fmt<W: fmt::Write>(&self, f: &mut fmt::Formatter<W>) -> fmt::Result {
+        match *self {
+            InputError::Fault { line, kind } => write!(f, "line {line}: {kind}"),
+            InputError::Device => f.write_str("a read failed"),
+            InputError::Memory => f.write_str("out of memory"),
+        }
+    }
+}
+
+impl std::error::Error for InputError {}
 
 impl From<ReadFailed> for InputError {
     ghost from_gives = { λ _ e. e ≡ Device };

@@ -1,11 +1,13 @@
 //! What holds of every text.
 
-ghost use Rattle.std.specs.Prelude.{◌≡◌, ◌↔◌, IsTrue};
+ghost use Rattle.std.specs.Prelude.{◌↔◌, IsTrue};
+ghost use Rattle.xc_input.specs.declared.faulty.FaultyToken.{FaultyToken};
+ghost use Rattle.xc_input.specs.declared.problem.Item.{Item};
 ghost use Rattle.xc_input.specs.Laws.{FaultlessStand, StandForOne, StandAlso, TokensAgree};
-ghost use Rattle.xc_input.specs.Laws.{HaveTexts};
+ghost use Rattle.xc_input.specs.Laws.{HaveTexts, DecidesEquality, IsEqualClone, IsSameItem, IsSameToken};
 ghost use Rattle.xc_input.specs.declared.kind.Kind.TheVariants.{Plain, Colours, Bounds};
 
-use crate::{FaultKind, InputError, Kind, Seed, Use};
+use crate::{FaultKind, FaultyToken, FoldingHasher, InputError, Item, Kind, Seed, Use};
 
 /// A text has a first fault or stands for one problem, and never both. It ties the checks to the grammar, so that a
 /// slip in one of the two, which nothing else would show, breaks a proof.
@@ -34,24 +36,27 @@ pub fn tokens_agree()
     ensures { TokensAgree }
 {}
 
-/// Which of two values of each of these types are equal, as `==` says.
-pub fn are_equal(
-    a: &(Kind, FaultKind, InputError, crate::Bounds, Use, Seed),
-    b: &(Kind, FaultKind, InputError, crate::Bounds, Use, Seed),
-) -> (bool, bool, bool, bool, bool, bool)
-    ensures kinds { IsTrue result.0 ↔ (a.now.0 ≡ b.now.0) }
-    ensures faults { IsTrue result.1 ↔ (a.now.1 ≡ b.now.1) }
-    ensures errors { IsTrue result.2 ↔ (a.now.2 ≡ b.now.2) }
-    ensures bounds { IsTrue result.3 ↔ (a.now.3 ≡ b.now.3) }
-    ensures uses { IsTrue result.4 ↔ (a.now.4 ≡ b.now.4) }
-    ensures seeds { IsTrue result.5 ↔ (a.now.5 ≡ b.now.5) }
-{
-    (
-        a.0 == b.0,
-        a.1 == b.1,
-        a.2 == b.2,
-        a.3 == b.3,
-        a.4 == b.4,
-        a.5 == b.5,
-    )
-}
+/// Two values of any of these types are equal exactly if `==` says so.
+pub fn equality<'a>()
+    ensures kinds { DecidesEquality ⟦<Kind as PartialEq>⟧.eq }
+    ensures faults { DecidesEquality ⟦<FaultKind as PartialEq>⟧.eq }
+    ensures errors { DecidesEquality ⟦<InputError as PartialEq>⟧.eq }
+    ensures tokens { (a b : FaultyToken) → IsTrue (⟦<FaultyToken<'a> as PartialEq>⟧.eq a b) ↔ IsSameToken a b }
+    ensures bounds { DecidesEquality ⟦<crate::Bounds as PartialEq>⟧.eq }
+    ensures items { (a b : Item) → IsTrue (⟦<Item as PartialEq>⟧.eq a b) ↔ IsSameItem a b }
+    ensures uses { DecidesEquality ⟦<Use as PartialEq>⟧.eq }
+    ensures seeds { DecidesEquality ⟦<Seed as PartialEq>⟧.eq }
+{}
+
+/// A clone of a value of any of these types is equal to it.
+pub fn clones<'a>()
+    ensures kinds { IsEqualClone ⟦<Kind as Clone>⟧.is_clone }
+    ensures faults { IsEqualClone ⟦<FaultKind as Clone>⟧.is_clone }
+    ensures errors { IsEqualClone ⟦<InputError as Clone>⟧.is_clone }
+    ensures tokens { IsEqualClone ⟦<FaultyToken<'a> as Clone>⟧.is_clone }
+    ensures bounds { IsEqualClone ⟦<crate::Bounds as Clone>⟧.is_clone }
+    ensures items { (a b : Item) → ⟦<Item as Clone>⟧.is_clone a b → IsSameItem a b }
+    ensures uses { IsEqualClone ⟦<Use as Clone>⟧.is_clone }
+    ensures seeds { IsEqualClone ⟦<Seed as Clone>⟧.is_clone }
+    ensures hashers { IsEqualClone ⟦<FoldingHasher as Clone>⟧.is_clone }
+{}

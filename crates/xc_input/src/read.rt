@@ -4,7 +4,7 @@ ghost use Rattle.std.specs.Prelude.{◌≡◌, ◌<◌, ◌++◌, [], ◌∷◌,
 ghost use Rattle.std.specs.Result.{result_err};
 ghost use Rattle.xc_input.specs.Words.{has};
 ghost use Rattle.xc_input.specs.Named.{IsSound};
-ghost use Rattle.xc_input.specs.inner.Feeding.{fed, IsBetween, Spoils, Ended, EndsAs};
+ghost use Rattle.xc_input.specs.inner.Feeding.{fed, IsBetween, Spoils, Ended, EndsAs, read_size};
 ghost use Rattle.xc_input.specs.Lines.{lines_of};
 ghost use Rattle.xc_input.specs.Pieces.{GaveAll, IsWhole, IsPart};
 
@@ -43,7 +43,7 @@ fn read_through<S: Source>(
     carry: &mut Vec<u8>,
     mut reader: Reader,
 ) -> Result<Read, InputError>
-    requires room { 0 < length buf.old }
+    requires room { length buf.old ≡ read_size }
     requires state { IsBetween reader carry.old.items }
     requires nothing { fed reader carry.old.items ≡ [] }
     ensures valid { IfOk result (λ r. IsSound r.problem) }
@@ -62,7 +62,7 @@ fn feed_all<S: Source>(
     carry: &mut Vec<u8>,
     reader: &mut Reader,
 ) -> Result<(), InputError>
-    requires room { 0 < length buf.old }
+    requires room { length buf.old ≡ read_size }
     requires state { IsBetween reader.old carry.old.items }
     requires nothing { fed reader.old carry.old.items ≡ [] }
     ensures kind { reader.new.kind ≡ reader.old.kind }
@@ -80,10 +80,10 @@ fn feed_all<S: Source>(
 }
 
 /// A buffer of zeros.
-// `xc_tools/src/whole_text.rt` has the same: six lines twice are less than a public call that has nothing to do with
+// `xc_tools/src/piece.rt` has the same: six lines twice are less than a public call that has nothing to do with
 // problems.
 fn buffer(alloc: Global) -> Result<Vec<u8>, AllocError>
-    ensures { IfOk result (λ v. length v.items ≡ PIECE) }
+    ensures { IfOk result (λ v. length v.items ≡ read_size) }
 {
     vec![in alloc; 0; PIECE]
 }

@@ -152,16 +152,26 @@ impl Reader {
     }
 }
 
-/// Its kind, how many lines it took, and its error. Names and the seed aren't shown.
+/// Its kind, how many lines it took, and its error, if it met one. Names and the seed aren't shown.
 impl fmt::Debug for Reader {
+    ghost use Rattle.std.specs.Prelude.{◌++◌, Some, codes, length};
+    ghost use Rattle.std.specs.Fmt.{decimal};
+    ghost use Rattle.xc_input.specs.FirstFault.{line_number};
+    ghost use Rattle.xc_input.specs.Readings.{kind_name, shown_error};
+
+    ghost debug_output = { λ r. Some (codes "Reader { kind: " ++ kind_name r.kind ++ codes ", lines: "
+        ++ decimal (line_number (length r.lines)) ++ shown_error r.error ++ codes " }") };
+
     fn fmt<W: fmt::Write>(&self, f: &mut fmt::Formatter<W>) -> fmt::Result {
         let kind = self.kind;
         let lines = self.count;
-        let error = self.error;
-        write!(
-            f,
-            "Reader {{ kind: {kind:?}, lines: {lines}, error: {error:?} }}"
-        )
+        match self.error {
+            None => write!(f, "Reader {{ kind: {kind:?}, lines: {lines} }}"),
+            Some(error) => write!(
+                f,
+                "Reader {{ kind: {kind:?}, lines: {lines}, error: {error} }}"
+            ),
+        }
     }
 }
 

@@ -36,6 +36,8 @@ impl<S: Source> Seeded<S> {
 impl<S: Source> Source for Seeded<S> {
     ghost state = { λ s. S.state s.source };
 
+    ghost reads = { λ old before new after result. S.reads old.source before new.source after result };
+
     fn read(&mut self, buf: &mut [u8]) -> Result<usize, ReadFailed>
         requires { 0 < length buf.old }
         ensures bound { IfOk result (λ n. n ≤ length buf.new) }
@@ -47,6 +49,7 @@ impl<S: Source> Source for Seeded<S> {
         ensures given { IfOk result (λ n.
             (S.state self.new.source).given ≡ (S.state self.old.source).given ++ take n buf.new ∷ []) }
         ensures given_kept { OnErr result ((S.state self.new.source).given ≡ (S.state self.old.source).given) }
+        ensures reads { S.reads self.old.source buf.old self.new.source buf.new result }
         ensures seed { self.new.seed ≡ self.old.seed }
     {
         self.source.read(buf)

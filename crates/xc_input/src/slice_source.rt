@@ -5,7 +5,7 @@
 ghost use Rattle.std.specs.Prelude.{◌≡◌, ◌+◌, ◌<◌, ◌≤◌, [], ◌∷◌, ◌++◌, take, drop, Some, length, min, IfOk, IsOk};
 ghost use Rattle.std.specs.Prelude.{OnErr, is_err};
 ghost use Rattle.std.specs.Io.KnownBytes.{ReadConsumes};
-ghost use Rattle.xc_input.specs.Calls.{counted};
+ghost use Rattle.xc_input.specs.Calls.{counted, GivesMost};
 
 use crate::given::Given;
 use crate::seed::Seed;
@@ -55,6 +55,9 @@ impl<'a> Source for SliceSource<'a> {
       given = s.given.lines;
     } };
 
+    ghost reads = { λ old before new after result. IsOk result
+        × GivesMost (length old.left.now) before after result };
+
     fn read(&mut self, buf: &mut [u8]) -> Result<usize, ReadFailed>
         requires { 0 < length buf.old }
         ensures bound { IfOk result (λ n. n ≤ length buf.new) }
@@ -65,11 +68,7 @@ impl<'a> Source for SliceSource<'a> {
         ensures given { IfOk result (λ n.
             self.new.given.lines ≡ self.old.given.lines ++ take n buf.new ∷ []) }
         ensures given_kept { OnErr result (self.new.given.lines ≡ self.old.given.lines) }
-
-        // No call fails, and each returns as much as it may, and leaves the buffer after that as it was.
-        ensures succeeds { IsOk result }
-        ensures gives { IfOk result (λ n. n ≡ min (length self.old.left.now) (length buf.old)) }
-        ensures after { IfOk result (λ n. drop n buf.new ≡ drop n buf.old) }
+        ensures reads { IsOk result × GivesMost (length self.old.left.now) buf.old buf.new result }
         ensures seed { self.new.seed ≡ self.old.seed }
     {
         let all = self.left;
@@ -89,6 +88,11 @@ impl<'a> Source for SliceSource<'a> {
 
 /// How many bytes are left. The seed isn't shown.
 impl<'a> fmt::Debug for SliceSource<'a> {
+    ghost use Rattle.std.specs.Prelude.{◌++◌, Some, codes, length};
+    ghost use Rattle.std.specs.Fmt.{decimal};
+
+    ghost debug_output = { λ s. Some (codes "SliceSource { left: " ++ decimal (length s.left.now) ++ codes " }") };
+
     fn fmt<W: fmt::Write>(&self, f: &mut fmt::Formatter<W>) -> fmt::Result {
         let left = self.left.len();
         write!(f, "SliceSource {{ left: {left} }}")

@@ -8,10 +8,11 @@
 //! aren't known before they are read.
 
 ghost use Rattle.std.specs.Prelude.{◌≡◌, ◌+◌, ◌-◌, ◌<◌, ◌≤◌, ◌↔◌, ℕ, List, [], ◌∷◌, ◌++◌, take, drop, Option, Some};
-ghost use Rattle.std.specs.Prelude.{length, min, IfOk, IsErr, IsTrue, OnErr, is_err};
+ghost use Rattle.std.specs.Prelude.{Result, length, min, IfOk, IsErr, IsTrue, OnErr, is_err};
 ghost use Rattle.std.specs.Io.KnownBytes.{ReadConsumes};
-ghost use Rattle.xc_input.specs.Calls.{counted, fewer_calls};
+ghost use Rattle.xc_input.specs.Calls.{counted, fewer_calls, GivesMost};
 ghost use Rattle.xc_input.specs.Pieces.{SourceState};
+ghost use Rattle.xc_input.specs.declared.source.ReadFailed.{ReadFailed};
 
 use crate::given::Given;
 use crate::seed::Seed;
@@ -28,6 +29,10 @@ pub trait Source {
     /// What contracts know of it: its failures, how many bytes may still come, and which came.
     ghost state: { Self → SourceState };
 
+    /// What else holds of a read of this source: of the source and the buffer before, of both after, and of the
+    /// result.
+    ghost reads: { Self → List ℕ → Self → List ℕ → Result ℕ ReadFailed → Type 0 } = { λ _ _ _ _ _. Unit {0} };
+
     /// Reads into the front of the buffer, and says how many bytes. 0 is the end of the input.
     fn read(&mut self, buf: &mut [u8]) -> Result<usize, ReadFailed>
         requires { 0 < length buf.old }
@@ -37,7 +42,8 @@ pub trait Source {
         ensures failures { (state self.new).failures ≡ counted (is_err result) (state self.old).failures }
         ensures bytes { ReadConsumes (state self.old).rest (state self.new).rest result buf.new }
         ensures given { IfOk result (λ n. (state self.new).given ≡ (state self.old).given ++ take n buf.new ∷ []) }
-        ensures given_kept { OnErr result ((state self.new).given ≡ (state self.old).given) };
+        ensures given_kept { OnErr result ((state self.new).given ≡ (state self.old).given) }
+        ensures reads { reads self.old buf.old self.new buf.new result };
 
     /// The seed by which the names and colours in its text are hashed: the fixed one, unless the source
     /// says otherwise, as those of the programs do, whose texts may be written to be slow.
@@ -104,6 +110,9 @@ impl<'a> Source for Feed<'a> {
       given = s.given.lines;
     } };
 
+    ghost reads = { λ old before new after result. (IsErr result ↔ (old.calls_to_failure ≡ Some 1))
+        × GivesMost (min (length old.left.now) old.step) before after result };
+
     fn read(&mut self, buf: &mut [u8]) -> Result<usize, ReadFailed>
         requires { 0 < length buf.old }
         ensures bound { IfOk result (λ n. n ≤ length buf.new) }
@@ -115,16 +124,11 @@ impl<'a> Source for Feed<'a> {
             self.new.given.lines ≡ self.old.given.lines ++ take n buf.new ∷ []) }
         ensures given_kept { OnErr result (self.new.given.lines ≡ self.old.given.lines) }
 
-        // The call that is to fail does, and no other; the others return as much as they may.
-        ensures fails { IsErr result ↔ (self.old.calls_to_failure ≡ Some 1) }
-        ensures gives { IfOk result (λ n.
-            n ≡ min (min (length self.old.left.now) self.old.step) (length buf.old)) }
+        // The call that is to fail does, and no other.
+        ensures reads { (IsErr result ↔ (self.old.calls_to_failure ≡ Some 1))
+            × GivesMost (min (length self.old.left.now) self.old.step) buf.old buf.new result }
         ensures nearer { self.new.calls_to_failure ≡ fewer_calls self.old.calls_to_failure }
         ensures step { self.new.step ≡ self.old.step }
-
-        // What the buffer has after the bytes that a call gives stays as it was, and so does all of it at a failure.
-        ensures after { IfOk result (λ n. drop n buf.new ≡ drop n buf.old) }
-        ensures buf_kept { OnErr result (buf.new ≡ buf.old) }
     {
         if self.fails_now() {
             self.failures = self.failures.saturating_add(1);
@@ -141,6 +145,12 @@ impl<'a> Source for Feed<'a> {
 
 /// How many bytes are left, and how many calls failed.
 impl<'a> fmt::Debug for Feed<'a> {
+    ghost use Rattle.std.specs.Prelude.{◌++◌, Some, codes, length};
+    ghost use Rattle.std.specs.Fmt.{decimal};
+
+    ghost debug_output = { λ s. Some (codes "Feed { left: " ++ decimal (length s.left.now)
+        ++ codes ", failures: " ++ decimal s.failures ++ codes " }") };
+
     fn fmt<W: fmt::Write>(&self, f: &mut fmt::Formatter<W>) -> fmt::Result {
         let left = self.left.len();
         let failures = self.failures;

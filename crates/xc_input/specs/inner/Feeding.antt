@@ -12,6 +12,10 @@ use Rattle.xc_input.specs.Readings.{Reading, IsErrorFor}
 use Rattle.xc_input.specs.Lines.{lines_of}
 use Rattle.xc_input.specs.inner.EndedLines.{ended, AreWhole}
 
+-- how many bytes a source is asked for at once
+abbrev pub read_size : ℕ
+read_size = 65536
+
 -- an error of the lines so far
 abbrev pub IsErrorOf : Kind → List (List ℕ) → InputError → Type 0
 IsErrorOf kind lines e = IsErrorFor (line_fault kind lines) e
