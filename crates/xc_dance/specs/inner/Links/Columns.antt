@@ -1,7 +1,7 @@
 -- No public clause cites this module. The two tables as contracts see them: column by column, however their cells lie
 -- in memory, and how often these were written.
 use Rattle.std.specs.Prelude.{ℕ, ◌+◌, List, map, sum_by}
-use Rattle.xc_dance.specs.declared.links.cells.Cell.{Cell}
+use Rattle.xc_dance.specs.declared.links.cells.cell.Cell.{Cell}
 use Rattle.xc_dance.specs.declared.links.cells.Link.{Link}
 
 -- the four columns of the node table, a number for each place

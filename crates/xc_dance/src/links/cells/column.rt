@@ -75,7 +75,7 @@ impl Column {
         requires { place < length (values self.now.cells.items) }
         ensures { result ≡ slice_index (values self.now.cells.items) place }
     {
-        self.cells[place].value
+        self.cells[place].get()
     }
 
     /// What is in the cell at a place, if there is one.

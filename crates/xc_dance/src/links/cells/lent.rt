@@ -57,7 +57,7 @@ impl Cells<'_> {
         requires { place < length (values self.now.cells.now) }
         ensures { result ≡ slice_index (values self.now.cells.now) place }
     {
-        self.cells[place].value
+        self.cells[place].get()
     }
 }
 
@@ -87,7 +87,8 @@ impl CellsMut<'_> {
         requires { place < length (values self.now.cells.now) }
         ensures { result ≡ slice_index (values self.now.cells.now) place }
     {
-        self.cells[place].value
+        let cells = &*self.cells;
+        cells[place].get()
     }
 
     /// Writes one cell.
@@ -130,7 +131,8 @@ impl LinksMut<'_> {
         requires { place < length (ups self.now.links.now) }
         ensures { result ≡ slice_index (ups self.now.links.now) place }
     {
-        self.links[place].up.value
+        let links = &*self.links;
+        links[place].up.get()
     }
 
     /// Where the link at a place leads downwards.
@@ -148,7 +150,8 @@ impl LinksMut<'_> {
         requires { place < length (downs self.now.links.now) }
         ensures { result ≡ slice_index (downs self.now.links.now) place }
     {
-        self.links[place].down.value
+        let links = &*self.links;
+        links[place].down.get()
     }
 
     /// Writes where the link at a place leads upwards.

@@ -43,7 +43,7 @@ impl LinkColumn {
         requires { place < length (ups self.now.links.items) }
         ensures { result ≡ slice_index (ups self.now.links.items) place }
     {
-        self.links[place as usize].up.value
+        self.links[place as usize].up.get()
     }
 
     /// Where the link at a place leads downwards.
@@ -52,7 +52,7 @@ impl LinkColumn {
         requires { place < length (downs self.now.links.items) }
         ensures { result ≡ slice_index (downs self.now.links.items) place }
     {
-        self.links[place as usize].down.value
+        self.links[place as usize].down.get()
     }
 
     /// Writes where the link at a place leads upwards.

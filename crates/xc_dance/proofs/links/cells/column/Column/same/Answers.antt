@@ -3,8 +3,8 @@ use Rattle.std.proofs.Common.{◌≡◌, ◌&&◌, eqb, List, [], ◌∷◌, ref
 use Rattle.std.specs.Str.{bytes_eq}
 use Rattle.std.specs.Cmp.Lexicographic.{pointwise}
 use Rattle.std.proofs.lemmas.Slice.Eq.{bytes_eq-Decides}
-use Rattle.xc_dance.specs.declared.links.cells.Cell.{Cell}
-use Rattle.xc_dance.specs.contracts.links.cells.CellPartialEq.TheImpl.{ghosts}
+use Rattle.xc_dance.specs.declared.links.cells.cell.Cell.{Cell}
+use Rattle.xc_dance.specs.contracts.links.cells.cell.CellPartialEq.TheImpl.{ghosts}
 use Rattle.xc_dance.specs.inner.Links.Columns.{values}
 use Rattle.xc_dance.proofs.links.cells.column.Column.same.Goals as goal
 
