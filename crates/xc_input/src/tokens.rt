@@ -102,8 +102,7 @@ pub struct Token<'a> {
 }
 
 /// A token that begins with the name of a place, and what is left after it: none where what is there
-/// after the name goes on without a colon. So the name of a coloured use is guessed too: reading such uses took half
-/// as many instructions more when it was looked up.
+/// after the name goes on without a colon. So the name of a coloured use is guessed too.
 #[inline]
 fn cut_behind<'a>(name: &'a [u8], at: usize, behind: &'a [u8]) -> Option<(Token<'a>, &'a [u8])>
     ensures name { IfSome result (λ p. (p.0.name.now ≡ name.now) × (p.0.place ≡ Some at)) }
