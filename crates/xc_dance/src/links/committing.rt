@@ -100,7 +100,7 @@ impl Links {
         ensures written { HasWritten self.old self.new }
         ensures memory { self.new.capacity ≡ self.old.capacity }
     {
-        // Of the tables it is known that a place is after that of a node.
+        // A use of the tables brings their invariant into the proof, by which `place + 1` doesn't overflow.
         let _ = &self.nodes;
         let mut q = place + 1;
         while self.nodes.top(q) < SPACER {
