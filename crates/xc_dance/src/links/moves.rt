@@ -71,7 +71,7 @@ pub(crate) fn unmake(
             let covered = items.is_off(i);
             nodes.untweak(spans, covered, x, marks)
         }
-        Move::Cover(_) | Move::Spend(_) => 0,
+        Move::Cover(_) | Move::Spend(_) => unreachable!(),
     }
 }
 
