@@ -1,7 +1,8 @@
 -- How many moves of a search are on the trail at most.
-use Rattle.std.specs.Prelude.{ℕ, ◌+◌, ◌*◌}
-use Rattle.xc_input.specs.Problem.{Puzzle, item_count, use_count}
+use Rattle.std.specs.Prelude.{ℕ}
+use Rattle.xc_input.specs.Problem.{Puzzle}
+use Rattle.xc_dance.specs.Dancing.{search_room}
 
--- no more moves are on the trail at once in a search: twice the items and twice the uses
+-- the room of a dance that a search never fills
 abbrev pub room_for : Puzzle → ℕ
-room_for p = 2 * item_count p + 2 * use_count p.options
+room_for p = search_room p
