@@ -7,6 +7,7 @@ pub mod NextPrinted
 pub mod Outputs
 pub mod KeptLines
 pub mod PageLemmas
+pub mod ProblemNumbers
 pub mod DigestStates
 pub mod RowTexts
 pub mod SmallRows
