@@ -1,6 +1,5 @@
 """Random problems of all kinds, as texts, and their digests."""
 
-import hashlib
 import math
 import random
 
@@ -34,30 +33,43 @@ def problem_of(rng: random.Random, kind: int, items: int = 7, options: int = 18,
     return ("\n".join(lines) + rng.choice(["\n", "\n", ""])).encode()
 
 
-def plain(problem: bytes) -> bytes:
-    """A text without fault as it was read: all bounds, one blank before each word, and nothing that is passed over."""
+def numbers_of(problem: bytes) -> list[int]:
+    """What a text without fault stands for, as numbers: the bounds of the primary items, the names of all items, the
+    colours in the order in which options have them first, and the options. Each list comes after its length, and a use
+    is one number."""
     lines = [line for line in problem.split(b"\n") if line.strip() and not line.lstrip().startswith(b"|")]
-    items: list = [b""]
-    is_primary, names = True, set()
+    bounds: list[list[int]] = []
+    places: dict[bytes, int] = {}
+    is_primary = True
     for token in lines[0].replace(b" |", b" | ").replace(b"\t|", b" | ").split():
         if token == b"|":
             is_primary = False
-            items.append(token)
-        elif is_primary:
-            bounds, _, name = token.rpartition(b"|")
-            low, _, high = (bounds or b"1").rpartition(b":")
-            names.add(name)
-            items.append(b"%d:%d|%s" % (int(low or high), int(high), name))
-        else:
-            items.append(token)
-    items += [b"|"] if is_primary else []
-    kept = [line.split() for line in lines[1:] if not names.isdisjoint(line.split())]
-    return b"".join(b" ".join(words) + b"\n" for words in (items, *([b"", *uses] for uses in kept)))
+            continue
+        given, _, name = token.rpartition(b"|")
+        places[name] = len(places) + 1
+        if is_primary:
+            low, _, high = (given or b"1").rpartition(b":")
+            bounds.append([int(low or high), int(high)])
+    colours: dict[bytes, int] = {}
+    options = []
+    for line in lines[1:]:
+        uses = [word.partition(b":") for word in line.split()]
+        if any(places[name] <= len(bounds) for name, _, _ in uses):
+            found = (colours.setdefault(colour, len(colours) + 1) if colour else 0 for _, _, colour in uses)
+            options.append([places[name] + (number << 32) for (name, _, _), number in zip(uses, found)])
+    numbers = [len(bounds), *(number for pair in bounds for number in pair)]
+    for parts in (list(places), list(colours), options):
+        numbers += [len(parts), *(number for part in parts for number in (len(part), *part))]
+    return numbers
 
 
 def digest_of(problem: bytes) -> str:
-    """A problem's digest, as the texts of its spans have it."""
-    return hashlib.sha256(plain(problem)).hexdigest()[:16]
+    """A problem's digest, as the texts of its spans have it: its numbers hashed by folded multiplication."""
+    state = 0x243F6A8885A308D3
+    for number in numbers_of(problem):
+        product = (state ^ number) * 0x9E3779B97F4A7C15
+        state = product % 2**64 ^ product >> 64
+    return f"{state:016x}"
 
 
 def narrow(rng: random.Random, queens: int) -> bytes:

@@ -1,5 +1,5 @@
 //! Tests of listings: runs over live lists, over linked tables and over a keeper that counts, what they list, how they
-//! end and which moves they make; lines, problems, solutions and spans; and what is there for callers. They use public
+//! end and which moves they make; digests, lines, solutions and spans; and what is there for callers. They use public
 //! calls alone, so they are on top, where no library is proved a second time for them.
 #![tactic(auto)]
 
@@ -17,11 +17,11 @@ mod listing;
 #[cfg(test)]
 mod counting_keeper;
 
-// Lines, problems, solutions and spans.
+// Digests, lines, solutions and spans.
+#[cfg(test)]
+mod digests;
 #[cfg(test)]
 mod lines;
-#[cfg(test)]
-mod problem_texts;
 #[cfg(test)]
 mod spans;
 #[cfg(test)]

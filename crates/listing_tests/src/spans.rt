@@ -54,44 +54,43 @@ fn are_written(alloc: Global, kind: Kind, text: &[u8], words: &[&[u8]], wanted: 
     })
 }
 
-/// Words, and what is written of three equal options. The digest is that of their problem's text, computed elsewhere:
-/// `problem_texts.rt` has it.
+/// Words, and what is written of three equal options. Their problem's digest is in `digests.rt`.
 const SPANS: [(&[&[u8]], &[u8]); 8] = [
     (
         &[b"m1", b"0", b"-", b"-"],
-        b"from - problem f398ce4ab5e57227\n1:\n A (1 of 3)\n2:\n A (2 of 3)\n3:\n A (3 of 3)\n\
-        from - until - solutions 3 steps 3 problem f398ce4ab5e57227\n",
+        b"from - problem 12589a6a85a80440\n1:\n A (1 of 3)\n2:\n A (2 of 3)\n3:\n A (3 of 3)\n\
+        from - until - solutions 3 steps 3 problem 12589a6a85a80440\n",
     ),
     (
         &[b"m1", b"0", b"02", b"3"],
-        b"from 2 problem f398ce4ab5e57227\n1:\n A (2 of 3)\n\
-        from 2 until 3 solutions 1 steps 1 problem f398ce4ab5e57227\n",
+        b"from 2 problem 12589a6a85a80440\n1:\n A (2 of 3)\n\
+        from 2 until 3 solutions 1 steps 1 problem 12589a6a85a80440\n",
     ),
     (
         &[b"m1", b"2", b"-", b"-"],
-        b"from - problem f398ce4ab5e57227\n1:\n A (1 of 3)\n\
-        from - until 2 of 3 solutions 1 steps 2 problem f398ce4ab5e57227\n",
+        b"from - problem 12589a6a85a80440\n1:\n A (1 of 3)\n\
+        from - until 2 of 3 solutions 1 steps 2 problem 12589a6a85a80440\n",
     ),
     (
         &[b"m1", b"1", b"-", b"-"],
-        b"from - problem f398ce4ab5e57227\n\
-        from - until 1 of 3 solutions 0 steps 1 problem f398ce4ab5e57227\n",
+        b"from - problem 12589a6a85a80440\n\
+        from - until 1 of 3 solutions 0 steps 1 problem 12589a6a85a80440\n",
     ),
     (
         &[b"m0", b"2", b"-", b"-"],
-        b"from - until 2 of 3 solutions 1 steps 2 problem f398ce4ab5e57227\n",
+        b"from - until 2 of 3 solutions 1 steps 2 problem 12589a6a85a80440\n",
     ),
     (
         &[b"m0", b"0", b"1.0", b"1.0"],
-        b"from 1.0 until 1.0 solutions 0 steps 0 problem f398ce4ab5e57227\n",
+        b"from 1.0 until 1.0 solutions 0 steps 0 problem 12589a6a85a80440\n",
     ),
     (
         &[b"m0", b"0", b"1.4294967295", b"-"],
-        b"from 1.4294967295 until - solutions 2 steps 1 problem f398ce4ab5e57227\n",
+        b"from 1.4294967295 until - solutions 2 steps 1 problem 12589a6a85a80440\n",
     ),
     (
         &[b"m0", b"0", b"4", b"-"],
-        b"from 4 until - solutions 0 steps 0 problem f398ce4ab5e57227\n",
+        b"from 4 until - solutions 0 steps 0 problem 12589a6a85a80440\n",
     ),
 ];
 
@@ -105,7 +104,7 @@ fn spans_of_three(rt: HostRuntime) {
 
 #[test]
 fn rows_of_two_choices(rt: HostRuntime) {
-    let record = b"from 1.2 until 2.1 of 2.1 solutions 1 steps 3 problem 0a70bcc497137bc6\n";
+    let record = b"from 1.2 until 2.1 of 2.1 solutions 1 steps 3 problem 18dfe1040992a59e\n";
     assert!(rt;
         are_written(
             rt.alloc(),

@@ -27,24 +27,24 @@ const SPANS: [(&[&[u8]], &[u8], &[u8]); 4] = [
     (
         &[b"1", b"m1", b"0", b"-", b"-"],
         SEVEN,
-        b"from - problem 09060b2cece8b0a3\n1:\n a d f (2 of 2)\n b g (1 of 1)\n c e (1 of 1)\n\
-        from - until - solutions 1 steps 5 problem 09060b2cece8b0a3\n",
+        b"from - problem 5f4feb9a050fe0f5\n1:\n a d f (2 of 2)\n b g (1 of 1)\n c e (1 of 1)\n\
+        from - until - solutions 1 steps 5 problem 5f4feb9a050fe0f5\n",
     ),
     (
         &[b"1", b"m0", b"3", b"-", b"2.1"],
         SEVEN,
-        b"from - until 2 of 2 solutions 0 steps 3 problem 09060b2cece8b0a3\n",
+        b"from - until 2 of 2 solutions 0 steps 3 problem 5f4feb9a050fe0f5\n",
     ),
     (
         &[b"2", b"m0", b"0", b"2", b"-"],
         THREE_ALIKE,
-        b"from 2 until - solutions 2 steps 1 problem f398ce4ab5e57227\n",
+        b"from 2 until - solutions 2 steps 1 problem 12589a6a85a80440\n",
     ),
     (
         &[b"3", b"m1", b"0", b"2.1", b"3"],
         TWICE,
-        b"from 2.1 problem 0a70bcc497137bc6\n1:\n A B (2 of 2)\n null A (1 of 1)\n\
-        from 2.1 until 3 solutions 1 steps 0 problem 0a70bcc497137bc6\n",
+        b"from 2.1 problem 18dfe1040992a59e\n1:\n A B (2 of 2)\n null A (1 of 1)\n\
+        from 2.1 until 3 solutions 1 steps 0 problem 18dfe1040992a59e\n",
     ),
 ];
 
@@ -117,9 +117,9 @@ fn fails_over(alloc: Global, room: usize, out: &[u8]) -> bool {
 
 #[test]
 fn spans_whose_write_fails(rt: HostRuntime) {
-    let first = b"from - problem f398ce4ab5e57227\n1:\n A (";
+    let first = b"from - problem 12589a6a85a80440\n1:\n A (";
     assert!(rt; fails_over(rt.alloc(), first.len(), first));
-    let second = b"from - problem f398ce4ab5e57227\n1:\n A (1 of 3)\n2:\n A (";
+    let second = b"from - problem 12589a6a85a80440\n1:\n A (1 of 3)\n2:\n A (";
     assert!(rt; fails_over(rt.alloc(), second.len(), second));
 }
 

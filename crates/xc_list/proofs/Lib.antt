@@ -7,7 +7,8 @@ pub mod NextPrinted
 pub mod Outputs
 pub mod KeptLines
 pub mod PageLemmas
-pub mod ProblemLines
+pub mod ProblemNumbers
+pub mod DigestStates
 pub mod RowTexts
 pub mod SmallRows
 pub mod SpanGoing

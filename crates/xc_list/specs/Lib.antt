@@ -4,7 +4,6 @@ pub mod Listed
 pub mod ListingLines
 pub mod Messages
 pub mod Output
-pub mod ProblemTexts
 pub mod Runs
 pub mod SearchedSpans
 pub mod Settings

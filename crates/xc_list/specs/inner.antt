@@ -2,8 +2,8 @@
 pub mod Checking
 pub mod Classes
 pub mod CoverCounts
+pub mod DigestParts
 pub mod Ends
-pub mod Hashed
 pub mod Layout
 pub mod OptionIndex
 pub mod Pages

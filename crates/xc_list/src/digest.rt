@@ -1,104 +1,131 @@
 //! The digest of a problem, by which the text of a span names it.
-ghost use Rattle.std.specs.Prelude.{◌≡◌, ◌+◌, ◌≤◌, true, false, [], Some, length, take};
-ghost use Rattle.std.specs.Prelude.{IfOk, IsTrue, OnOk, is_err};
-ghost use Rattle.std.specs.Io.KnownBytes.{WriteAppends, Keeps};
-ghost use Rattle.hex.specs.Hex.{encode_lower};
-ghost use Rattle.sha2.specs.Sha256.{sha256};
+ghost use Rattle.std.specs.Prelude.{◌≡◌, length};
+ghost use Rattle.xc_input.specs.Hashing.{folded, taken};
+ghost use Rattle.xc_input.specs.ItemBounds.{bounds_of};
 ghost use Rattle.xc_input.specs.Named.{IsSound};
-ghost use Rattle.xc_input.specs.Calls.{counted, is_failed_write};
-ghost use Rattle.xc_list.specs.Digests.{digest_of};
+ghost use Rattle.xc_list.specs.Digests.{problem_numbers, length_first, digest_after, digest_of};
+ghost use Rattle.xc_list.specs.inner.DigestParts.{bounds_numbers, bytes_numbers, use_number, uses_numbers};
+ghost use Rattle.xc_list.specs.inner.DigestParts.{digest_multiplier, digest_start};
 
-use crate::Flushes;
-use crate::problem_text::write_problem;
-use crate::sink::{Sink, WriteFailed};
 use hex::encode_to_slice;
-use sha2::{Digest, Sha256};
-use std::marker::Model;
-use xc_input::{Given, Problem};
+use xc_input::{Item, Problem, Use};
 
-/// A sink that keeps of what it takes no more than SHA-256 needs. No call of it fails.
-#[derive(Drop)]
-struct Hashing {
-    hasher: Sha256,
-    given: Given,
-    flushes: Flushes,
+/// 2^64 over the golden ratio, as an odd number (Knuth, The Art of Computer Programming 3, section 6.4).
+const MULTIPLIER: u64 = 0x9e37_79b9_7f4a_7c15;
+
+/// The first 64 bits of the fraction of pi.
+const START: u64 = 0x243f_6a88_85a3_08d3;
+
+/// Both halves of a product with the multiplier, joined.
+#[inline(always)]
+fn folded(state: u64) -> u64
+    ensures { result ≡ folded digest_multiplier state }
+{
+    let product = u128::from(state) * u128::from(MULTIPLIER);
+    (product & 0xffff_ffff_ffff_ffff) as u64 ^ (product >> 64) as u64
 }
 
-impl Model for Hashing {
-    ghost use Rattle.sha2.specs.Hashers.{Holds256};
-    ghost use Rattle.xc_list.specs.inner.Hashed.{Hashed, all_of};
-
-    ghost Value = { Hashed };
-
-    ghost view = { λ h. record { taken = all_of h.given; flushes = h.flushes.count } };
-
-    ghost invariant = { λ h. Holds256 h.hasher (all_of h.given) };
+/// The state after one more number.
+#[inline(always)]
+fn taken(state: u64, number: u64) -> u64
+    ensures { result ≡ taken digest_multiplier state number }
+{
+    folded(state ^ number)
 }
 
-impl Hashing {
-    /// Nothing was taken.
-    fn new() -> Hashing
-        ensures { result.taken ≡ [] }
-    {
-        Hashing {
-            hasher: Sha256::new(),
-            given: Given::new(),
-            flushes: Flushes::new(),
-        }
+/// The state after a name or a colour.
+fn after_bytes(state: u64, bytes: &[u8]) -> u64
+    ensures { result ≡ digest_after state (bytes_numbers bytes.now) }
+{
+    let mut reached = taken(state, bytes.len() as u64);
+    for byte in bytes {
+        reached = taken(reached, u64::from(*byte));
     }
-
-    /// The first 8 bytes of the SHA-256 of what it took, as digits.
-    fn digits(self) -> [u8; 16]
-        ensures { result ≡ encode_lower (take 8 (sha256 self.taken)) }
-    {
-        let hash = self.hasher.finalize();
-        let mut digits = [0; 16];
-        encode_to_slice(&hash[..8], &mut digits).unwrap();
-        digits
-    }
+    reached
 }
 
-impl Sink for Hashing {
-    ghost state = { λ s. record {
-      failures = 0;
-      failed = false;
-      taken = Some s.taken;
-      settled = true;
-      flushes = s.flushes;
-    } };
-
-    fn write(&mut self, bytes: &[u8]) -> Result<usize, WriteFailed>
-        ensures bound { IfOk result (λ n. n ≤ length bytes.now) }
-        ensures failures { 0 ≡ counted (is_failed_write result bytes.now) 0 }
-        ensures failed { false ≡ is_failed_write result bytes.now }
-        ensures bytes { WriteAppends (Some self.old.taken) (Some self.new.taken) result bytes.now }
-        ensures flushes { self.new.flushes ≡ self.old.flushes }
-    {
-        self.hasher.update(bytes);
-        self.given = Given::after(&self.given, bytes);
-        Ok(bytes.len())
+/// The state after the bounds of items.
+fn after_bounds(state: u64, items: &[Item]) -> u64
+    ensures { result ≡ digest_after state (length_first (λ x. bounds_numbers (bounds_of x)) items.now) }
+{
+    let mut reached = taken(state, items.len() as u64);
+    for item in items {
+        reached = taken(taken(reached, u64::from(item.low)), u64::from(item.high));
     }
-
-    fn flush(&mut self) -> Result<(), WriteFailed>
-        ensures failures { 0 ≡ counted (is_err result) 0 }
-        ensures failed { false ≡ is_err result }
-        ensures bytes { Keeps (Some self.old.taken) (Some self.new.taken) }
-        ensures settled { OnOk result (IsTrue true) }
-        ensures flushes { self.new.flushes ≡ self.old.flushes + 1 }
-    {
-        self.flushes = Flushes::one_more(&self.flushes);
-        Ok(())
-    }
+    reached
 }
 
-/// The digest by which the text of a span names its problem: the first 8 bytes of the SHA-256 (FIPS 180-4) of what
-/// `write_problem` writes, as 16 hexadecimal digits in lower case. It tells a mistake from the problem that was meant;
-/// it is too short against someone who looks for two problems of one digest.
+/// The state after the names of items.
+fn after_names(state: u64, items: &[Item]) -> u64
+    ensures { result ≡ digest_after state (length_first (λ x. bytes_numbers x.name.items) items.now) }
+{
+    let mut reached = taken(state, items.len() as u64);
+    for item in items {
+        reached = after_bytes(reached, &item.name);
+    }
+    reached
+}
+
+/// The state after the colours of a problem.
+fn after_colours(state: u64, problem: &Problem) -> u64
+    ensures { result ≡ digest_after state (length_first bytes_numbers problem.now.colours) }
+{
+    let mut reached = taken(state, u64::from(problem.colours()));
+    for c in 0..problem.colours() {
+        reached = after_bytes(reached, problem.colour(c + 1));
+    }
+    reached
+}
+
+/// A use as one number.
+#[inline(always)]
+fn use_number(u: Use) -> u64
+    ensures { result ≡ use_number u }
+{
+    u64::from(u.item) + (u64::from(u.colour) << 32)
+}
+
+/// The state after an option.
+fn after_uses(state: u64, uses: &[Use]) -> u64
+    ensures { result ≡ digest_after state (uses_numbers uses.now) }
+{
+    let mut reached = taken(state, uses.len() as u64);
+    for u in uses {
+        reached = taken(reached, use_number(*u));
+    }
+    reached
+}
+
+/// The state after the options of a problem.
+fn after_options(state: u64, problem: &Problem) -> u64
+    ensures { result ≡ digest_after state (length_first uses_numbers problem.now.puzzle.options) }
+{
+    let mut reached = taken(state, u64::from(problem.options()));
+    for o in 0..problem.options() {
+        reached = after_uses(reached, problem.option(o + 1));
+    }
+    reached
+}
+
+/// The state after the numbers of a whole problem.
+fn after_problem(problem: &Problem) -> u64
+    ensures state { result ≡ digest_after digest_start (problem_numbers problem.now) }
+    ensures whole { IsSound problem.now }
+{
+    let items = problem.all_items();
+    let (primary, _) = items.split_at(problem.primary() as usize);
+    let reached = after_names(after_bounds(START, primary), items);
+    after_options(after_colours(reached, problem), problem)
+}
+
+/// The digest by which the text of a span names its problem: a hash of all that was read, as 16 hexadecimal digits in
+/// lower case. The numbers of the problem are hashed by folded multiplication, as in wyhash, by fixed keys. So it tells
+/// a mistake from the problem that was meant, and no more: whoever wants two problems of one digest can make them.
 pub fn problem_digest(problem: &Problem) -> [u8; 16]
     ensures value { result ≡ digest_of problem.now }
     ensures whole { IsSound problem.now }
 {
-    let mut sink = Hashing::new();
-    write_problem(problem, &mut sink).unwrap();
-    sink.digits()
+    let mut digits = [0; 16];
+    encode_to_slice(&after_problem(problem).to_be_bytes(), &mut digits).unwrap();
+    digits
 }

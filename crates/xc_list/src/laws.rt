@@ -1,6 +1,7 @@
 //! What the definitions say of worked problems and words.
 ghost use Rattle.std.specs.Prelude.{ℕ, ◌≡◌, ◌↔◌, true, ◌<◌, ◌-◌, ◌^◌, All, List, [], ◌∷◌, ◌++◌, codes, Ok, Err, Some};
-ghost use Rattle.xc_input.specs.Named.{Named};
+ghost use Rattle.xc_input.specs.Named.{Named, IsSound};
+ghost use Rattle.xc_list.specs.Digests.{problem_numbers};
 ghost use Rattle.xc_list.specs.Messages.{summary_text};
 ghost use Rattle.xc_list.specs.Output.{output};
 ghost use Rattle.xc_list.specs.Runs.{end_of};
@@ -85,4 +86,9 @@ pub fn worked_words()
 /// A row is known by its text, so two rows that have one text are one row.
 pub fn rows_by_texts()
     ensures { (row : List ℕ) → All (λ n. n < 2 ^ 32) row → row_word (row_text row) ≡ Some row }
+{}
+
+/// Two problems of the same numbers are the same, so all that was read is in what a digest hashes.
+pub fn problems_by_numbers()
+    ensures { (a b : Named) → IsSound a → IsSound b → problem_numbers a ≡ problem_numbers b → a ≡ b }
 {}

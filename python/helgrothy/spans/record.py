@@ -1,7 +1,7 @@
 """The text of a span, as dlx-span writes it: the solutions, if they are listed, and a line that tells what it did.
 
 Both the first line of a listing and the last one have the problem's digest, by which dlx-join knows texts of another
-problem: the first 8 bytes of the SHA-256 of the problem as it was read, whatever is between its words.
+problem: a hash of the problem as it was read, whatever is between its words.
 """
 
 from __future__ import annotations

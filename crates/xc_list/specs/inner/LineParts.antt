@@ -3,9 +3,6 @@ use Rattle.std.specs.Prelude.{ℕ, ◌==◌, List, [], ◌++◌, decimal, codes,
 use Rattle.xc_input.specs.declared.problem.Use.{Use}
 use Rattle.xc_input.specs.Named.{Named}
 use Rattle.xc_list.specs.Output.{bytes_at, use_word}
-use Rattle.xc_input.specs.declared.problem.Item.{Item}
-use Rattle.xc_input.specs.ItemBounds.{bounds_of}
-use Rattle.xc_list.specs.ProblemTexts.{bounded_name}
 
 -- a colour after a colon; nothing for colour 0
 abbrev pub colour_text : List (List ℕ) → ℕ → List ℕ
@@ -18,11 +15,3 @@ use_text a u = codes " " ++ use_word a u
 -- branch k of n, to the end of the line
 abbrev pub branch_text : ℕ → ℕ → List ℕ
 branch_text k n = codes " (" ++ decimal k ++ codes " of " ++ decimal n ++ codes ")\n"
-
--- a primary item after a space, as its problem's text has it
-abbrev pub primary_text : Item → List ℕ
-primary_text x = codes " " ++ bounded_name (bounds_of x) x.name.items
-
--- the name of a secondary item after a space
-abbrev pub secondary_text : Item → List ℕ
-secondary_text x = codes " " ++ x.name.items

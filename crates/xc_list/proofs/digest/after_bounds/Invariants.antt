@@ -1,0 +1,12 @@
+use Rattle.std.proofs.Common.{◌≡◌, length, take}
+use Rattle.std.specs.Prelude.{flat_map}
+use Rattle.xc_input.specs.Hashing.{taken}
+use Rattle.xc_input.specs.ItemBounds.{bounds_of}
+use Rattle.xc_list.specs.Digests.{digest_after}
+use Rattle.xc_list.specs.inner.DigestParts.{bounds_numbers, digest_multiplier}
+use Rattle.xc_list.proofs.digest.after_bounds.Given as goal
+
+-- the state after those so far
+abbrev pub invariant-loop-item : goal.invariant-loop-item
+invariant-loop-item l = l.reached ≡ digest_after (taken digest_multiplier l.state (length l.items))
+    (flat_map (λ x. bounds_numbers (bounds_of x)) (take l.item-index l.items))

@@ -1,0 +1,5 @@
+use Rattle.xc_list.proofs.ProblemNumbers.{numbers-tell}
+use Rattle.xc_list.proofs.laws.problems_by_numbers.Goals as goal
+
+pub returns : goal.returns
+returns c a b ha hb same = numbers-tell a b ha hb same

@@ -1,8 +1,0 @@
-use Rattle.xc_list.specs.inner.LineParts.{primary_text}
-use Rattle.xc_list.proofs.Writing.{loop_failed}
-use Rattle.xc_list.proofs.problem_text.write_primaries.Goals as goal
-
-pub returns-in_err-write_primary : goal.returns-in_err-write_primary
-returns-in_err-write_primary g c =
-    loop_failed primary_text _ _ c.item-item.result _ c.from_residual.ensures.0 c.loop-item-test.true
-    c.loop-item.invariant (rw c.item-item.is at c.in_err-write_primary.ensures)
