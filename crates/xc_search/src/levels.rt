@@ -1,8 +1,10 @@
 //! The levels of the search, and its loop.
 //!
-//! Walks and spans have one loop, `run`, by a constant parameter. At each turn it looks at what is below first. A
-//! search that is at a solution finds it again, as the first that it passes over, so that no flag says whether what is
-//! left was searched.
+//! Walks, spans and the way to a span's first row have one loop, `run`, by two constant parameters. At each turn it
+//! looks at what is below first. A search that is at a solution finds it again, as the first that it passes over, so
+//! that no flag says whether what is left was searched. By `WAY` the large functions of the way are others than those of
+//! the search, of which each then has one call and is inlined; a parameter at run time took 2 % of a span's
+//! instructions.
 //!
 //! Where the next choice is known to be the last, its solutions are counted and not made (`SEARCH.md`). That saves 11 %
 //! of the instructions. Open items are counted only at the depth of the last choice of the solution found last. That
@@ -12,7 +14,7 @@
 //! each. `unwind` ends levels by code of its own, so that the loop has the one call of `end_level`, which is inlined
 //! there (8 %). The end of a tweaked level is in the loop too (3 % with bounds). Tried and not faster: levels or their
 //! marks with numbers of 32 bits, solutions counted upward, and rare steps as calls that take the state by value.
-ghost use Rattle.std.specs.Prelude.{◌≡◌, ◌+◌, ◌-◌, ◌<◌, ◌≤◌, ◌^◌, ◌⊎◌, List, [], ◌∷◌, length, true, false, not};
+ghost use Rattle.std.specs.Prelude.{◌≡◌, ◌+◌, ◌-◌, ◌<◌, ◌≤◌, ◌^◌, ◌⊎◌, List, [], ◌∷◌, ◌++◌, length, map, true, false, not};
 ghost use Rattle.std.specs.Prelude.{None, Bool, ℕ, Option, option_map, IfSome, IsNone, IsSome};
 ghost use Rattle.xc_input.specs.Problem.{Puzzle};
 ghost use Rattle.xc_dance.specs.Dancing.{moves_made};
@@ -25,7 +27,7 @@ ghost use Rattle.xc_search.specs.inner.Ahead.{EntersBranch, IsDone, IsSolved, br
 ghost use Rattle.xc_search.specs.inner.Spanning.{Enters, Ends, Falls, IsRest, IsSeenBy, LeavesOut, RunsTo, row_at};
 ghost use Rattle.xc_search.specs.Listing.{listing};
 ghost use Rattle.xc_search.specs.Room.{room_for};
-ghost use Rattle.xc_search.specs.Spans.{is_before};
+ghost use Rattle.xc_search.specs.Spans.{is_before, precedes};
 ghost use Rattle.xc_search.specs.inner.Residual.{residual_of};
 ghost use Rattle.xc_search.specs.Residuals.{choice_after, wanted_after};
 ghost use Rattle.xc_search.specs.inner.Paths.{KeepsBy, IsChosenBy, AreLater};
@@ -37,7 +39,8 @@ use crate::stack::Stack;
 use xc_dance::Dance;
 
 /// A branch that was entered, and whose moves are still to be made: in the search's loop at one place, since a large
-/// function is taken in only where there is one call of it.
+/// function is taken in only where there is one call of it. So a loop that goes the way to a row, `WAY`, has each of
+/// these functions once more.
 #[derive(Clone, Copy)]
 pub struct Entered {
     pub item: u32,
@@ -60,7 +63,7 @@ pub enum Below {
 /// Begins a level at an item, the next one, since what is left wasn't searched yet, and enters the first of its
 /// branches that isn't left out. A level without such a branch ends at once, and isn't noted. At the branch item it
 /// goes on with the search's own path.
-fn deepen<D: Dance>(
+fn deepen<D: Dance, const WAY: bool>(
     position: &mut Position<D>,
     stack: &mut Stack,
     next: Option<(u32, usize)>,
@@ -111,7 +114,7 @@ fn deepen<D: Dance>(
 }
 
 /// Ends a level, the newest one.
-fn end_level<D: Dance>(position: &mut Position<D>, level: &Level)
+fn end_level<D: Dance, const WAY: bool>(position: &mut Position<D>, level: &Level)
     requires stacked { (p : Puzzle) × (ls : List Level) × AreStacked p position.old.trail (level.now ∷ ls) }
     ensures { position.new ≡ record position.old {
       trail = oldest level.now.mark position.old.trail;
@@ -136,7 +139,7 @@ fn number_after(k: u32, many: u32) -> u32
 }
 
 /// Enters the next branch of a level, the newest one, which has another.
-fn enter_next<D: Dance>(position: &mut Position<D>, level: &Level) -> Begun
+fn enter_next<D: Dance, const WAY: bool>(position: &mut Position<D>, level: &Level) -> Begun
     requires stacked { (ls : List Level) × AreStacked position.old.puzzle position.old.trail (level.now ∷ ls) }
     requires more { level.now.begun < level.now.count }
     ensures still { position.new ≡ record position.old { trail = position.new.trail; undone = position.new.undone } }
@@ -151,7 +154,10 @@ fn enter_next<D: Dance>(position: &mut Position<D>, level: &Level) -> Begun
 /// Enters the next branch of the newest level that has one, and ends the levels above it. None where no level has
 /// another branch, and then all have ended.
 #[inline(always)]
-fn resume<D: Dance>(position: &mut Position<D>, stack: &mut Stack) -> Option<Entered>
+fn resume<D: Dance, const WAY: bool>(
+    position: &mut Position<D>,
+    stack: &mut Stack,
+) -> Option<Entered>
     requires standing { IsStanding position.old.puzzle position.old.trail stack.old.levels false }
     ensures resumed { IfSome result (λ b.
         EntersBranch position.old stack.old false position.new stack.new b.item b.place) }
@@ -172,14 +178,14 @@ fn resume<D: Dance>(position: &mut Position<D>, stack: &mut Stack) -> Option<Ent
     while let Some(level) = stack.top() {
         if level.begun < level.count {
             let item = level.item;
-            let branch = enter_next(position, level);
+            let branch = enter_next::<D, WAY>(position, level);
             stack.note_branch(branch);
             return Some(Entered {
                 item,
                 place: branch.place as usize,
             });
         }
-        end_level(position, level);
+        end_level::<D, WAY>(position, level);
         stack.pop();
     }
     None
@@ -234,7 +240,7 @@ fn choose_by<D: Dance>(position: &Position<D>, early: bool) -> Option<(u32, usiz
 /// last choice led to a solution: where there are as many again, and all that is left comes before the end, the
 /// solutions may be counted at once.
 #[inline(always)]
-fn go_below<D: Dance>(
+fn go_below<D: Dance, const WAY: bool>(
     position: &mut Position<D>,
     stack: &mut Stack,
     early: bool,
@@ -264,7 +270,7 @@ fn go_below<D: Dance>(
         return Below::Nothing;
     }
     let next = choose_by(position, early);
-    match deepen(position, stack, next, first) {
+    match deepen::<D, WAY>(position, stack, next, first) {
         Below::Branch(entered) => Below::Branch(entered),
         Below::Nothing => Below::Nothing,
         Below::Solution => {
@@ -280,7 +286,7 @@ fn go_below<D: Dance>(
 
 /// Enters the next branch: one below the levels, or else the next of a level.
 #[inline(always)]
-fn enter_branch<D: Dance>(
+fn enter_branch<D: Dance, const WAY: bool>(
     position: &mut Position<D>,
     stack: &mut Stack,
     early: bool,
@@ -308,12 +314,12 @@ fn enter_branch<D: Dance>(
     ensures done_pays { result ≡ Next.Nothing → first ≡ 1 →
         Pays position.old stack.old true more.old position.new stack.new false more.new }
 {
-    match go_below(position, stack, early, first, more, last) {
+    match go_below::<D, WAY>(position, stack, early, first, more, last) {
         Below::Branch(entered) => return Next::Branch(entered),
         Below::Solution => return Next::Solution,
         Below::Nothing => {}
     }
-    match resume(position, stack) {
+    match resume::<D, WAY>(position, stack) {
         Some(entered) => Next::Branch(entered),
         None => Next::Nothing,
     }
@@ -357,7 +363,7 @@ pub struct Ran {
 // One loop for all searches, which at each turn first looks at what is below, so that no flag says whether that was
 // searched.
 // No wish to be inlined: its one call for each search is, and then after what it calls was taken in.
-pub fn run<'u, D: Dance, const BOUND: bool>(
+pub fn run<'u, D: Dance, const BOUND: bool, const WAY: bool>(
     position: &mut Position<D>,
     stack: &mut Stack,
     task: Task<'u>,
@@ -389,25 +395,50 @@ pub fn run<'u, D: Dance, const BOUND: bool>(
     let mut more = over;
     let mut steps = steps;
     let mut last = usize::MAX;
-    while !BOUND || steps > 0 {
-        match enter_branch(position, stack, early, first, &mut more, &mut last) {
-            Next::Branch(entered) => position.commit_branch(entered.item, entered.place as u32),
+    // A turn looks at its row and its steps where fewer than these are left: at each with a row, else at the last.
+    let watch = if until.is_some() { u64::MAX } else { 1 };
+    if BOUND && steps == 0 {
+        return halted(Stop::Steps, more, steps);
+    }
+    loop {
+        match enter_branch::<D, WAY>(position, stack, early, first, &mut more, &mut last) {
+            Next::Branch(entered) => position.commit_branch::<WAY>(
+                entered.item,
+                entered.place as u32,
+            ),
             Next::Solution => return halted(Stop::Member, more, steps),
             Next::Nothing => return halted(Stop::Nothing, more, steps),
         }
         if BOUND {
             steps -= 1;
-            if let Some(until) = until {
-                match place_of(stack.levels(), until) {
-                    Place::Before => {}
-                    // What is left below may reach the row, so it isn't counted at once.
-                    Place::Begins => last = usize::MAX,
-                    Place::Reached => return halted(Stop::Row, more, steps),
+            if steps < watch {
+                if let Some(until) = until {
+                    match place_apart(stack.levels(), until) {
+                        Place::Before => {}
+                        // What is left below may reach the row, so it isn't counted at once.
+                        Place::Begins => last = usize::MAX,
+                        Place::Reached => return halted(Stop::Row, more, steps),
+                    }
+                }
+                if steps == 0 {
+                    return halted(Stop::Steps, more, steps);
                 }
             }
         }
     }
-    halted(Stop::Steps, more, steps)
+}
+
+/// How the row of the levels compares to another row.
+// Apart and cold, so that what it needs takes no registers from the search's loop, where most runs have no such row.
+#[cold]
+#[inline(never)]
+fn place_apart(levels: &[Level], until: &[u32]) -> Place
+    ensures before { result ≡ Place.Before →
+        (x : List ℕ) → precedes (map (λ l. l.begun) levels.now ++ x) until.now ≡ true }
+    ensures begins { result ≡ Place.Begins → precedes (map (λ l. l.begun) levels.now) until.now ≡ true }
+    ensures reached { result ≡ Place.Reached → precedes (map (λ l. l.begun) levels.now) until.now ≡ false }
+{
+    place_of(levels, until)
 }
 
 /// What a run came to.

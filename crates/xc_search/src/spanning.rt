@@ -37,10 +37,48 @@ pub struct State<'a, D: Dance> {
     pub stack: Stack,
 }
 
-/// Does what a task says. It takes the state by value, as a walk's loop does: through a reference the bases and lengths
-/// of all tables would be loaded anew after each write to one.
+/// Does what a task says that leaves no branch out and goes by early choices. It takes the state by value, as a walk's
+/// loop does: through a reference the bases and lengths of all tables would be loaded anew after each write to one.
 #[inline(never)]
 pub fn run_on<'a, 'u, D: Dance>(state: State<'a, D>, task: Task<'u>) -> (State<'a, D>, Ran)
+    requires standing { IsStanding state.position.puzzle state.position.trail state.stack.levels true }
+    requires levels_fit { most_levels state.position.puzzle ≤ state.stack.room }
+    requires first { task.first ≡ 1 }
+    requires early { task.early ≡ true }
+    requires before { is_before (option_map (λ u. u.now) task.until)
+        (row_at state.position.puzzle state.stack.levels) ≡ true }
+    ensures { (u : Option (List ℕ)) → IsSeenBy true u (option_map (λ u. u.now) task.entry.until) task.entry.first
+        task.entry.steps state.entry.position.puzzle state.entry.stack.levels →
+        RunsTo true (not task.entry.early) task.entry.first u (option_map (λ u. u.now) task.entry.until)
+        state.entry.position state.entry.stack task.entry.over task.entry.steps
+        result.1.stop result.0.position result.0.stack result.1.more result.1.steps }
+{
+    let State {
+        mut position,
+        mut stack,
+    } = state;
+    let Task {
+        until,
+        early: _,
+        first: _,
+        over,
+        steps,
+    } = task;
+    // Both are known here, so that the loop tests neither.
+    let task = Task {
+        until,
+        early: true,
+        first: 1,
+        over,
+        steps,
+    };
+    let ran = run::<D, true, false>(&mut position, &mut stack, task);
+    (State { position, stack }, ran)
+}
+
+/// Does what a task says, on the way to a row.
+#[inline(never)]
+pub fn run_way<'a, 'u, D: Dance>(state: State<'a, D>, task: Task<'u>) -> (State<'a, D>, Ran)
     requires standing { IsStanding state.position.puzzle state.position.trail state.stack.levels true }
     requires levels_fit { most_levels state.position.puzzle ≤ state.stack.room }
     requires first { 0 < task.first }
@@ -57,7 +95,7 @@ pub fn run_on<'a, 'u, D: Dance>(state: State<'a, D>, task: Task<'u>) -> (State<'
         mut position,
         mut stack,
     } = state;
-    let ran = run::<D, true>(&mut position, &mut stack, task);
+    let ran = run::<D, true, true>(&mut position, &mut stack, task);
     (State { position, stack }, ran)
 }
 
@@ -102,7 +140,7 @@ fn reach_by<'a, D: Dance>(state: &mut State<'a, D>, from: &[u32], early: bool) -
             over: 1,
             steps: 1,
         };
-        match replace_with(state, task, run_on).stop {
+        match replace_with(state, task, run_way).stop {
             Stop::Member | Stop::Steps | Stop::Row => {}
             Stop::Nothing => return false,
         }

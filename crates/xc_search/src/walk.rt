@@ -277,7 +277,7 @@ impl<'a, D: Dance> Standing<'a, D> {
         } = self;
         // Where it is at a solution, it finds that one again.
         let more = if unsearched { many - 1 } else { many };
-        let ran = run::<D, false>(
+        let ran = run::<D, false, false>(
             &mut position,
             &mut stack,
             Task {

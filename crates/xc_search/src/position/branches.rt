@@ -147,9 +147,9 @@ impl<'a, D: Dance> Position<'a, D> {
     }
 
     /// Makes the moves of a branch at an item: commits the other uses of its option, or covers the
-    /// item where it takes none.
+    /// item where it takes none. `WAY`: on the way to a row, where speed matters less.
     #[inline(always)]
-    pub fn commit_branch(&mut self, item: u32, place: u32)
+    pub fn commit_branch<const WAY: bool>(&mut self, item: u32, place: u32)
         requires can { CanBranch self.old.puzzle item (option_at self.old.puzzle item place) self.old.trail }
         requires place { IsPlace self.old.puzzle item place }
         ensures { self.new ≡ record self.old
@@ -157,6 +157,8 @@ impl<'a, D: Dance> Position<'a, D> {
     {
         if place == item {
             self.cover_if_open(item);
+        } else if WAY {
+            self.commit_uses(item, place);
         } else {
             self.commit(item, place);
         }

@@ -9,6 +9,7 @@ ghost use Rattle.xc_search.specs.Room.{room_for};
 
 use crate::position::Position;
 use xc_dance::{Dance, Move};
+use xc_input::place_in;
 
 impl<'a, D: Dance> Position<'a, D> {
     /// Makes a move that is legal and that a search of the problem has room for.
@@ -67,6 +68,7 @@ impl<'a, D: Dance> Position<'a, D> {
     }
 
     /// Spends an item, and covers it where its bound is then used up.
+    #[inline(always)]
     pub fn spend_item(&mut self, i: u32)
         requires { MayStand self.old.puzzle (after_spend self.old.puzzle i self.old.trail) }
         ensures { self.new ≡ record self.old { trail = after_spend self.old.puzzle i self.old.trail } }
@@ -100,5 +102,22 @@ impl<'a, D: Dance> Position<'a, D> {
             self.new ≡ record self.old { trail = after_option self.old.puzzle i x self.old.trail } }
     {
         self.dance.commit(self.problem, i, place);
+    }
+
+    /// Does what `commit` does, by the uses of the option.
+    // For the way to a row: a second call of the dance's own `commit` would keep that out of the search's loop.
+    #[inline(never)]
+    pub fn commit_uses(&mut self, i: u32, place: u32)
+        requires item { IsItem self.old.puzzle i }
+        requires can { (x : ℕ) × IsUseAt self.old.puzzle i x place
+            × MayStand self.old.puzzle (after_option self.old.puzzle i x self.old.trail) }
+        ensures { (x : ℕ) → IsUseAt self.old.puzzle i x place →
+            self.new ≡ record self.old { trail = after_option self.old.puzzle i x self.old.trail } }
+    {
+        let option = self.dance.option_of(self.problem, i, place);
+        let uses = self.problem.option(option);
+        let at = place_in(uses, i);
+        self.dance.commit_uses(self.problem, &uses[at + 1..]);
+        self.dance.commit_uses(self.problem, &uses[..at]);
     }
 }

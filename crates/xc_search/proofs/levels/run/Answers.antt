@@ -1,5 +1,6 @@
-use Rattle.std.proofs.Common.{ℕ, ◌≡◌, ◌+◌, ◌<◌, true, false, not, refl, sym, ap, ◌∙◌, arith, inl, List, Option}
+use Rattle.std.proofs.Common.{ℕ, ◌≡◌, ◌+◌, ◌<◌, true, false, not, refl, sym, ap, ◌∙◌, arith, inl, inr, List, Option}
 use Rattle.std.specs.Prelude.{nat_eq, option_map}
+use Rattle.core.specs.Option.{is_some}
 use Rattle.std.proofs.lemmas.Bool.Decides.{nat_tests}
 use Rattle.xc_input.proofs.Cases.{by_option}
 use Rattle.xc_search.specs.inner.Spanning.{BeginsBranch, IsRest, IsSeenBy}
@@ -10,10 +11,11 @@ use Rattle.xc_search.proofs.spans.Running.{stands_first, stands_more}
 use Rattle.xc_search.proofs.spans.Runs.{runs_to_steps, runs_to_member, runs_to_end, runs_to_row, seen_rest}
 use Rattle.xc_search.proofs.levels.run.Goals as goal
 use Rattle.xc_search.proofs.levels.run.Goals.{After-enter_branch, After-commit_branch}
-use Rattle.xc_search.proofs.levels.run.Goals.{then-not-this, else-not-this+then-steps-gt0}
+use Rattle.xc_search.proofs.levels.run.Goals.{then-is_some, else-is_some}
+use Rattle.xc_search.proofs.levels.run.Goals.{in-Some+in-Before, in-Some+in-Begins, in_default}
 
-pub loop-until-init : goal.loop-until-init
-loop-until-init g c = record {
+pub loop-entered-init : goal.loop-entered-init
+loop-entered-init g c = record {
   begun = 0;
   count = λ _. omega arith;
   stands = λ u _. stands_first (not c.args.task.early) c.args.task.first u _ _ _ c.requires.standing;
@@ -22,65 +24,74 @@ loop-until-init g c = record {
       (λ v e. first_rest _ _ _ _ _ c.requires.before (omega arith) (c.requires.all (rw e refl)));
   far = λ _. omega arith;
   same = refl;
+  some = λ is. elim c.else-this-ne0.either [
+    | inl both ↦ omega (arith, both.1)
+    | inr zero ↦ absurd (grind (arith, nat_tests, is, zero))
+  ];
+  watched = elim c.if-is_some.branch [
+    | then-is_some w ↦ (omega (arith, w.watch-is), λ h. absurd (omega (arith, h, w.watch-is)))
+    | else-is_some w ↦ (
+      omega (arith, w.watch-is),
+      λ _. by_option c.args.task.until (λ e. e)
+          (λ v e. absurd (cc (sym (ap is_some e) ∙ sym c.is_some.ensures ∙ w.if-is_some.false))),
+    )
+  ];
   pays = λ _. record { ends = refl; due = omega arith };
 }
 
 module _ (g : _) (c : After-enter_branch g) where
   -- there is a step to go
-  going : not (nat_eq g.row.BOUND 0) ≡ true → 0 < c.loop-until.steps
-  going is = elim c.if-not-this.branch [
-    | then-not-this w ↦ absurd (grind (arith, nat_tests, is, w.if-not-this.true))
-    | else-not-this+then-steps-gt0 w ↦ w.if-steps-gt0.true
-  ]
+  going : not (nat_eq g.row.BOUND 0) ≡ true → 0 < c.loop-entered.steps
+  going = c.loop-entered.invariant.some
 
   -- what is known of each end
   rest : (u : Option (List ℕ)) → IsSeenBy (not (nat_eq g.row.BOUND 0)) u (option_map (λ u. u.now) c.args.task.until)
       c.args.task.first c.args.task.steps c.args.position.now.puzzle c.args.stack.now.levels
-      → IsRest u c.loop-until.position.puzzle c.loop-until.stack.levels c.loop-until.last c.args.task.first
+      → IsRest u c.loop-entered.position.puzzle c.loop-entered.stack.levels c.loop-entered.last c.args.task.first
   rest u is =
-      let s = c.loop-until.invariant in
+      let s = c.loop-entered.invariant in
       seen_rest is (s.stands u is) s.count going s.far s.rest
 
 -- a branch was begun
 begins : (g : _) (c : After-commit_branch g) (u : Option (List ℕ))
-    → IsRest u c.loop-until.position.puzzle c.loop-until.stack.levels c.loop-until.last c.args.task.first
+    → IsRest u c.loop-entered.position.puzzle c.loop-entered.stack.levels c.loop-entered.last c.args.task.first
     → BeginsBranch (not c.args.task.early) c.args.task.first u
-    c.loop-until.position c.loop-until.stack c.loop-until.more
+    c.loop-entered.position c.loop-entered.stack c.loop-entered.more
     c.commit_branch.new.self c.enter_branch.new.stack c.enter_branch.new.more
 begins g c u is =
     rw c.commit_branch.ensures (c.enter_branch.ensures.entered c.in-Branch.entered c.in-Branch.is u is).begins
 
 pub commit_branch-requires-clause-can : goal.commit_branch-requires-clause-can
 commit_branch-requires-clause-can g c =
-    (c.enter_branch.ensures.entered c.in-Branch.entered c.in-Branch.is _ c.loop-until.invariant.rest).can
+    (c.enter_branch.ensures.entered c.in-Branch.entered c.in-Branch.is _ c.loop-entered.invariant.rest).can
 
 pub commit_branch-requires-clause-place : goal.commit_branch-requires-clause-place
 commit_branch-requires-clause-place g c =
-    (c.enter_branch.ensures.entered c.in-Branch.entered c.in-Branch.is _ c.loop-until.invariant.rest).place
+    (c.enter_branch.ensures.entered c.in-Branch.entered c.in-Branch.is _ c.loop-entered.invariant.rest).place
 
 pub enter_branch-requires-clause-standing : goal.enter_branch-requires-clause-standing
-enter_branch-requires-clause-standing g c = (c.loop-until.invariant.stands _ (inl refl)).standing
+enter_branch-requires-clause-standing g c = (c.loop-entered.invariant.stands _ (inl refl)).standing
 
 pub enter_branch-requires-clause-levels_fit : goal.enter_branch-requires-clause-levels_fit
 enter_branch-requires-clause-levels_fit g c =
-    let still = (c.loop-until.invariant.stands _ (inl refl)).still in grind (arith, still, c.requires.levels_fit)
+    let still = (c.loop-entered.invariant.stands _ (inl refl)).still in grind (arith, still, c.requires.levels_fit)
 
 pub returns-in-Solution-clause-ran : goal.returns-in-Solution-clause-ran
 returns-in-Solution-clause-ran g c u is =
-    let s = c.loop-until.invariant in
+    let s = c.loop-entered.invariant in
     let same = c.enter_branch.ensures.same c.in-Solution.is in
-    rw c.halted.ensures (runs_to_member (s.stands u is) s.count same.0 same.1 same.2 same.3
+    rw c.halted-in-Solution.ensures (runs_to_member (s.stands u is) s.count same.0 same.1 same.2 same.3
     (c.enter_branch.ensures.solved c.in-Solution.is) s.rest.before)
 
 pub returns-in-Solution-clause-stands_pays : goal.returns-in-Solution-clause-stands_pays
 returns-in-Solution-clause-stands_pays g c _ one =
     let same = c.enter_branch.ensures.same c.in-Solution.is in
-    let more : c.enter_branch.new.more ≡ c.loop-until.more = same.3 ∙ sym same.2 in
-    rw (c.halted.ensures, same.0, same.1, more) (c.loop-until.invariant.pays one)
+    let more : c.enter_branch.new.more ≡ c.loop-entered.more = same.3 ∙ sym same.2 in
+    rw (c.halted-in-Solution.ensures, same.0, same.1, more) (c.loop-entered.invariant.pays one)
 
 pub returns-in-Nothing-clause-ran : goal.returns-in-Nothing-clause-ran
 returns-in-Nothing-clause-ran g c u is =
-    let s = c.loop-until.invariant in
+    let s = c.loop-entered.invariant in
     rw c.halted-in-Nothing.ensures (runs_to_end (s.stands u is) s.count (c.enter_branch.ensures.done c.in-Nothing.is u
     (rest g (goal.at.returns-in-Nothing-clause-ran g c).After-enter_branch u is))
     (c.enter_branch.ensures.done_made c.in-Nothing.is))
@@ -88,7 +99,7 @@ returns-in-Nothing-clause-ran g c u is =
 pub returns-in-Nothing-clause-ended_pays : goal.returns-in-Nothing-clause-ended_pays
 returns-in-Nothing-clause-ended_pays g c _ one =
     rw c.halted-in-Nothing.ensures
-    (Pays-trans (c.loop-until.invariant.pays one) (c.enter_branch.ensures.done_pays c.in-Nothing.is one))
+    (Pays-trans (c.loop-entered.invariant.pays one) (c.enter_branch.ensures.done_pays c.in-Nothing.is one))
 
 pub returns-in-Reached-clause-ran : goal.returns-in-Reached-clause-ran
 returns-in-Reached-clause-ran g c u is =
@@ -96,88 +107,80 @@ returns-in-Reached-clause-ran g c u is =
     let at = (goal.at.returns-in-Reached-clause-ran g c).After-enter_branch in
     let row = row_levels c.commit_branch.new.self.puzzle c.levels.result.now c.enter_branch.new.stack.levels
     c.levels.ensures.levels in
-    let s = c.loop-until.invariant in
-    let bound : not (nat_eq g.row.BOUND 0) ≡ true = grind (arith, nat_tests, c.if-this-ne0.true) in
+    let s = c.loop-entered.invariant in
+    let bound : not (nat_eq g.row.BOUND 0) ≡ true = grind (arith, nat_tests, c.if-this-ne0-2.true) in
     rw c.halted-in-Reached.ensures (runs_to_row (s.stands u is) s.count bound (going g at bound)
-    (begins g on u (rest g at u is)) (rw (← s.same, c.in-Some.is, ← row) (c.place_of.ensures.reached c.in-Reached.is)))
+    (begins g on u (rest g at u is)) (rw (← s.same, c.in-Some.is, ← row) (c.place_apart.ensures.reached c.in-Reached.is)))
 
-pub loop-until-smaller-in-Before : goal.loop-until-smaller-in-Before
-loop-until-smaller-in-Before g c =
-    (begins g (goal.at.loop-until-smaller-in-Before g c).After-commit_branch _ c.loop-until.invariant.rest).less
+pub loop-entered-smaller-else-steps-eq0-2 : goal.loop-entered-smaller-else-steps-eq0-2
+loop-entered-smaller-else-steps-eq0-2 g c =
+    (begins g (goal.at.loop-entered-smaller-else-steps-eq0-2 g c).After-commit_branch _ c.loop-entered.invariant.rest).less
 
-pub loop-until-smaller-in-Begins : goal.loop-until-smaller-in-Begins
-loop-until-smaller-in-Begins g c =
-    (begins g (goal.at.loop-until-smaller-in-Begins g c).After-commit_branch _ c.loop-until.invariant.rest).less
+pub loop-entered-smaller-else-steps-watch : goal.loop-entered-smaller-else-steps-watch
+loop-entered-smaller-else-steps-watch g c =
+    (begins g (goal.at.loop-entered-smaller-else-steps-watch g c).After-commit_branch _ c.loop-entered.invariant.rest).less
 
-pub loop-until-smaller-in_default : goal.loop-until-smaller-in_default
-loop-until-smaller-in_default g c =
-    (begins g (goal.at.loop-until-smaller-in_default g c).After-commit_branch _ c.loop-until.invariant.rest).less
+pub loop-entered-smaller : goal.loop-entered-smaller
+loop-entered-smaller g c =
+    (begins g (goal.at.loop-entered-smaller g c).After-commit_branch _ c.loop-entered.invariant.rest).less
 
-pub loop-until-smaller : goal.loop-until-smaller
-loop-until-smaller g c =
-    (begins g (goal.at.loop-until-smaller g c).After-commit_branch _ c.loop-until.invariant.rest).less
-
-pub loop-until-preserved-in-Before : goal.loop-until-preserved-in-Before
-loop-until-preserved-in-Before g c =
-    let on = (goal.at.loop-until-preserved-in-Before g c).After-commit_branch in
-    let at = (goal.at.loop-until-preserved-in-Before g c).After-enter_branch in
-    let s = c.loop-until.invariant in
+pub loop-entered-preserved-else-steps-eq0-2 : goal.loop-entered-preserved-else-steps-eq0-2
+loop-entered-preserved-else-steps-eq0-2 g c =
+    let on = (goal.at.loop-entered-preserved-else-steps-eq0-2 g c).After-commit_branch in
+    let at = (goal.at.loop-entered-preserved-else-steps-eq0-2 g c).After-enter_branch in
+    let s = c.loop-entered.invariant in
     record {
       begun = s.begun + 1;
       count = λ is. omega (arith, s.count is, going g at is);
       stands = λ u is. stands_more (s.stands u is) (begins g on u (rest g at u is));
-      rest = rest_before c.commit_branch.new.self.puzzle c.levels.result.now c.enter_branch.new.stack.levels
-          c.in-Some.until.now _ _ _ c.levels.ensures.levels
-          (ap (option_map (λ u. u.now)) (sym s.same ∙ c.in-Some.is)) (c.place_of.ensures.before c.in-Before.is);
+      rest = elim c.match-until.branch [
+        | in-Some+in-Before w ↦ rest_before c.commit_branch.new.self.puzzle w.levels.result.now
+            c.enter_branch.new.stack.levels w.in-Some.until.now _ _ _ w.levels.ensures.levels
+            (ap (option_map (λ u. u.now)) (sym s.same ∙ w.in-Some.is)) (w.place_apart.ensures.before w.in-Before.is)
+        | in-Some+in-Begins w ↦ rest_about c.commit_branch.new.self.puzzle w.levels.result.now
+            c.enter_branch.new.stack.levels w.in-Some.until.now _ _ _ w.levels.ensures.levels
+            (ap (option_map (λ u. u.now)) (sym s.same ∙ w.in-Some.is)) (w.place_apart.ensures.begins w.in-Begins.is)
+            (omega (arith, w.last-is)) (none_left_out (option_map (λ u. u.now) c.args.task.until)
+            c.commit_branch.new.self.puzzle c.enter_branch.new.stack.levels c.args.task.first
+            (c.requires.all (rw (← s.same, w.in-Some.is) refl)))
+        | in_default w ↦ rw (← s.same, w.in_default.is)
+            (rest_of_all c.commit_branch.new.self.puzzle c.enter_branch.new.stack.levels _ _)
+      ];
       far = λ h. absurd (omega (arith, h));
       same = s.same;
+      some = λ _. omega (arith, c.if-steps-eq0-2.false);
+      watched = s.watched;
       pays = λ one. Pays-trans (s.pays one) (rw c.commit_branch.ensures (c.enter_branch.ensures.entered_pays
           c.in-Branch.entered c.in-Branch.is one));
     }
 
-pub loop-until-preserved-in-Begins : goal.loop-until-preserved-in-Begins
-loop-until-preserved-in-Begins g c =
-    let on = (goal.at.loop-until-preserved-in-Begins g c).After-commit_branch in
-    let at = (goal.at.loop-until-preserved-in-Begins g c).After-enter_branch in
-    let s = c.loop-until.invariant in
+pub loop-entered-preserved-else-steps-watch : goal.loop-entered-preserved-else-steps-watch
+loop-entered-preserved-else-steps-watch g c =
+    let on = (goal.at.loop-entered-preserved-else-steps-watch g c).After-commit_branch in
+    let at = (goal.at.loop-entered-preserved-else-steps-watch g c).After-enter_branch in
+    let s = c.loop-entered.invariant in
+    let bound : not (nat_eq g.row.BOUND 0) ≡ true = grind (arith, nat_tests, c.if-this-ne0-2.true) in
+    let some : 0 < c.loop-entered.steps = going g at bound in
     record {
       begun = s.begun + 1;
-      count = λ is. omega (arith, s.count is, going g at is);
+      count = λ is. omega (arith, s.count is, some);
       stands = λ u is. stands_more (s.stands u is) (begins g on u (rest g at u is));
-      rest = rest_about c.commit_branch.new.self.puzzle c.levels.result.now c.enter_branch.new.stack.levels
-          c.in-Some.until.now _ _ _ c.levels.ensures.levels
-          (ap (option_map (λ u. u.now)) (sym s.same ∙ c.in-Some.is)) (c.place_of.ensures.begins c.in-Begins.is)
-          (omega arith) (none_left_out (option_map (λ u. u.now) c.args.task.until) c.commit_branch.new.self.puzzle
-          c.enter_branch.new.stack.levels c.args.task.first (c.requires.all (rw (← s.same, c.in-Some.is) refl)));
-      far = λ h. absurd (omega (arith, h));
-      same = s.same;
-      pays = λ one. Pays-trans (s.pays one) (rw c.commit_branch.ensures (c.enter_branch.ensures.entered_pays
-          c.in-Branch.entered c.in-Branch.is one));
-    }
-
-pub loop-until-preserved-in_default : goal.loop-until-preserved-in_default
-loop-until-preserved-in_default g c =
-    let on = (goal.at.loop-until-preserved-in_default g c).After-commit_branch in
-    let at = (goal.at.loop-until-preserved-in_default g c).After-enter_branch in
-    let s = c.loop-until.invariant in
-    record {
-      begun = s.begun + 1;
-      count = λ is. omega (arith, s.count is, going g at is);
-      stands = λ u is. stands_more (s.stands u is) (begins g on u (rest g at u is));
-      rest = rw (← s.same, c.in_default.is)
+      rest = rw (← s.same, s.watched.1 (omega (arith, c.if-steps-watch.false, c.loop-entered.auto.steps-fits, some)))
           (rest_of_all c.commit_branch.new.self.puzzle c.enter_branch.new.stack.levels _ _);
       far = λ h. absurd (omega (arith, h));
       same = s.same;
+      some = λ _. omega (arith, s.watched.0, c.if-steps-watch.false);
+      watched = s.watched;
       pays = λ one. Pays-trans (s.pays one) (rw c.commit_branch.ensures (c.enter_branch.ensures.entered_pays
           c.in-Branch.entered c.in-Branch.is one));
     }
 
-pub loop-until-preserved : goal.loop-until-preserved
-loop-until-preserved g c =
-    let on = (goal.at.loop-until-preserved g c).After-commit_branch in
-    let at = (goal.at.loop-until-preserved g c).After-enter_branch in
-    let s = c.loop-until.invariant in
-    let free : not (nat_eq g.row.BOUND 0) ≡ false = grind (arith, nat_tests, c.if-this-ne0.false) in
+pub loop-entered-preserved : goal.loop-entered-preserved
+loop-entered-preserved g c =
+    let on = (goal.at.loop-entered-preserved g c).After-commit_branch in
+    let at = (goal.at.loop-entered-preserved g c).After-enter_branch in
+    let s = c.loop-entered.invariant in
+    let free : not (nat_eq g.row.BOUND 0) ≡ false = grind (arith, nat_tests, c.if-this-ne0-2.false) in
     record {
       begun = s.begun + 1;
       count = λ is. absurd (cc (is, free));
@@ -186,13 +189,38 @@ loop-until-preserved g c =
           (rest_of_all c.commit_branch.new.self.puzzle c.enter_branch.new.stack.levels _ _);
       far = λ h. absurd (omega (arith, h));
       same = s.same;
+      some = λ is. absurd (cc (is, free));
+      watched = s.watched;
       pays = λ one. Pays-trans (s.pays one) (rw c.commit_branch.ensures (c.enter_branch.ensures.entered_pays
           c.in-Branch.entered c.in-Branch.is one));
     }
 
-pub returns-clause-ran : goal.returns-clause-ran
-returns-clause-ran g c u is =
-    let s = c.loop-until.invariant in
-    let bound : not (nat_eq g.row.BOUND 0) ≡ true = grind (arith, nat_tests) in
-    let none : c.loop-until.steps ≡ 0 = grind (arith, nat_tests) in
-    rw c.halted-2.ensures (runs_to_steps (s.stands u is) s.count bound none s.rest.before)
+pub returns-then-steps-eq0-clause-ran : goal.returns-then-steps-eq0-clause-ran
+returns-then-steps-eq0-clause-ran g c u is =
+    let bound : not (nat_eq g.row.BOUND 0) ≡ true = grind (arith, nat_tests, c.if-this-ne0.true) in
+    rw c.halted.ensures (runs_to_steps
+    (stands_first (not c.args.task.early) c.args.task.first u _ _ _ c.requires.standing)
+    (λ _. omega arith) bound c.if-steps-eq0.true c.requires.before)
+
+pub returns-then-steps-eq0-2-clause-ran : goal.returns-then-steps-eq0-2-clause-ran
+returns-then-steps-eq0-2-clause-ran g c u is =
+    let on = (goal.at.returns-then-steps-eq0-2-clause-ran g c).After-commit_branch in
+    let at = (goal.at.returns-then-steps-eq0-2-clause-ran g c).After-enter_branch in
+    let s = c.loop-entered.invariant in
+    let bound : not (nat_eq g.row.BOUND 0) ≡ true = grind (arith, nat_tests, c.if-this-ne0-2.true) in
+    let seen : IsRest (option_map (λ u. u.now) c.args.task.until) c.commit_branch.new.self.puzzle
+    c.enter_branch.new.stack.levels c.match-until.last c.args.task.first = elim c.match-until.branch [
+      | in-Some+in-Before w ↦ rest_before c.commit_branch.new.self.puzzle w.levels.result.now
+          c.enter_branch.new.stack.levels w.in-Some.until.now _ _ _ w.levels.ensures.levels
+          (ap (option_map (λ u. u.now)) (sym s.same ∙ w.in-Some.is)) (w.place_apart.ensures.before w.in-Before.is)
+      | in-Some+in-Begins w ↦ rest_about c.commit_branch.new.self.puzzle w.levels.result.now
+          c.enter_branch.new.stack.levels w.in-Some.until.now _ _ _ w.levels.ensures.levels
+          (ap (option_map (λ u. u.now)) (sym s.same ∙ w.in-Some.is)) (w.place_apart.ensures.begins w.in-Begins.is)
+          (omega (arith, w.last-is)) (none_left_out (option_map (λ u. u.now) c.args.task.until)
+          c.commit_branch.new.self.puzzle c.enter_branch.new.stack.levels c.args.task.first
+          (c.requires.all (rw (← s.same, w.in-Some.is) refl)))
+      | in_default w ↦ rw (← s.same, w.in_default.is)
+          (rest_of_all c.commit_branch.new.self.puzzle c.enter_branch.new.stack.levels _ _)
+    ] in
+    rw c.halted-then-steps-eq0-2.ensures (runs_to_steps (stands_more (s.stands u is) (begins g on u (rest g at u is)))
+    (λ h. omega (arith, s.count h, going g at h)) bound c.if-steps-eq0-2.true seen.before)

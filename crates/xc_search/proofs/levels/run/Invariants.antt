@@ -1,4 +1,4 @@
-use Rattle.std.proofs.Common.{ℕ, ◌≡◌, ◌+◌, ◌-◌, ◌≤◌, true, not, List, Option}
+use Rattle.std.proofs.Common.{ℕ, ◌≡◌, ◌+◌, ◌-◌, ◌≤◌, ◌<◌, None, true, not, List, Option}
 use Rattle.std.specs.Prelude.{nat_eq, option_map, ◌^◌}
 use Rattle.xc_search.specs.inner.Ahead.{ahead}
 use Rattle.xc_search.specs.inner.Due.{Pays}
@@ -6,8 +6,8 @@ use Rattle.xc_search.specs.inner.Spanning.{Stands, IsRest, IsSeenBy}
 use Rattle.xc_search.proofs.levels.run.Given as goal
 
 -- it began so many branches
-abbrev pub invariant-loop-until : goal.invariant-loop-until
-invariant-loop-until g l = record {
+abbrev pub invariant-loop-entered : goal.invariant-loop-entered
+invariant-loop-entered g l = record {
   begun : ℕ;
   count : not (nat_eq g.row.BOUND 0) ≡ true → begun + l.steps ≡ l.initial.steps;
   stands : (u : Option (List ℕ)) → IsSeenBy (not (nat_eq g.row.BOUND 0)) u
@@ -17,8 +17,10 @@ invariant-loop-until g l = record {
   rest : IsRest (option_map (λ u. u.now) l.initial.until) l.position.puzzle l.stack.levels l.last l.first;
   far : begun ≡ 0 → 2 ^ 64 - 1 ≤ l.last;
   same : l.until ≡ l.initial.until;
+  some : not (nat_eq g.row.BOUND 0) ≡ true → 0 < l.steps;
+  watched : (0 < l.watch) × (l.watch < 2 ^ 64 - 1 → l.until ≡ None);
   pays : l.first ≡ 1 → Pays l.initial.position l.initial.stack true l.initial.more l.position l.stack true l.more;
 }
 
-abbrev pub decreases-loop-until : goal.decreases-loop-until
-decreases-loop-until g l = ahead l.position.puzzle l.position.trail l.stack.levels true
+abbrev pub decreases-loop-entered : goal.decreases-loop-entered
+decreases-loop-entered g l = ahead l.position.puzzle l.position.trail l.stack.levels true

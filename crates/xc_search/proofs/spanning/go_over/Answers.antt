@@ -1,4 +1,4 @@
-use Rattle.std.proofs.Common.{◌∙◌, sym, ap, inl, inr, refl, arith, [], false}
+use Rattle.std.proofs.Common.{◌∙◌, sym, ap, inl, inr, refl, [], false}
 use Rattle.std.specs.Prelude.{option_map}
 use Rattle.xc_search.specs.Spans.{is_before}
 use Rattle.xc_search.proofs.spans.Kept.{row_levels}
@@ -8,7 +8,7 @@ use Rattle.xc_search.proofs.spanning.go_over.Goals as goal
 
 pub replace_with-ran-requires : goal.replace_with-ran-requires
 replace_with-ran-requires g c =
-    (c.requires.standing, (c.requires.levels_fit, (omega arith, (c.requires.before, λ _. refl))))
+    (c.requires.standing, (c.requires.levels_fit, (refl, (refl, c.requires.before))))
 
 pub settle-requires-clause-led : goal.settle-requires-clause-led
 settle-requires-clause-led g c =

@@ -30,5 +30,11 @@ commit-requires-clause-can g c = grind (arith, use_at)
 pub returns-then-place-item : goal.returns-then-place-item
 returns-then-place-item g c = grind arith
 
-pub returns-else-place-item : goal.returns-else-place-item
-returns-else-place-item g c = grind (arith, use_at)
+pub commit_uses-requires-clause-can : goal.commit_uses-requires-clause-can
+commit_uses-requires-clause-can g c = grind (arith, use_at)
+
+pub returns-then-this-ne0 : goal.returns-then-this-ne0
+returns-then-this-ne0 g c = grind (arith, use_at)
+
+pub returns-else-this-ne0 : goal.returns-else-this-ne0
+returns-else-this-ne0 g c = grind (arith, use_at)
