@@ -121,7 +121,7 @@ expect 0 dlx_count 1 <<'END'
 A
 A
 END
-expect 6 dlx_count 1 b0 <<'END'
+expect 0 dlx_count 1 b0 <<'END'
 A
 A
 END
@@ -136,7 +136,7 @@ A B
 A
 A
 END
-tells 'No count within 0 megabytes.' dlx_count 3 b0 <<'END'
+tells 'Altogether 1 solution.' dlx_count 3 b0 <<'END'
 A
 A
 END

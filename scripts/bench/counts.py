@@ -2,9 +2,8 @@
 """counts.py OURS [--page PAGE]: the times of counting each solution and of dlx-count, in seconds of CPU time.
 
 OURS is a folder with dlx1, dlx2, dlx3 and dlx_count. The problems are those of problems.py that have many solutions.
-Each number is the least of three turns, and each has to be right. Where dlx-count gave up, at its bound of memory or
-for bounds of items, its time until then is told in brackets. With --page the table takes the place of that with the
-same head in a page.
+Each number is the least of three turns, and each has to be right. With --page the table takes the place of that with
+the same head in a page.
 """
 
 from __future__ import annotations
@@ -23,21 +22,18 @@ FEWEST = 1000
 TURNS, MOST = 3, 120
 
 
-def turn(program: Path, words: list[str], problem: problems.Problem) -> tuple[float | None, bool]:
-    """The time of a run, and whether it gave the number of solutions."""
+def turn(program: Path, words: list[str], problem: problems.Problem) -> float:
+    """The time of a run, which has to give the number of solutions."""
     done = Run([str(program), *words], MOST, text_of(problem.name))
     found = re.search(r"^Altogether (\d+) ", done.output, re.M)
-    if found and int(found.group(1)) != problem.count:
-        raise SystemExit(f"{program.name} on {problem.name}: {found.group(1)} solutions, and not {problem.count}")
-    return done.seconds, found is not None
+    if done.seconds is None or not found or int(found.group(1)) != problem.count:
+        raise SystemExit(f"{program.name} on {problem.name}: not {problem.count} solutions within {MOST} seconds")
+    return done.seconds
 
 
 def row(ours: Path, problem: problems.Problem) -> str:
-    searched = [turn(ours / f"dlx{problem.kind}", [], problem) for _ in range(TURNS)]
-    counted = [turn(ours / "dlx_count", [str(problem.kind)], problem) for _ in range(TURNS)]
-    search, count = (min(seconds for seconds, _ in turns if seconds is not None) for turns in (searched, counted))
-    if not all(has_ended for _, has_ended in counted):
-        return f"| {problem.name} | {problem.count} | {search:.3f} | ({count:.3f}) | |"
+    search = min(turn(ours / f"dlx{problem.kind}", [], problem) for _ in range(TURNS))
+    count = min(turn(ours / "dlx_count", [str(problem.kind)], problem) for _ in range(TURNS))
     # The system tells times in hundredths or thousandths of a second.
     return f"| {problem.name} | {problem.count} | {search:.3f} | {count:.3f} | {search / max(count, 0.001):.2f} |"
 

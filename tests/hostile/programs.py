@@ -304,7 +304,8 @@ def dominoes(rows, columns):
 
 
 def hurting():
-    """Texts of some 1 MB each, with what dlx-count has to say of them within 1 MB of states, where that is known."""
+    """Texts of some 1 MB each, with what dlx-count has to say of them within 1 MB of states; none where only a search of
+    many years would tell."""
     names = [f"n{k}" for k in range(30000)]
     pairs = [f"{a} {b}" for k, a in enumerate(names[:400]) for b in names[k + 1 : 400]]
     yield "items with an option each", "1", "\n".join([" ".join(names), *names, ""]), "1 solution."
@@ -323,35 +324,47 @@ def hurting():
 
 
 def counts():
-    """Whatever the text is, a count ends soon, by its bound of memory if not before, and takes little more than that."""
+    """A count ends soon where the number is near, and else goes on, in little more memory than its bound allows."""
     for what, kind, text, wanted in hurting():
         begun = time.monotonic()
         with subprocess.Popen([path("dlx-count"), kind, "b1"], stdin=subprocess.PIPE, stdout=subprocess.PIPE, stderr=subprocess.PIPE) as run_of_it:
-            out, err = run_of_it.communicate(text.encode(), timeout=HANG)
+            try:
+                out, err = run_of_it.communicate(text.encode(), timeout=HANG if wanted else 10)
+            except subprocess.TimeoutExpired:
+                run_of_it.kill()
+                out, err = run_of_it.communicate()
         took = time.monotonic() - begun
-        allowed = ("Altogether ",) if wanted else ("Altogether ", "No count within 1 megabytes.")
-        is_right = out == b"" and err.decode().startswith(allowed) and run_of_it.returncode == (0 if err.startswith(b"Altogether") else 6)
-        tell(is_right and took < HANG and err.decode().endswith(f"Altogether {wanted}\n" if wanted else "\n"), f"a count of {what}: {run_of_it.returncode}, {err[:80]!r}, {took:.1f} s")
+        is_right = out == b"" and (run_of_it.returncode == 0 and err.startswith(b"Altogether ") or not wanted and err == b"")
+        tell(is_right and took < HANG and err.decode().endswith(f"Altogether {wanted}\n" if wanted else ""), f"a count of {what}: {run_of_it.returncode}, {err[:80]!r}, {took:.1f} s")
+
+
+def most_memory(process):
+    """The most megabytes that a running process had so far."""
+    with open(f"/proc/{process.pid}/status") as told:
+        return next(int(line.split()[1]) for line in told if line.startswith("VmHWM:")) / 1000
 
 
 def bounds_of_counts():
     """The bound is kept, want of memory is told, and ^C ends a count at once."""
-    board = dominoes(20, 20)
-    for megabytes in (0, 1, 4):
-        expect(f"a count within {megabytes} MB", ["dlx-count", "1", f"b{megabytes}"], board, 6, b"", b"No count within %d megabytes.\n" % megabytes)
-    small = ["sh", "-c", 'ulimit -v 20000; exec "$@"', "sh", path("dlx-count"), "1", "b4000"]
-    done = subprocess.run(small, input=board, capture_output=True)
-    tell((done.returncode, done.stdout, done.stderr) == (4, b"", b"Out of memory.\n"), f"a count in 20 MB: {done.returncode}, {done.stderr[:80]!r}")
-    with subprocess.Popen([path("dlx-count"), "1", "b4000"], stdin=subprocess.PIPE, stderr=subprocess.PIPE) as count:
-        count.stdin.write(dominoes(40, 40))
-        count.stdin.close()
-        time.sleep(0.5)
-        is_counting = count.poll() is None
-        count.send_signal(signal.SIGINT)
-        begun = time.monotonic()
-        status = count.wait(HANG)
-        tell(is_counting and status == -signal.SIGINT, f"a count that is stopped: {status}, {count.stderr.read()[:80]!r}")
+    for megabytes in (0, 1, 4, 40):
+        with subprocess.Popen([path("dlx-count"), "1", f"b{megabytes}"], stdin=subprocess.PIPE, stderr=subprocess.PIPE) as count:
+            count.stdin.write(dominoes(40, 40))
+            count.stdin.close()
+            time.sleep(3)
+            is_counting = count.poll() is None
+            most = most_memory(count) if is_counting else 0
+            count.send_signal(signal.SIGINT)
+            begun = time.monotonic()
+            status = count.wait(HANG)
+            told = count.stderr.read()
+        tell(is_counting and status == -signal.SIGINT and told == b"", f"a count that is stopped: {status}, {told[:80]!r}")
         tell(time.monotonic() - begun < 10, "a count that is stopped doesn't end at once")
+        tell(most < 2 * megabytes + 20, f"a count within {megabytes} MB takes {most:.0f}")
+    small = ["sh", "-c", 'ulimit -v 20000; exec "$@"', "sh", path("dlx-count"), "1", "b4000"]
+    done = subprocess.run(small, input=dominoes(2, 30), capture_output=True)
+    tell((done.returncode, done.stderr) == (0, b"Altogether 1346269 solutions.\n"), f"a count in 20 MB: {done.returncode}, {done.stderr[:80]!r}")
+    done = subprocess.run(small, input=b"A\n" * 500000, capture_output=True)
+    tell((done.returncode, done.stdout, done.stderr) == (4, b"", b"Out of memory.\n"), f"a count in 20 MB: {done.returncode}, {done.stderr[:80]!r}")
 
 
 # ---- streams as they are

@@ -3,28 +3,21 @@ use fixtures::{ALONE, COLOURED, SEVEN, SMALL, THREE_ALIKE, TWICE, on_problem};
 use natural::Natural;
 use std::alloc::Global;
 use std::test::Fail;
-use xc_count::{CountError, count};
+use xc_count::count;
+use xc_dance::Memory;
 use xc_input::{Kind, Problem};
 
 /// Room for the states of each problem here.
 const ROOM: usize = 1_000_000;
 
 /// Whether a number was counted, in decimal.
-fn is_counted(alloc: Global, covers: Result<Natural, CountError>, wanted: &[u8]) -> bool {
+fn is_counted(alloc: Global, covers: Result<Natural, Memory>, wanted: &[u8]) -> bool {
     let Ok(covers) = covers else {
         return false;
     };
     match covers.to_decimal(alloc) {
         Ok(text) => text.as_slice() == wanted,
         Err(_) => false,
-    }
-}
-
-/// Whether there is no number, for this reason.
-fn is_refused(covers: Result<Natural, CountError>, wanted: CountError) -> bool {
-    match covers {
-        Ok(_) => false,
-        Err(error) => error == wanted,
     }
 }
 
@@ -116,15 +109,23 @@ fn large_numbers_are_counted(rt: HostRuntime) {
     );
 }
 
+/// Room for no state, and for a few, so that the search counts alone, and beside the sweep until that gives up.
+const LITTLE: [usize; 2] = [0, 500];
+
 #[test]
-fn the_bound_is_kept(rt: HostRuntime) {
+fn the_search_counts_where_the_sweep_gives_up(rt: HostRuntime) -> Result<(), Fail> {
     let alloc = rt.alloc();
-    assert!(rt;
-        on_problem(
-            alloc,
-            Kind::Plain,
-            SEVEN,
-            |p| is_refused(count(alloc, p, 0), CountError::OutOfBound)
-        )
-    );
+    for (row, (kind, text, covers)) in COUNTS.iter().enumerate() {
+        for room in &LITTLE {
+            if !on_problem(
+                alloc,
+                *kind,
+                text,
+                |p| is_counted(alloc, count(alloc, p, *room), covers),
+            ) {
+                return Err(Fail::new(format_args!("row {row}")));
+            }
+        }
+    }
+    Ok(())
 }

@@ -11,4 +11,5 @@ pub mod Number
 pub mod Orders
 pub mod PlanLemmas
 pub mod Split
+pub mod Turns
 pub mod WorthLemmas

@@ -11,15 +11,19 @@ ghost use Rattle.xc_count.specs.inner.ByOption.{AtMost, ways, ways_from, ways_ta
 ghost use Rattle.xc_count.specs.inner.Plans.{IsPlan};
 ghost use Rattle.xc_count.specs.inner.Worth.{worth_by};
 
-use crate::errors::CountError;
+use crate::errors::{CountError, Halted};
 use crate::layer::{Layer, State, pop_state};
 use crate::marks::{are_met, forget, take_uses};
 use crate::options::{holders_left, options_in_order, remove_uses};
 use crate::order::filled;
 use crate::plan::Plan;
+use crate::rival::Rival;
 use natural::Natural;
 use std::alloc::Global;
 use xc_input::{Problem, Use};
+
+/// The work of looking at a use for a state, in about nanoseconds.
+const USE_WORK: u64 = 4;
 
 /// Adds ways to the state of a key, unless some bounds can't be met any more. The key may be changed.
 fn add_left(
@@ -91,19 +95,27 @@ fn choose(
     option: u32,
     layer: Layer,
     bound: usize,
-) -> Result<Layer, CountError>
+    rival: &mut Rival,
+) -> Result<Layer, Halted>
     requires { IsOption problem.now.puzzle option }
-    ensures { (os : List ℕ) → AtMost problem.now.puzzle os left.now → IfOk result (λ l.
+    ensures worth { (os : List ℕ) → AtMost problem.now.puzzle os left.now → IfOk result (λ l.
         worth_by (ways_from problem.now.puzzle os) l.states.items
         ≡ worth_by (ways_from problem.now.puzzle (option ∷ os)) layer.states.items) }
+    ensures same { rival.new ≡ rival.old }
 {
     let uses = problem.option(option);
     let mut next = Layer::new(alloc, layer.beside(bound));
     let mut scratch = Vec::new(alloc);
     let mut states = layer.states;
+    let tries = USE_WORK.saturating_mul(uses.len() as u64);
     while let Some(state) = pop_state(&mut states) {
+        let before = next.work();
         leave(problem, left, uses, &mut next, &mut scratch, &state)?;
         take(problem, left, uses, &mut next, &mut scratch, &state)?;
+        let added = next.work().wrapping_sub(before);
+        if rival.after(added.saturating_add(tries)) {
+            return Err(Halted::Overtaken);
+        }
     }
     Ok(next)
 }
@@ -133,23 +145,34 @@ fn total(alloc: Global, problem: &Problem, layer: Layer) -> Result<Natural, Coun
     Ok(sum)
 }
 
-/// How many covers a problem has. Its states take no more than so many bytes at once.
+/// How many covers a problem has, unless the search beside it ends first. Its states take no more than so many bytes at
+/// once.
 pub fn sweep_options(
     alloc: Global,
     problem: &Problem,
     plan: &Plan,
     bound: usize,
-) -> Result<Natural, CountError>
+    rival: &mut Rival,
+) -> Result<Natural, Halted>
     requires plan { IsPlan problem.now.puzzle plan.now }
     requires valid { IsValid problem.now.puzzle }
-    ensures { IfOk result (λ n. n ≡ length (members problem.now.puzzle)) }
+    ensures count { IfOk result (λ n. n ≡ length (members problem.now.puzzle)) }
+    ensures same { rival.new ≡ rival.old }
 {
     let order = options_in_order(alloc, problem, plan)?;
     let mut left = holders_left(alloc, problem, order.as_slice())?;
     let mut layer = first_layer(alloc, problem, bound)?;
     for k in 0..order.len() {
         remove_uses(&mut left, problem.option(order[k]));
-        layer = choose(alloc, problem, left.as_slice(), order[k], layer, bound)?;
+        layer = choose(
+            alloc,
+            problem,
+            left.as_slice(),
+            order[k],
+            layer,
+            bound,
+            rival,
+        )?;
     }
-    total(alloc, problem, layer)
+    Ok(total(alloc, problem, layer)?)
 }

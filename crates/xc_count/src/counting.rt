@@ -6,11 +6,14 @@ ghost use Rattle.xc_count.specs.Number.{HasCovers};
 ghost use Rattle.xc_count.specs.inner.Held.{HoldsOnce};
 
 use crate::by_option::sweep_options;
-use crate::errors::CountError;
-use crate::plan::Plan;
+use crate::errors::Halted;
+use crate::plan::{Plan, planning_work};
+use crate::rival::{FIRST_WORK, Rival};
 use crate::sweeping::sweep;
 use natural::Natural;
 use std::alloc::Global;
+use std::cell::Cell;
+use xc_dance::Memory;
 use xc_input::Problem;
 
 /// Whether each primary item is to be held exactly once.
@@ -27,35 +30,53 @@ fn is_once(problem: &Problem) -> bool
     true
 }
 
-/// How many covers a problem has, by the sweep for its kind.
-fn sweep_for(alloc: Global, problem: &Problem, bound: usize) -> Result<Natural, CountError>
+/// How many covers a problem has, by the sweep for its kind, unless the search beside it ends first.
+fn sweep_beside(
+    alloc: Global,
+    problem: &Problem,
+    bound: usize,
+    rival: &mut Rival,
+) -> Result<Natural, Halted>
     ensures members { IfOk result (λ n. n ≡ length (members problem.now.puzzle)) }
     ensures valid { IsValid problem.now.puzzle }
+    ensures same { rival.new ≡ rival.old }
 {
     let once = is_once(problem);
+    let planning = planning_work(problem);
+    if planning > FIRST_WORK && rival.ahead(planning) {
+        return Err(Halted::Overtaken);
+    }
     let plan = Plan::new(alloc, problem)?;
     if once {
-        sweep(alloc, problem, &plan, bound)
+        sweep(alloc, problem, &plan, bound, rival)
     } else {
-        sweep_options(alloc, problem, &plan, bound)
+        sweep_options(alloc, problem, &plan, bound, rival)
     }
 }
 
-/// How many covers a problem has. It makes none of them: it goes through the primary items in an order that it finds,
-/// and adds up, for each state that the options taken so far may leave, the ways to it. Where an item has other bounds
-/// than `1:1` it goes through the options one by one, in the order of their items. (Knuth, The Art of Computer
-/// Programming 4B, 7.2.2.1, Algorithm Z, and Nishino, Yasuda, Minato and Nagata, 2017, keep the same states in the
-/// order of a search.)
+/// How many covers a problem has, by two ways that have turns until one of them ends.
 ///
-/// Its time and memory go by the states, not by the covers. The states take about `bound` bytes at most.
+/// A sweep makes no cover: it goes through the primary items in an order that it finds, and adds up, for each state
+/// that the options taken so far may leave, the ways to it. Where an item has other bounds than `1:1` it goes through
+/// the options one by one, in the order of their items. (Knuth, The Art of Computer Programming 4B, 7.2.2.1, Algorithm
+/// Z, and Nishino, Yasuda, Minato and Nagata, 2017, keep the same states in the order of a search.) Its time and memory
+/// go by the states. They take about `bound` bytes at most: where that is not enough, it gives up.
+///
+/// The other way is a search that goes over each cover. It is faster where states hardly repeat, and goes on alone
+/// where the sweep gave up.
 ///
 /// # Errors
-/// `OutOfBound` where they would take more, and `Memory` where there is none.
-pub fn count(alloc: Global, problem: &Problem, bound: usize) -> Result<Natural, CountError>
+/// `Memory` where there is none for the search's tables.
+pub fn count(alloc: Global, problem: &Problem, bound: usize) -> Result<Natural, Memory>
     ensures members { IfOk result (λ n. n ≡ length (members problem.now.puzzle)) }
     ensures covers { IfOk result (λ n. HasCovers problem.now.puzzle n) }
 {
-    sweep_for(alloc, problem, bound)
+    let gone_over = Cell::new(0);
+    let mut rival = Rival::new(alloc, problem, &gone_over)?;
+    match sweep_beside(alloc, problem, bound, &mut rival) {
+        Ok(covers) => Ok(covers),
+        Err(_) => rival.finish(alloc),
+    }
 }
 
 /// A valid problem has as many covers as its listing has members, and no other number of them.

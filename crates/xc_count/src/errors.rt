@@ -1,6 +1,7 @@
 //! Why there is no count.
 ghost use Rattle.std.specs.Prelude.{◌≡◌};
 ghost use Rattle.xc_count.specs.declared.errors.CountError.TheVariants.{Memory};
+ghost use Rattle.xc_count.specs.declared.errors.Halted.TheVariants.{Failed};
 
 use std::alloc::{AllocError, AllocFailed};
 
@@ -11,6 +12,23 @@ pub enum CountError {
     Memory,
     /// The states would have taken more bytes than the caller allows.
     OutOfBound,
+}
+
+/// Why a sweep has no count.
+#[derive(Clone, Copy, Debug, PartialEq, Eq)]
+pub enum Halted {
+    /// It failed.
+    Failed(CountError),
+    /// The search beside it came to the end first.
+    Overtaken,
+}
+
+impl From<CountError> for Halted {
+    ghost from_gives = { λ e h. h ≡ Failed e };
+
+    fn from(error: CountError) -> Halted {
+        Halted::Failed(error)
+    }
 }
 
 impl From<AllocError> for CountError {

@@ -8,12 +8,13 @@ mod holders;
 mod keys;
 mod layer;
 mod marks;
+mod metered;
 mod narrow;
 mod options;
 mod order;
 mod plan;
 mod ranking;
+mod rival;
 mod sweeping;
 
 pub use counting::{count, one_number_of_covers};
-pub use errors::CountError;

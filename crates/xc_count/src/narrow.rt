@@ -20,6 +20,18 @@ const MOST_STEPS: u64 = 30_000_000;
 /// From how many items on orders are tried.
 const STARTS: u32 = 12;
 
+/// The work of a step, in about nanoseconds.
+const STEP_WORK: u64 = 3;
+
+/// How much work it may be to find an order of a problem's items, about.
+pub fn narrow_work(problem: &Problem) -> u64 {
+    let primary = u64::from(problem.primary());
+    let steps = primary
+        .saturating_mul(primary)
+        .saturating_mul(u64::from(STARTS) + 1);
+    steps.min(MOST_STEPS) * STEP_WORK
+}
+
 /// The order of the file, as far as so many steps go.
 fn file_order(
     alloc: Global,

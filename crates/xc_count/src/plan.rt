@@ -7,7 +7,7 @@ ghost use Rattle.xc_count.specs.inner.Plans.{HoldsPast, IsOver, IsPlan, options_
 
 use crate::errors::CountError;
 use crate::holders::{options_by_item, options_of};
-use crate::narrow::narrow_order;
+use crate::narrow::{narrow_order, narrow_work};
 use crate::order::{ends, places, whole_order};
 use crate::ranking::{Ranking, rank_items};
 use std::alloc::Global;
@@ -39,6 +39,16 @@ fn items_by_end(alloc: Global, ends: &[u32]) -> Result<Vec<u32>, CountError> {
         items.push(pair.1)?;
     }
     Ok(items)
+}
+
+/// The work of reading a use as often as a plan does, in about nanoseconds.
+const USE_WORK: u64 = 100;
+
+/// How much work a problem's plan is, about.
+pub fn planning_work(problem: &Problem) -> u64 {
+    USE_WORK
+        .saturating_mul(problem.uses() as u64)
+        .saturating_add(narrow_work(problem))
 }
 
 impl Plan {

@@ -14,11 +14,12 @@ ghost use Rattle.xc_count.specs.inner.Held.{HoldsOnce};
 ghost use Rattle.xc_count.specs.inner.Plans.{IsPlan, IsStep, options_with};
 ghost use Rattle.xc_count.specs.inner.Worth.{EachKey, holds_first, key_below, says, with_number, worth};
 
-use crate::errors::CountError;
+use crate::errors::{CountError, Halted};
 use crate::holders::options_of;
 use crate::keys::{do_agree, mark_of, mark_uses, without_first};
 use crate::layer::{Layer, State, pop_state};
 use crate::plan::Plan;
+use crate::rival::Rival;
 use natural::Natural;
 use std::alloc::Global;
 use xc_input::Problem;
@@ -31,6 +32,9 @@ pub struct Step {
     pub from: usize,
     pub next: usize,
 }
+
+/// The work of trying an option, in about nanoseconds.
+const TRY_WORK: u64 = 6;
 
 /// Adds ways to a state in which the step's item is held.
 fn add_held(
@@ -156,6 +160,15 @@ fn hold(
     split(problem, plan, step, layer, scratch, state, options)
 }
 
+/// The work of trying each option of the step's item, where it is free.
+fn work_of_tries(problem: &Problem, plan: &Plan, step: Step) -> u64
+    requires plan { IsPlan problem.now.puzzle plan.now }
+    requires within { step.place < length plan.now.order.items }
+{
+    let item = plan.order[step.place];
+    TRY_WORK * options_of(problem, plan.holders.as_slice(), item).len() as u64
+}
+
 /// What the states of a layer become once the step's item is held.
 fn pass(
     alloc: Global,
@@ -164,7 +177,8 @@ fn pass(
     step: Step,
     layer: Layer,
     bound: usize,
-) -> Result<Layer, CountError>
+    rival: &mut Rival,
+) -> Result<Layer, Halted>
     requires once { HoldsOnce problem.now.puzzle }
     requires plan { IsPlan problem.now.puzzle plan.now }
     requires step { IsStep problem.now.puzzle plan.now step }
@@ -173,12 +187,19 @@ fn pass(
     ensures worth { IfOk result (λ l. worth problem.now.puzzle plan.now step.next l.states.items
         ≡ worth problem.now.puzzle plan.now step.from layer.states.items) }
     ensures held { IfOk result (λ l. EachKey (holds_first plan.now (step.place + 1) step.next) l.states.items) }
+    ensures same { rival.new ≡ rival.old }
 {
     let mut next = Layer::new(alloc, layer.beside(bound));
     let mut scratch = Vec::new(alloc);
     let mut states = layer.states;
+    let tries = work_of_tries(problem, plan, step);
     while let Some(state) = pop_state(&mut states) {
+        let before = next.work();
         hold(problem, plan, step, &mut next, &mut scratch, &state)?;
+        let added = next.work().wrapping_sub(before);
+        if rival.after(added.saturating_add(tries)) {
+            return Err(Halted::Overtaken);
+        }
     }
     Ok(next)
 }
@@ -221,18 +242,20 @@ fn total(
     Ok(sum)
 }
 
-/// How many covers a problem has whose primary items are each to be held exactly once. Its states take no more than so
-/// many bytes at once.
+/// How many covers a problem has whose primary items are each to be held exactly once, unless the search beside it ends
+/// first. Its states take no more than so many bytes at once.
 pub fn sweep(
     alloc: Global,
     problem: &Problem,
     plan: &Plan,
     bound: usize,
-) -> Result<Natural, CountError>
+    rival: &mut Rival,
+) -> Result<Natural, Halted>
     requires once { HoldsOnce problem.now.puzzle }
     requires plan { IsPlan problem.now.puzzle plan.now }
     requires valid { IsValid problem.now.puzzle }
-    ensures { IfOk result (λ n. n ≡ length (members problem.now.puzzle)) }
+    ensures count { IfOk result (λ n. n ≡ length (members problem.now.puzzle)) }
+    ensures same { rival.new ≡ rival.old }
 {
     let mut layer = first_layer(alloc, problem, plan, bound)?;
     let mut from = 0;
@@ -245,8 +268,9 @@ pub fn sweep(
             Step { place, from, next },
             layer,
             bound,
+            rival,
         )?;
         from = next;
     }
-    total(alloc, problem, plan, from, layer)
+    Ok(total(alloc, problem, plan, from, layer)?)
 }

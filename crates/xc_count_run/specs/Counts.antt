@@ -1,6 +1,6 @@
 -- What a whole run that counts covers does.
-use Rattle.std.specs.Prelude.{◌≡◌, ◌⊎◌, ℕ, ◌==◌, List, [], ◌∷◌, ◌++◌, Option, Some, None, MatchOption, length, codes}
-use Rattle.std.specs.Prelude.{decimal, flat_map}
+use Rattle.std.specs.Prelude.{◌≡◌, ◌⊎◌, ℕ, ◌==◌, List, [], ◌∷◌, ◌++◌, Option, None, MatchOption, length, codes}
+use Rattle.std.specs.Prelude.{flat_map}
 use Rattle.std.specs.Prelude.{option_map, option_and_then, if◌then◌else◌}
 use Rattle.std.specs.Str.{byte}
 use Rattle.natural.specs.Numerals.{numeral}
@@ -31,35 +31,30 @@ abbrev pub count_text : ℕ → List ℕ
 count_text n =
     codes "Altogether " ++ numeral n ++ (if n == 1 then codes " solution.\n" else codes " solutions.\n")
 
--- the line where the states would take more than so many megabytes
-abbrev pub bound_text : ℕ → List ℕ
-bound_text megabytes = codes "No count within " ++ decimal megabytes ++ codes " megabytes.\n"
-
 -- A message, with this status, was reported as far as that went.
 abbrev pub Reports : SinkState → SinkState → ℕ → ℕ × List ℕ → Type 0
 Reports old new status reason = (status ≡ reason.0) × WasTold old new reason.1
 
 -- What counting the covers of a problem did, by the status. 0: the number was printed; 3: or it couldn't be. 4: there
--- was no memory. 6: the states would have taken more than the bound.
-abbrev pub DidCount : Named → ℕ → ℕ → SinkState → SinkState → Type 0
-DidCount a megabytes status old new =
+-- was no memory.
+abbrev pub DidCount : Named → ℕ → SinkState → SinkState → Type 0
+DidCount a status old new =
     let text = count_text (length (members a.puzzle)) in
     ((status ≡ 0) × Took old new text)
     ⊎ ((status ≡ 3) × BrokeOff old new text)
     ⊎ Reports old new status (4, codes "Out of memory.\n")
-    ⊎ Reports old new status (6, bound_text megabytes)
 
 -- A warning couldn't be printed, at 3; or the warnings were printed, and then the covers were counted.
-abbrev pub DidWarnAndCount : ℕ → ℕ → SinkState → SinkState → Named → List ℕ → Type 0
-DidWarnAndCount megabytes status old new a ignored =
+abbrev pub DidWarnAndCount : ℕ → SinkState → SinkState → Named → List ℕ → Type 0
+DidWarnAndCount status old new a ignored =
     let warnings = flat_map warning_text ignored in
     ((status ≡ 3) × BrokeOff old new warnings)
-    ⊎ ((warned : SinkState) × Took old warned warnings × DidCount a megabytes status warned new)
+    ⊎ ((warned : SinkState) × Took old warned warnings × DidCount a status warned new)
 
 -- What a run did, by its words and its status, which is 1 exactly if the words are wrong.
 abbrev pub DidCountWords : {S : Type 0} → List (List ℕ) → ℕ → Seen S SourceState → Seen S SourceState
     → SinkState → SinkState → Type 0
 DidCountWords words status from to old new = MatchOption (asked_count words)
     ((to ≡ from) × Reports old new status (1, codes "Usage: dlx-count 1|2|3 [bMEGABYTES]\n"))
-    (λ asked. ReadsProblem asked.0 from.state to.state (DidWarnAndCount asked.1 status old new)
+    (λ asked. ReadsProblem asked.0 from.state to.state (DidWarnAndCount status old new)
     (Reports old new status))

@@ -1,11 +1,9 @@
 //! What is reported of a count.
 ghost use Rattle.std.specs.Prelude.{◌≡◌, ◌==◌, ℕ, IfOk, codes, if◌then◌else◌};
-ghost use Rattle.xc_list.specs.Texts.{Writes};
-ghost use Rattle.xc_count_run.specs.Counts.{bound_text, count_text};
+ghost use Rattle.xc_count_run.specs.Counts.{count_text};
 
 use natural::Natural;
 use std::alloc::{AllocError, Global};
-use xc_list::{Sink, SinkFault, write_line};
 
 /// What follows the number of solutions.
 fn tail<'a>(is_one: bool) -> &'a [u8]
@@ -27,11 +25,4 @@ pub fn count_line(alloc: Global, count: &Natural) -> Result<Vec<u8>, AllocError>
     count.write_decimal(&mut line)?;
     line.extend_from_slice(tail(is_one))?;
     Ok(line)
-}
-
-/// Writes that the states would take more than so many megabytes.
-pub fn write_bound<E: Sink>(megabytes: u64, err: &mut E) -> Result<(), SinkFault>
-    ensures { Writes (E.state err.old) (E.state err.new) result (bound_text megabytes) }
-{
-    write_line(err, b"No count within ", megabytes, &[b" megabytes.\n"])
 }

@@ -4,13 +4,13 @@ ghost use Rattle.xc_input.specs.Named.{Named};
 ghost use Rattle.xc_search.specs.Cover.{members};
 ghost use Rattle.xc_list.specs.Texts.{seen, WasTold};
 ghost use Rattle.xc_tools.specs.WholeRuns.{no_problem};
-ghost use Rattle.xc_count_run.specs.Counts.{DidCount, DidCountWords, DidWarnAndCount, Reports, bound_text};
+ghost use Rattle.xc_count_run.specs.Counts.{DidCount, DidCountWords, DidWarnAndCount, Reports};
 
 use crate::asked::asked_count;
-use crate::messages::{count_line, write_bound};
+use crate::messages::count_line;
 use natural::Natural;
 use std::alloc::Global;
-use xc_count::{CountError, count};
+use xc_count::count;
 use xc_input::{InputError, Problem, Read, Source, read_problem};
 use xc_list::{Sink, warnings, write_all};
 use xc_tools::{input_error, out_of_memory};
@@ -25,8 +25,6 @@ const BAD_INPUT: u8 = 2;
 const FAILED: u8 = 3;
 /// There was no memory.
 const NO_MEMORY: u8 = 4;
-/// The states would have taken more than the bound.
-const BOUND_MET: u8 = 6;
 
 /// Reports why there is no count, as far as that goes, and returns its status.
 fn refuse<E: Sink>(status: u8, text: &[u8], err: &mut E) -> u8
@@ -34,14 +32,6 @@ fn refuse<E: Sink>(status: u8, text: &[u8], err: &mut E) -> u8
 {
     let _ = write_all(err, text);
     status
-}
-
-/// Reports that the bound was met, as far as that goes, and returns its status.
-fn bound_met<E: Sink>(megabytes: u64, err: &mut E) -> u8
-    ensures { Reports (E.state err.old) (E.state err.new) result (6, bound_text megabytes) }
-{
-    let _ = write_bound(megabytes, err);
-    BOUND_MET
 }
 
 /// Reports why no problem was read, as far as that goes, and returns its status.
@@ -57,15 +47,9 @@ fn no_problem<E: Sink>(error: &InputError, err: &mut E) -> u8
 }
 
 /// Writes the number of a problem's covers.
-fn tell_count<E: Sink>(
-    alloc: Global,
-    problem: &Problem,
-    megabytes: u64,
-    covers: &Natural,
-    err: &mut E,
-) -> u8
+fn tell_count<E: Sink>(alloc: Global, problem: &Problem, covers: &Natural, err: &mut E) -> u8
     requires { covers.now ≡ length (members problem.now.puzzle) }
-    ensures did { DidCount problem.now megabytes result (E.state err.old) (E.state err.new) }
+    ensures did { DidCount problem.now result (E.state err.old) (E.state err.new) }
 {
     let Ok(line) = count_line(alloc, covers) else {
         return out_of_memory(err);
@@ -83,18 +67,17 @@ fn bytes(megabytes: u64) -> usize {
 
 /// Counts the covers of a problem.
 fn count_problem<E: Sink>(alloc: Global, problem: &Problem, megabytes: u64, err: &mut E) -> u8
-    ensures did { DidCount problem.now megabytes result (E.state err.old) (E.state err.new) }
+    ensures did { DidCount problem.now result (E.state err.old) (E.state err.new) }
 {
     match count(alloc, problem, bytes(megabytes)) {
-        Ok(covers) => tell_count(alloc, problem, megabytes, &covers, err),
-        Err(CountError::Memory) => out_of_memory(err),
-        Err(CountError::OutOfBound) => bound_met(megabytes, err),
+        Ok(covers) => tell_count(alloc, problem, &covers, err),
+        Err(_) => out_of_memory(err),
     }
 }
 
 /// Reports the ignored options, and counts the covers.
 fn count_read<E: Sink>(alloc: Global, read: &Read, megabytes: u64, err: &mut E) -> u8
-    ensures did { DidWarnAndCount megabytes result (E.state err.old) (E.state err.new)
+    ensures did { DidWarnAndCount result (E.state err.old) (E.state err.new)
         read.now.problem read.now.ignored.items }
 {
     match warnings(read, err) {
@@ -105,9 +88,9 @@ fn count_read<E: Sink>(alloc: Global, read: &Read, megabytes: u64, err: &mut E) 
 
 /// A whole run: reads the words, then the problem, counts its covers, and writes their number and the messages to
 /// `err`. The words are `1`, `2` or `3` for the program that the problem is written for, and perhaps `b` with the most
-/// megabytes that the states may take. It returns the status: 0 where the number was printed, 1 for other words, 2 for
-/// a fault of the problem, 3 where a read or a write failed, 4 where memory ran out, 6 where the states would take more
-/// than the bound. Names are hashed by the input's seed.
+/// megabytes that the states of the sweep may take: where that is not enough, a search counts alone. It returns the
+/// status: 0 where the number was printed, 1 for other words, 2 for a fault of the problem, 3 where a read or a write
+/// failed, 4 where memory ran out. Names are hashed by the input's seed.
 pub fn count_covers<S: Source, E: Sink>(
     alloc: Global,
     words: &[Vec<u8>],

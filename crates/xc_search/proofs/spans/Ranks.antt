@@ -84,7 +84,7 @@ rows_below r k h = by_option (branch_item r)
 abbrev rows_before : Residual → ℕ → ℕ
 rows_before r k = sum_by (λ b. row_count b.next) (take k (branches_left r))
 
-abbrev rank : Residual → List ℕ → ℕ
+abbrev pub rank : Residual → List ℕ → ℕ
 rank r [] = 0
 rank r (zero ∷ row) = 1
 rank r (suc k ∷ row) = 1 + (rows_before r k + rank (left_by_number (suc k) r) row)
@@ -102,7 +102,7 @@ branch_at r k h =
     record { branch = x.0; at = x.1; next = rw (number, x.1) refl }
 
 -- it is below the number of rows
-rank_within : (r : Residual) (row : List ℕ) → IsRowOf r row → rank r row < row_count r
+pub rank_within : (r : Residual) (row : List ℕ) → IsRowOf r row → rank r row < row_count r
 rank_within r [] h = some_rows r
 rank_within r (zero ∷ row) h = omega (arith, rows_at r None h.0)
 rank_within r (suc k ∷ row) h =
@@ -116,7 +116,7 @@ rank_within r (suc k ∷ row) h =
     )
 
 -- and rises with the row
-rank_rises : (r : Residual) (a b : List ℕ) → IsRowOf r a → IsRowOf r b → precedes a b ≡ true → rank r a < rank r b
+pub rank_rises : (r : Residual) (a b : List ℕ) → IsRowOf r a → IsRowOf r b → precedes a b ≡ true → rank r a < rank r b
 rank_rises r a [] h i e = absurd (cc e)
 rank_rises r [] (zero ∷ b) h i e = omega arith
 rank_rises r [] (suc k ∷ b) h i e = omega arith

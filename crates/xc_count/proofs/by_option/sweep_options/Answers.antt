@@ -1,4 +1,4 @@
-use Rattle.std.proofs.Common.{suc, arith, ◌≡◌, ◌≤◌, ◌+◌, ◌∙◌, ◌∷◌, [], sym, ap, subst, get_or, drop, drop-cons}
+use Rattle.std.proofs.Common.{suc, arith, refl, ◌≡◌, ◌≤◌, ◌+◌, ◌∙◌, ◌∷◌, [], sym, ap, subst, get_or, drop, drop-cons}
 use Rattle.std.specs.Prelude.{unwrap_or}
 use Rattle.std.proofs.lemmas.List.{get_or_default}
 use Rattle.xc_input.specs.Problem.{IsSoundOption, uses_of}
@@ -17,6 +17,7 @@ loop-k-init c =
       worth = c.in_ok-layer.ensures os ∙ ways_many p c.requires.valid os c.in_ok-order.ensures;
       left = subst (λ z. AtMost p z c.in_ok-left.left.items) c.as_slice.ensures.value c.in_ok-left.ensures.left;
       len = c.in_ok-left.ensures.len;
+      same = refl;
     }
 
 pub remove_uses-requires-clause-distinct : goal.remove_uses-requires-clause-distinct
@@ -44,9 +45,10 @@ loop-k-preserved c =
     (λ i. subst (λ us. get_or c.loop-k.left.items i 0 ≤ held_by us i + get_or c.remove_uses.new.left.items i 0)
     (sym uses) (c.remove_uses.ensures.less i)) in
     record {
-      worth = c.in_ok-layer-2.ensures rest (subst (AtMost p rest) (sym c.as_slice-in-loop-k.ensures.value) fewer)
+      worth = c.in_ok-layer-2.ensures.worth rest (subst (AtMost p rest) (sym c.as_slice-in-loop-k.ensures.value) fewer)
           ∙ ap (λ z. worth_by (ways_from p z) c.loop-k.layer.states.items) (ap (λ n. n ∷ rest) again ∙ sym here)
           ∙ c.loop-k.invariant.worth;
       left = fewer;
       len = c.remove_uses.ensures.len ∙ c.loop-k.invariant.len;
+      same = c.in_ok-layer-2.ensures.same ∙ c.loop-k.invariant.same;
     }

@@ -1,4 +1,4 @@
-use Rattle.std.proofs.Common.{arith, ◌≡◌, ◌+◌, ◌*◌, subst}
+use Rattle.std.proofs.Common.{arith, ◌≡◌, ◌+◌, ◌*◌, ◌∙◌, subst}
 use Rattle.xc_count.specs.inner.Worth.{EachKey, holds_first, key_below, worth}
 use Rattle.xc_count.proofs.WorthLemmas.{worth_push, keys_before}
 use Rattle.xc_count.proofs.sweeping.pass.Goals as goal
@@ -18,4 +18,5 @@ loop-state-preserved c =
       worth = omega (arith, push, c.in_ok-hold.ensures.worth, c.loop-state.invariant.worth);
       left = keys_before test c.pop_state.new.states.items s (subst (EachKey test) popped c.loop-state.invariant.left);
       held = c.in_ok-hold.ensures.others;
+      same = c.after.ensures ∙ c.loop-state.invariant.same;
     }

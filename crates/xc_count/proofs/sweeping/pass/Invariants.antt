@@ -9,6 +9,7 @@ invariant-loop-state l = record {
       ≡ worth l.problem.puzzle l.plan l.step.from l.layer.states.items;
   left : EachKey (holds_first l.plan l.step.place l.step.from) l.states.items;
   held : EachKey (holds_first l.plan (l.step.place + 1) l.step.next) l.next.states.items;
+  same : l.rival ≡ l.initial.rival;
 }
 
 abbrev pub decreases-loop-state : goal.decreases-loop-state

@@ -1,0 +1,185 @@
+//! A search that counts beside a sweep, turn by turn.
+ghost use Rattle.std.specs.Prelude.{◌≡◌, length, IfOk};
+ghost use Rattle.xc_search.specs.Cover.{members};
+
+use crate::metered::{Metered, SAMPLE};
+use natural::Natural;
+use std::alloc::Global;
+use std::cell::Cell;
+use std::marker::Model;
+use xc_dance::{Links, Memory};
+use xc_input::Problem;
+use xc_search::{Halt, Span};
+
+// Work is told in about nanoseconds.
+
+/// The work of the sweep before the search has its first turn.
+pub const FIRST_WORK: u64 = 15_000_000;
+/// The work of a turn of the search, about.
+const TURN_WORK: u64 = 4_000_000;
+/// How much more of the work the search does than the sweep.
+const ODDS: u64 = 5;
+/// The branches of the first turn.
+const FIRST_BRANCHES: u64 = 64;
+/// The work of a branch beside that of going over options.
+const BRANCH_WORK: u64 = 60;
+/// The work of a use of an option that is gone over, where all uses are in the nearest cache and where not.
+const NEAR_WORK: u64 = 2;
+
+const FAR_WORK: u64 = 3;
+/// How many uses that cache holds, about.
+const NEAR_USES: usize = 2000;
+
+/// A search that counts the covers of a problem beside a sweep. Where little repeats it ends first.
+#[derive(Drop)]
+pub struct Rival<'a> {
+    span: Span<'a, Metered<'a>>,
+    /// How many options its moves went over.
+    gone_over: &'a Cell<u64>,
+    /// The work of going over an option that was looked at.
+    option_work: u64,
+    /// How many covers it has passed.
+    passed: u64,
+    /// How many branches a turn begins.
+    branches: u64,
+    /// How much work the sweep does until the search has its next turn.
+    left: u64,
+}
+
+impl<'a> Model for Rival<'a> {
+    ghost use Rattle.std.specs.Prelude.{◌≡◌, ◌+◌, length, IfSome};
+    ghost use Rattle.xc_input.specs.Problem.{Puzzle};
+    ghost use Rattle.xc_search.specs.Cover.{members};
+    ghost use Rattle.xc_search.specs.InSpan.{left_of};
+    ghost use Rattle.xc_search.specs.Listing.{whole};
+    ghost use Rattle.xc_search.specs.Nodes.{IsRowOf};
+
+    ghost Value = { Puzzle };
+
+    ghost view = { λ r. r.span.puzzle };
+
+    ghost invariant = { λ r. record {
+      passed : r.passed + length (left_of r.span) ≡ length (members r.span.puzzle);
+      node : IfSome r.span.row (λ row. IsRowOf (whole r.span.puzzle) row);
+    } };
+}
+
+/// The work of going over as many options as one stands for that was looked at, each with as many uses as the problem's
+/// options have on average.
+fn option_work(problem: &Problem) -> u64 {
+    let use_work = if problem.uses() <= NEAR_USES {
+        NEAR_WORK
+    } else {
+        FAR_WORK
+    };
+    let uses = problem.uses() as u64;
+    (SAMPLE * use_work).saturating_mul(uses) / u64::from(problem.options()).max(1)
+}
+
+/// How many branches the next turn begins, after one of so many that was so much work.
+fn next_branches(branches: u64, work: u64) -> u64 {
+    if work > TURN_WORK {
+        (branches / 2).max(1)
+    } else if work < TURN_WORK / 4 {
+        branches.saturating_mul(2)
+    } else {
+        branches
+    }
+}
+
+impl<'a> Rival<'a> {
+    /// A search that has passed no cover yet. All its memory is taken here. `gone_over` is for it alone.
+    pub fn new(
+        alloc: Global,
+        problem: &'a Problem,
+        gone_over: &'a Cell<u64>,
+    ) -> Result<Rival<'a>, Memory>
+        ensures { IfOk result (λ r. r ≡ problem.now.puzzle) }
+    {
+        let links = Links::for_search(alloc, problem)?;
+        let metered = Metered {
+            links,
+            problem,
+            gone_over,
+            commits: 0,
+        };
+        match Span::new(alloc, metered, problem, &[], None) {
+            Ok(span) => Ok(Rival {
+                span,
+                gone_over,
+                option_work: option_work(problem),
+                passed: 0,
+                branches: FIRST_BRANCHES,
+                left: FIRST_WORK,
+            }),
+            Err((_, memory)) => Err(memory),
+        }
+    }
+
+    /// Has a turn, and returns how much work that was, and whether no cover is left.
+    fn turn(&mut self) -> (u64, bool)
+        ensures { self.new ≡ self.old }
+    {
+        let before = self.gone_over.get();
+        let went = self.span.go_on(u64::MAX - self.passed, self.branches);
+        self.passed += went.members;
+        let options = self.gone_over.get().wrapping_sub(before);
+        let work = went
+            .steps
+            .saturating_mul(BRANCH_WORK)
+            .saturating_add(options.saturating_mul(self.option_work));
+        self.branches = next_branches(self.branches, work);
+        (work, went.halt == Halt::End)
+    }
+
+    /// Has turns of so much work in all. Returns whether no cover is left.
+    pub fn ahead(&mut self, work: u64) -> bool
+        ensures { self.new ≡ self.old }
+    {
+        let mut left = work;
+        while left > 0 {
+            let (done, has_ended) = self.turn();
+            if has_ended {
+                return true;
+            }
+            left = left.saturating_sub(done.max(1));
+        }
+        false
+    }
+
+    /// Notes work of the sweep, and has a turn if one is due. Returns whether no cover is left.
+    pub fn after(&mut self, work: u64) -> bool
+        ensures { self.new ≡ self.old }
+    {
+        if work < self.left {
+            self.left -= work;
+            return false;
+        }
+        let (done, has_ended) = self.turn();
+        self.left = done / ODDS;
+        has_ended
+    }
+
+    /// Goes on alone to the end, and returns how many covers there are.
+    pub fn finish(self, alloc: Global) -> Result<Natural, Memory>
+        ensures { IfOk result (λ n. n ≡ length (members self.entry)) }
+    {
+        let Rival {
+            mut span,
+            gone_over: _,
+            option_work: _,
+            passed,
+            branches: _,
+            left: _,
+        } = self;
+        let mut count = Natural::from_u64(alloc, passed);
+        loop {
+            let went = span.go_on(u64::MAX, u64::MAX);
+            count.add_assign(&Natural::from_u64(alloc, went.members))?;
+            match went.halt {
+                Halt::End => return Ok(count),
+                Halt::Member | Halt::Steps => {}
+            }
+        }
+    }
+}
