@@ -150,7 +150,7 @@ fn hold(
 }
 
 /// What the states of a layer become once the step's item is held.
-fn pass(
+pub fn pass(
     alloc: Global,
     problem: &Problem,
     plan: &Plan,
@@ -193,7 +193,7 @@ fn first_layer(
 }
 
 /// The ways to all states, in which each item of the order is held.
-fn total(
+pub fn total(
     alloc: Global,
     problem: &Problem,
     plan: &Plan,
