@@ -38,6 +38,7 @@ test: bin ## the merge gate: proofs, wrong bodies, tests, programs
 	@python3 tests/hostile/collisions.py
 	@$(MAKE) -s --no-print-directory bin
 	@python3 tests/count/trial.py 200 1
+	@python3 tests/count/numbered.py 30 1
 	@sh tests/guide.sh docs/GUIDE.md
 	@sh tests/python.sh
 test-mutants: ## plant the wrong bodies of crates/*/mutants.edits
@@ -50,8 +51,8 @@ test-hostile-python: ## the Python commands on hostile inputs
 	@python3 tests/hostile/python_commands.py 5000 1
 # TRIALS are how many random problems, and a seed.
 TRIALS = 2000 1
-test-count: ## dlx-count against known numbers and 2,000 random problems
-	@python3 tests/count/known.py && python3 tests/count/trial.py $(TRIALS)
+test-count: ## dlx-count against known numbers, listings and 2,000 random problems
+	@python3 tests/count/known.py && python3 tests/count/trial.py $(TRIALS) && python3 tests/count/numbered.py 300 1
 test-search: bin ## 500 searches by helgrothy search, with mishaps
 	@PATH=$$PWD/bin:$$PATH python3 tests/search/search.py 500 1
 test-page: bin ## the pages in a headless Chromium

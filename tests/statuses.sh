@@ -105,7 +105,7 @@ for until in 2 3 4 5 6 7 8 9 10 11 12 -; do
 done
 tells 'Altogether 12 solutions.' dlx_join m0 "$@" </dev/null
 rm -r "$folder"
-for words in '' 0 '1 m1' '1 b' '1 b1 b1' '1 bx'; do
+for words in '' 0 '1 m1' '1 b' '1 b1 b1' '1 bx' '1 n' '1 n0' '1 n00' '1 n-1' '1 n1 b1' '1 b1 n1 n1'; do
     # shellcheck disable=SC2086
     expect 1 dlx_count $words </dev/null
 done
@@ -140,7 +140,24 @@ tells 'Altogether 1 solution.' dlx_count 3 b0 <<'END'
 A
 A
 END
-tells 'Usage: dlx-count 1|2|3 [bMEGABYTES]' dlx_count 4 </dev/null
+tells 'Usage: dlx-count 1|2|3 [bMEGABYTES] [nNUMBER]' dlx_count 4 </dev/null
+expect 0 dlx_count 1 n2 <<'END'
+A
+A
+A
+END
+expect 5 dlx_count 1 n3 <<'END'
+A
+A
+A
+END
+tells 'There are fewer than 100000000000000000000 solutions.' dlx_count 3 b0 n100000000000000000000 <<'END'
+0:2|A
+A
+A
+END
+printf 'A\nA\n' | crates/dlx_count/out/dlx_count 1 n1 >&- 2>/dev/null
+[ $? = 3 ] || { echo 'dlx_count 1 n1 >&-: another status than 3'; differ=1; }
 tells 'Line 2: unknown item.' dlx_count 1 <<'END'
 A
 B

@@ -79,7 +79,7 @@ fn add_name(text: &mut Vec<u8>, item: usize, tail: u8) -> Option<()> {
 }
 
 /// A text of so many items, each in twenty options of its own.
-fn twenty_each(alloc: Global, many: usize) -> Option<Vec<u8>> {
+pub(crate) fn twenty_each(alloc: Global, many: usize) -> Option<Vec<u8>> {
     let mut text = Vec::new(alloc);
     for item in 0..many {
         add_name(&mut text, item, b' ')?;

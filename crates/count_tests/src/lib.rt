@@ -4,4 +4,6 @@
 #[cfg(test)]
 mod counting;
 #[cfg(test)]
+mod numbered;
+#[cfg(test)]
 mod numbers;

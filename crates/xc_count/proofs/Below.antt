@@ -30,23 +30,24 @@ use Rattle.xc_count.specs.inner.Plans.{IsOver, HoldsPast, options_with}
 use Rattle.xc_count.specs.inner.Worth.{with_number}
 
 -- nothing is held: all is left
-pub whole_left : (p : Puzzle) (s : Held) → ((i : ℕ) → s i ≡ None) → below p s ≡ length (members p)
-whole_left p s free =
+pub all_left : (p : Puzzle) (s : Held) → ((i : ℕ) → s i ≡ None) → left_by p s ≡ whole p
+all_left p s free =
     let none : s ≡ (λ i. None) = fun_ext free in
-    let is : left_by p (λ i. None) ≡ whole p =
-    ap₂ (λ a b. record { items = a; options = b })
+    ap (left_by p) none ∙ ap₂ (λ a b. record { items = a; options = b })
     (keep_all (λ w. true) (whole p).items (each_from _ _ (λ w h. refl)))
-    (keep_all (fits (λ i. None)) (numbered_options p) (each_from _ _ (λ o h. all_agree o.uses))) in
-    ap (below p) none ∙ ap (λ r. length (listing r)) is
+    (keep_all (fits (λ i. None)) (numbered_options p) (each_from _ _ (λ o h. all_agree o.uses)))
   where
     all_agree : (us : List Use) → list_all (λ u. agrees u.colour None) us ≡ true
     all_agree [] = refl
     all_agree (u ∷ us) = all_agree us
 
+pub whole_left : (p : Puzzle) (s : Held) → ((i : ℕ) → s i ≡ None) → below p s ≡ length (members p)
+whole_left p s free = ap (λ r. length (listing r)) (all_left p s free)
+
 -- ---- an item that is free
 
 module _ (p : Puzzle) (once : HoldsOnce p) where
-  known : (w : Wanted) → IsIn (whole p).items w → IsPrimary p w.item × (w.low ≡ 1) × (w.high ≡ 1)
+  pub known : (w : Wanted) → IsIn (whole p).items w → IsPrimary p w.item × (w.low ≡ 1) × (w.high ≡ 1)
   known w h =
       let at = with_bounds 0 p.bounds w h in
       let item : w.item ≡ suc at.0 = omega (arith, at.2) in
@@ -64,7 +65,7 @@ module _ (p : Puzzle) (once : HoldsOnce p) where
         ),
       )
 
-  are_once : AreOnce p
+  pub are_once : AreOnce p
   are_once = each_from _ _ (λ w h. (known w h).2)
 
   item_at : (i : ℕ) → IsPrimary p i → (w : Wanted) × IsIn (whole p).items w × (w.item ≡ i)
@@ -167,15 +168,22 @@ module _ (p : Puzzle) (v : IsValid p) (s t : Held) (past : List ℕ) (g : ℕ �
         (λ e. subst (λ z. agrees u.colour z ≡ true) (sym (is ∙ ap (λ b. cond b (Some 0) (s u.item)) e)) a)))
 
     -- it is as well to give them up
-    pub below_over : below p t ≡ below p s
-    below_over = ap (λ r. length (listing r)) (ap₂ (λ a b. record { items = a; options = b })
+    pub left_over : left_by p t ≡ left_by p s
+    left_over = ap₂ (λ a b. record { items = a; options = b })
         (filter_same (λ w. is_none (t w.item)) (λ w. is_none (s w.item)) (whole p).items (each_from _ _ one_item))
-        (filter_same (fits t) (fits s) (numbered_options p) (each_from _ _ one_option)))
+        (filter_same (fits t) (fits s) (numbered_options p) (each_from _ _ one_option))
+
+    pub below_over : below p t ≡ below p s
+    below_over = ap (λ r. length (listing r)) left_over
 
 -- states that say the same of each item
-pub below_same : (p : Puzzle) → IsValid p → (s t : Held) → ((i : ℕ) → IsItem p i → t i ≡ s i) → below p t ≡ below p s
-below_same p v s t same = below_over p v s t [] (λ i. false) (λ j c. absurd (omega (arith, c.1)))
+pub left_same : (p : Puzzle) → IsValid p → (s t : Held) → ((i : ℕ) → IsItem p i → t i ≡ s i)
+    → left_by p t ≡ left_by p s
+left_same p v s t same = left_over p v s t [] (λ i. false) (λ j c. absurd (omega (arith, c.1)))
     (λ j c e. omega (arith, c.1)) (λ i h e. absurd (no e)) same
   where
     no : false ≡ true → ⊥
     no e = cc
+
+pub below_same : (p : Puzzle) → IsValid p → (s t : Held) → ((i : ℕ) → IsItem p i → t i ≡ s i) → below p t ≡ below p s
+below_same p v s t same = ap (λ r. length (listing r)) (left_same p v s t same)

@@ -1,6 +1,7 @@
 pub mod AnyItem
 pub mod Apart
 pub mod Below
+pub mod ByNumber
 pub mod ByOption
 pub mod Forgetting
 pub mod HolderLemmas

@@ -1,5 +1,6 @@
 pub mod ByOption
 pub mod Held
 pub mod Keys
+pub mod Numbered
 pub mod Plans
 pub mod Worth

@@ -17,7 +17,7 @@ use xc_dance::Memory;
 use xc_input::Problem;
 
 /// Whether each primary item is to be held exactly once.
-fn is_once(problem: &Problem) -> bool
+pub fn is_once(problem: &Problem) -> bool
     ensures once { result ≡ true → HoldsOnce problem.now.puzzle }
     ensures valid { IsValid problem.now.puzzle }
 {

@@ -120,7 +120,7 @@ fn split(
 }
 
 /// Adds what a state becomes once the step's item is held.
-fn hold(
+pub fn hold(
     problem: &Problem,
     plan: &Plan,
     step: Step,
@@ -221,7 +221,7 @@ fn first_layer(
 }
 
 /// The ways to all states, in which each item of the order is held.
-fn total(
+pub fn total(
     alloc: Global,
     problem: &Problem,
     plan: &Plan,

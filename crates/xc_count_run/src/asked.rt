@@ -1,8 +1,11 @@
 //! What the words ask for.
-ghost use Rattle.std.specs.Prelude.{◌≡◌, map};
+ghost use Rattle.std.specs.Prelude.{◌≡◌, ◌==◌, map, option_map};
+ghost use Rattle.std.specs.Char.{is_ascii_digit};
+ghost use Rattle.std.specs.List.{list_all};
+ghost use Rattle.std.specs.Str.{byte};
 ghost use Rattle.xc_list.specs.Settings.{long_number};
 ghost use Rattle.xc_tools.specs.Judges.{numbered_kind};
-ghost use Rattle.xc_count_run.specs.Counts.{asked_count, bound_word};
+ghost use Rattle.xc_count_run.specs.Counts.{asked_count, asked_more, bound_word, is_positive, number_word};
 
 use xc_input::Kind;
 
@@ -24,6 +27,27 @@ fn long_number(digits: &[u8]) -> Option<u64>
         value = value.checked_mul(10)?.checked_add(u64::from(*b - b'0'))?;
     }
     Some(value)
+}
+
+/// Whether these are digits.
+fn are_digits(text: &[u8]) -> bool
+    ensures { result ≡ list_all is_ascii_digit text.now }
+{
+    text.iter().all(|b| b.is_ascii_digit())
+}
+
+/// Whether each of these is the digit 0.
+fn are_zeros(text: &[u8]) -> bool
+    ensures { result ≡ list_all (λ d. d == byte "0") text.now }
+{
+    text.iter().all(|b| *b == b'0')
+}
+
+/// Whether these are digits, not all of them 0.
+fn is_positive(text: &[u8]) -> bool
+    ensures { result ≡ is_positive text.now }
+{
+    are_digits(text) && !are_zeros(text)
 }
 
 /// The megabytes that a word means.
@@ -48,16 +72,59 @@ fn numbered_kind(word: &[u8]) -> Option<Kind>
     }
 }
 
-/// The kind of problem and the most megabytes that words mean, if they are right.
-pub fn asked_count(words: &[Vec<u8>]) -> Option<(Kind, u64)>
-    ensures { result ≡ asked_count (map (λ w. w.items) words.now) }
+/// The digits of the number that a word means, which isn't 0.
+fn number_word(word: &[u8]) -> Option<&[u8]>
+    ensures { option_map (λ d. d.now) result ≡ number_word word.now }
+{
+    match word {
+        [b'n', digits @ ..] if is_positive(digits) => Some(digits),
+        _ => None,
+    }
+}
+
+/// The most megabytes and the digits of a number that words after the kind mean, if they are right.
+fn asked_more(words: &[Vec<u8>]) -> Option<(u64, Option<&[u8]>)>
+    ensures { option_map (λ a. (a.0, option_map (λ d. d.now) a.1)) result
+        ≡ asked_more (map (λ w. w.items) words.now) }
 {
     match words {
-        [kind] => Some((numbered_kind(kind.as_slice())?, MEGABYTES)),
-        [kind, bound] => {
-            let kind = numbered_kind(kind.as_slice())?;
-            Some((kind, bound_word(bound.as_slice())?))
+        [] => Some((MEGABYTES, None)),
+        [word] => match bound_word(word.as_slice()) {
+            Some(megabytes) => Some((megabytes, None)),
+            None => Some((MEGABYTES, Some(number_word(word.as_slice())?))),
+        },
+        [bound, number] => {
+            let megabytes = bound_word(bound.as_slice())?;
+            Some((megabytes, Some(number_word(number.as_slice())?)))
         }
         _ => None,
     }
+}
+
+/// What words ask for.
+#[derive(Clone, Copy)]
+pub struct Asked<'a> {
+    /// The kind of problem.
+    pub kind: Kind,
+    /// The most megabytes that the states may take.
+    pub megabytes: u64,
+    /// The digits of the number of the solution that is to be printed; none where the solutions are to be counted.
+    pub number: Option<&'a [u8]>,
+}
+
+/// What words ask for, if they are right.
+pub fn asked_count(words: &[Vec<u8>]) -> Option<Asked<'_>>
+    ensures { option_map (λ a. (a.kind, a.megabytes, option_map (λ d. d.now) a.number)) result
+        ≡ asked_count (map (λ w. w.items) words.now) }
+{
+    let [kind, more @ ..] = words else {
+        return None;
+    };
+    let kind = numbered_kind(kind.as_slice())?;
+    let (megabytes, number) = asked_more(more)?;
+    Some(Asked {
+        kind,
+        megabytes,
+        number,
+    })
 }

@@ -1,13 +1,14 @@
 //! A whole run.
-ghost use Rattle.std.specs.Prelude.{◌≡◌, map, length, codes};
+ghost use Rattle.std.specs.Prelude.{◌≡◌, map, length, codes, option_map};
 ghost use Rattle.xc_input.specs.Named.{Named};
 ghost use Rattle.xc_search.specs.Cover.{members};
 ghost use Rattle.xc_list.specs.Texts.{seen, WasTold};
-ghost use Rattle.xc_tools.specs.WholeRuns.{no_problem};
-ghost use Rattle.xc_count_run.specs.Counts.{DidCount, DidCountWords, DidWarnAndCount, Reports};
+ghost use Rattle.xc_tools.specs.WholeRuns.{no_problem, sinks};
+ghost use Rattle.xc_count_run.specs.Counts.{DidAnswer, DidCount, DidCountWords, DidWarnAndAnswer, Reports};
 
-use crate::asked::asked_count;
+use crate::asked::{Asked, asked_count};
 use crate::messages::count_line;
+use crate::solution::find_solution;
 use natural::Natural;
 use std::alloc::Global;
 use xc_count::count;
@@ -27,7 +28,7 @@ const FAILED: u8 = 3;
 const NO_MEMORY: u8 = 4;
 
 /// Reports why there is no count, as far as that goes, and returns its status.
-fn refuse<E: Sink>(status: u8, text: &[u8], err: &mut E) -> u8
+pub fn refuse<E: Sink>(status: u8, text: &[u8], err: &mut E) -> u8
     ensures { Reports (E.state err.old) (E.state err.new) result (status, text.now) }
 {
     let _ = write_all(err, text);
@@ -75,36 +76,68 @@ fn count_problem<E: Sink>(alloc: Global, problem: &Problem, megabytes: u64, err:
     }
 }
 
-/// Reports the ignored options, and counts the covers.
-fn count_read<E: Sink>(alloc: Global, read: &Read, megabytes: u64, err: &mut E) -> u8
-    ensures did { DidWarnAndCount result (E.state err.old) (E.state err.new)
+/// Counts the covers of a problem, or prints the solution of a number.
+fn answer<O: Sink, E: Sink>(
+    alloc: Global,
+    problem: &Problem,
+    asked: &Asked,
+    out: &mut O,
+    err: &mut E,
+) -> u8
+    ensures did { DidAnswer (option_map (λ d. d.now) asked.now.number) result
+        (sinks O.state E.state out.old err.old) (sinks O.state E.state out.new err.new) problem.now }
+{
+    match asked.number {
+        None => count_problem(alloc, problem, asked.megabytes, err),
+        Some(digits) => find_solution(alloc, problem, digits, bytes(asked.megabytes), out, err),
+    }
+}
+
+/// Reports the ignored options, and answers what was asked of the problem.
+fn answer_read<O: Sink, E: Sink>(
+    alloc: Global,
+    read: &Read,
+    asked: &Asked,
+    out: &mut O,
+    err: &mut E,
+) -> u8
+    ensures did { DidWarnAndAnswer (option_map (λ d. d.now) asked.now.number) result
+        (sinks O.state E.state out.old err.old) (sinks O.state E.state out.new err.new)
         read.now.problem read.now.ignored.items }
 {
     match warnings(read, err) {
-        Ok(()) => count_problem(alloc, &read.problem, megabytes, err),
+        Ok(()) => answer(alloc, &read.problem, asked, out, err),
         Err(_) => FAILED,
     }
 }
 
-/// A whole run: reads the words, then the problem, counts its covers, and writes their number and the messages to
-/// `err`. The words are `1`, `2` or `3` for the program that the problem is written for, and perhaps `b` with the most
-/// megabytes that the states of the sweep may take: where that is not enough, a search counts alone. It returns the
-/// status: 0 where the number was printed, 1 for other words, 2 for a fault of the problem, 3 where a read or a write
-/// failed, 4 where memory ran out. Names are hashed by the input's seed.
-pub fn count_covers<S: Source, E: Sink>(
+/// A whole run: reads the words, then the problem, and counts its covers or finds the solution of a number. The words
+/// are `1`, `2` or `3` for the program that the problem is written for, perhaps `b` with the most megabytes that the
+/// states of a sweep may take, and perhaps `n` with the number of a solution. Where so much memory is not enough, a
+/// search goes on alone. Without `n` the number of covers is written to `err`, else the solution of that number to
+/// `out`, as a whole listing would have it. Messages go to `err`. It returns the status: 0 where the answer was printed,
+/// 1 for other words, 2 for a fault of the problem, 3 where a read or a write failed, 4 where memory ran out, 5 where
+/// there are fewer solutions than `n` says. Names are hashed by the input's seed.
+pub fn count_covers<S: Source, O: Sink, E: Sink>(
     alloc: Global,
     words: &[Vec<u8>],
     input: &mut S,
+    out: &mut O,
     err: &mut E,
 ) -> u8
     ensures did { DidCountWords (map (λ w. w.items) words.now) result
-        (seen S.state input.old) (seen S.state input.new) (E.state err.old) (E.state err.new) }
+        (seen S.state input.old) (seen S.state input.new)
+        (sinks O.state E.state out.old err.old) (sinks O.state E.state out.new err.new) }
 {
-    let Some((kind, megabytes)) = asked_count(words) else {
-        return refuse(BAD_WORDS, b"Usage: dlx-count 1|2|3 [bMEGABYTES]\n", err);
+    let Some(asked) = asked_count(words) else {
+        return refuse(
+            BAD_WORDS,
+            b"Usage: dlx-count 1|2|3 [bMEGABYTES] [nNUMBER]\n",
+            err,
+        );
     };
-    match read_problem(alloc, kind, input) {
-        Ok(read) => count_read(alloc, &read, megabytes, err),
+    match read_problem(alloc, asked.kind, input) {
+        Ok(read) => answer_read(alloc, &read, &asked, out, err),
         Err(error) => no_problem(&error, err),
     }
 }

@@ -35,7 +35,7 @@ pub use cover_test::is_cover;
 pub use digest::problem_digest;
 pub use line::write_line;
 pub use messages::{summary, warnings, word_fault};
-pub use print::write_solution;
+pub use print::{write_choices, write_solution};
 pub use runs::{End, run, run_over, run_over_links};
 pub use sink::{Sink, Tray, WriteFailed};
 pub use span_words::SpanWords;

@@ -468,6 +468,19 @@ pub fn write_by_page<'a, D: Dance, S: Sink>(
     write_long(number, walk, bodies, &mut page.text, sink)
 }
 
+/// Writes a line for each choice of a solution.
+pub fn write_choices<S: Sink>(
+    choices: &[Choice],
+    problem: &Problem,
+    sink: &mut S,
+) -> Result<(), SinkFault>
+    requires { All (IsKnownChoice problem.now.puzzle) choices.now }
+    ensures { Writes (S.state sink.old) (S.state sink.new)
+        result (flat_map (choice_text problem.now) choices.now) }
+{
+    write_lines(choices, &Bodies::plain(problem), sink)
+}
+
 /// Writes a solution: its number, and a line for each choice.
 pub fn write_solution<S: Sink>(
     number: u64,

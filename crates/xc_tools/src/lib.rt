@@ -48,5 +48,5 @@ pub use seeding::{RandomBytes, random_seed};
 pub use solving::solve;
 pub use span_run::solve_span;
 pub use span_source::{SpanFiles, span_files};
-pub use status::out_of_memory;
+pub use status::{flushed, out_of_memory, write_failed};
 pub use system::{Answer, System, SystemReader, SystemWriter};

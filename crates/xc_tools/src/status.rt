@@ -40,7 +40,7 @@ pub fn out_of_memory<E: Sink>(err: &mut E) -> u8
 }
 
 /// Reports that a write failed, and returns its status: 3.
-pub(crate) fn write_failed<E: Sink>(err: &mut E) -> u8
+pub fn write_failed<E: Sink>(err: &mut E) -> u8
     ensures status { result ≡ 3 }
     ensures told { WasTold (E.state err.old) (E.state err.new) (codes "Write failed.\n") }
 {
@@ -48,7 +48,7 @@ pub(crate) fn write_failed<E: Sink>(err: &mut E) -> u8
 }
 
 /// Flushes the output; where that fails, reports it, and returns its status: 3.
-pub(crate) fn flushed<O: Sink, E: Sink>(out: &mut O, err: &mut E) -> Result<(), u8>
+pub fn flushed<O: Sink, E: Sink>(out: &mut O, err: &mut E) -> Result<(), u8>
     ensures kept { Keeps (O.state out.old).taken (O.state out.new).taken }
     ensures flushed_once { (O.state out.new).flushes ≡ (O.state out.old).flushes + 1 }
     ensures settled { OnOk result (((O.state out.new).failures ≡ (O.state out.old).failures)

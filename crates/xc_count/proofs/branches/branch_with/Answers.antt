@@ -1,0 +1,134 @@
+use Rattle.std.proofs.Common.{◌≡◌, ◌<◌, ◌≤◌, ◌+◌, ◌∷◌, Some, arith, ap, ◌∙◌, length, subst, sym, get_or}
+use Rattle.std.specs.Prelude.{Contains, option_map}
+use Rattle.std.proofs.lemmas.List.{drop_all}
+use Rattle.std.proofs.lemmas.Map.Keys.{le_from_is_le}
+use Rattle.std.proofs.lemmas.Option.{slice_get-get_or}
+use Rattle.xc_input.specs.Problem.{numbered_get, option_count, uses_of}
+use Rattle.xc_input.proofs.lists.Members.{contains-in, in-slice_get}
+use Rattle.xc_search.specs.Listing.{listing}
+use Rattle.xc_count.specs.inner.Held.{holding_uses, left_by}
+use Rattle.xc_count.specs.inner.Numbered.{IsLess, behind_taken, left_by_key, size_left}
+use Rattle.xc_count.specs.inner.Worth.{says}
+use Rattle.xc_count.proofs.Below.{left_same}
+use Rattle.xc_count.proofs.ByNumber.{fork_primary, fork_listing, fork_less, members_with, few_options, more_than, number_empty}
+use Rattle.xc_count.proofs.ByNumber.{at_none, at_taken, at_passed, choice_of}
+use Rattle.xc_count.proofs.HolderLemmas.{option_known}
+use Rattle.xc_count.proofs.branches.branch_with.Goals as goal
+
+pub options_of-options-requires-clause-item : goal.options_of-options-requires-clause-item
+options_of-options-requires-clause-item c =
+    let primary = fork_primary c.args.problem.now.puzzle c.requires.valid c.requires.once
+    (says c.args.plan.now 0 c.args.key.now) c.args.fork c.requires.fork in
+    (primary.0, omega (arith, primary.1))
+
+pub loop-place-init : goal.loop-place-init
+loop-place-init c =
+    let p = c.args.problem.now.puzzle in
+    let s = says c.args.plan.now 0 c.args.key.now in
+    let fork = c.args.fork in
+    record {
+      solution = ap (λ ms. numbered_get ms c.args.number.now)
+          (fork_listing p c.requires.valid c.requires.once s fork c.requires.fork
+          ∙ ap (members_with p s fork.0 fork.1 1) (sym c.options_of-options.ensures));
+      few = omega arith;
+    }
+
+pub key_with-requires-clause-known : goal.key_with-requires-clause-known
+key_with-requires-clause-known c =
+    let os = c.options_of-options.result.now in
+    let o = get_or os c.loop-place.place 0 in
+    let there = contains-in os o
+    (in-slice_get os c.loop-place.place o (slice_get-get_or os c.loop-place.place 0 (omega arith))) in
+    (option_known c.args.problem.now.puzzle c.args.fork.0 o
+    (subst (λ xs. Contains xs o) c.options_of-options.ensures there)).0
+
+pub loop-place-preserved-in_default : goal.loop-place-preserved-in_default
+loop-place-preserved-in_default c =
+    let p = c.args.problem.now.puzzle in
+    let s = says c.args.plan.now 0 c.args.key.now in
+    let os = c.options_of-options.result.now in
+    let agreed = rw c.in_default.is at c.in_ok-next.ensures.key in
+    record {
+      solution = c.loop-place.invariant.solution
+          ∙ at_none p s c.args.fork.0 c.args.fork.1 (c.loop-place.k + 1) os c.loop-place.place c.loop-place.number
+          (omega arith) agreed;
+      few = omega (arith, c.loop-place.invariant.few);
+    }
+
+pub overflow_add-k : goal.overflow_add-k
+overflow_add-k c =
+    let few : length c.options_of-options.result.now ≤ option_count c.args.problem.now.puzzle =
+    subst (λ xs. length xs ≤ option_count c.args.problem.now.puzzle) (sym c.options_of-options.ensures)
+    (few_options c.args.problem.now.puzzle c.args.fork.0) in
+    omega (arith, few, c.loop-place.invariant.few, c.loop-place-test.true, c.key_with.ensures.limits.options)
+
+pub returns-then-le-clause-solution : goal.returns-then-le-clause-solution
+returns-then-le-clause-solution c =
+    let p = c.args.problem.now.puzzle in
+    let plan = c.args.plan.now in
+    let s = says plan 0 c.args.key.now in
+    let os = c.options_of-options.result.now in
+    let o = get_or os c.loop-place.place 0 in
+    let next = c.in-Some.next.items in
+    let agreed = rw c.in-Some.is at c.in_ok-next.ensures.key in
+    let left : left_by_key p plan next ≡ left_by p (holding_uses (uses_of p o) s) =
+    left_same p c.requires.valid (holding_uses (uses_of p o) s) (says plan 0 next) agreed.1 in
+    let many : c.in_ok-covers.covers ≡ length (listing (left_by p (holding_uses (uses_of p o) s))) =
+    c.in_ok-covers.ensures ∙ ap (λ k. length (listing (left_by_key p plan k))) c.as_slice-in-loop-place.ensures.value
+    ∙ ap (λ r. length (listing r)) left in
+    let few = le_from_is_le c.loop-place.number c.in_ok-covers.covers (sym c.le.ensures ∙ c.if-le.true) in
+    c.loop-place.invariant.solution
+    ∙ at_taken p s c.args.fork.0 c.args.fork.1 (c.loop-place.k + 1) os c.loop-place.place c.loop-place.number (omega arith)
+    agreed.0 (omega (arith, few, many))
+    ∙ ap (λ r. option_map (λ m. choice_of c.args.fork.0 c.args.fork.1 (c.loop-place.k + 1) o ∷ m)
+    (numbered_get (listing r) c.loop-place.number)) (sym left)
+    ∙ ap (λ t. behind_taken p plan (Some t) c.loop-place.number) (sym c.taking.ensures)
+
+pub returns-then-le-clause-less : goal.returns-then-le-clause-less
+returns-then-le-clause-less c =
+    let p = c.args.problem.now.puzzle in
+    let plan = c.args.plan.now in
+    let s = says plan 0 c.args.key.now in
+    let os = c.options_of-options.result.now in
+    let o = get_or os c.loop-place.place 0 in
+    let agreed = rw c.in-Some.is at c.in_ok-next.ensures.key in
+    let left : left_by_key p plan c.in-Some.next.items ≡ left_by p (holding_uses (uses_of p o) s) =
+    left_same p c.requires.valid (holding_uses (uses_of p o) s) (says plan 0 c.in-Some.next.items) agreed.1 in
+    let listed = contains-in os o
+    (in-slice_get os c.loop-place.place o (slice_get-get_or os c.loop-place.place 0 (omega arith))) in
+    let less = fork_less p c.requires.valid c.requires.once s c.args.fork c.requires.fork o
+    (subst (λ xs. Contains xs o) c.options_of-options.ensures listed) agreed.0 in
+    let here = subst (λ r. size_left r < size_left (left_by_key p plan c.args.key.now)) (sym left) less in
+    subst (λ t. IsLess p plan t.key.items c.args.key.now) (sym c.taking.ensures) here
+
+pub loop-place-preserved : goal.loop-place-preserved
+loop-place-preserved c =
+    let p = c.args.problem.now.puzzle in
+    let plan = c.args.plan.now in
+    let s = says plan 0 c.args.key.now in
+    let os = c.options_of-options.result.now in
+    let o = get_or os c.loop-place.place 0 in
+    let next = c.in-Some.next.items in
+    let agreed = rw c.in-Some.is at c.in_ok-next.ensures.key in
+    let left : left_by_key p plan next ≡ left_by p (holding_uses (uses_of p o) s) =
+    left_same p c.requires.valid (holding_uses (uses_of p o) s) (says plan 0 next) agreed.1 in
+    let many : c.in_ok-covers.covers ≡ length (listing (left_by p (holding_uses (uses_of p o) s))) =
+    c.in_ok-covers.ensures ∙ ap (λ k. length (listing (left_by_key p plan k))) c.as_slice-in-loop-place.ensures.value
+    ∙ ap (λ r. length (listing r)) left in
+    let more = more_than c.loop-place.number c.in_ok-covers.covers (sym c.le.ensures ∙ c.if-le.false) in
+    record {
+      solution = c.loop-place.invariant.solution
+          ∙ at_passed p s c.args.fork.0 c.args.fork.1 (c.loop-place.k + 1) os c.loop-place.place c.loop-place.number
+          (omega arith) c.sub_assign.new.self agreed.0 (omega (arith, more, many))
+          (omega (arith, many, c.sub_assign.ensures));
+      few = omega (arith, c.loop-place.invariant.few);
+    }
+
+pub returns-clause-solution : goal.returns-clause-solution
+returns-clause-solution c =
+    let p = c.args.problem.now.puzzle in
+    let s = says c.args.plan.now 0 c.args.key.now in
+    let over = drop_all c.loop-place.place c.options_of-options.result.now (omega arith) in
+    c.loop-place.invariant.solution
+    ∙ ap (λ os. numbered_get (members_with p s c.args.fork.0 c.args.fork.1 (c.loop-place.k + 1) os) c.loop-place.number)
+    over ∙ number_empty c.loop-place.number

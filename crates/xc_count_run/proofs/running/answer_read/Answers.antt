@@ -1,0 +1,8 @@
+use Rattle.std.proofs.Common.{inr}
+use Rattle.xc_list.specs.Texts.{seen}
+use Rattle.xc_count_run.proofs.running.answer_read.Goals as goal
+
+pub returns-in-Ok : goal.returns-in-Ok
+returns-in-Ok g c = record {
+  did = inr (seen g.E.Sink.state c.warnings.new.sink, c.in-Ok.ensures, c.answer.ensures.did);
+}

@@ -1,0 +1,9 @@
+use Rattle.std.proofs.Common.{◌∙◌, inl, subst}
+use Rattle.xc_list.specs.Texts.{WasTold}
+use Rattle.xc_count_run.proofs.solution.tell_fewer.Goals as goal
+
+pub returns : goal.returns
+returns g c = inl (
+  c.refuse.ensures.0,
+  subst (WasTold _ _) (c.as_slice.ensures.value ∙ c.in-Ok.ensures) c.refuse.ensures.1,
+)

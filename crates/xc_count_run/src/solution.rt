@@ -1,0 +1,125 @@
+//! The solution of a number is printed.
+ghost use Rattle.std.specs.Prelude.{◌≡◌, ◌⊎◌, ◌++◌, All, IfOk, codes, flat_map};
+ghost use Rattle.std.specs.Str.Parse.{digits_value};
+ghost use Rattle.natural.specs.Numerals.{numeral};
+ghost use Rattle.xc_list.specs.Texts.{WasTold, Writes};
+ghost use Rattle.xc_list.specs.Output.{choice_text};
+ghost use Rattle.xc_list.specs.Known.{IsKnownChoice};
+ghost use Rattle.xc_tools.specs.WholeRuns.{sinks, Prints};
+ghost use Rattle.xc_count_run.specs.Solutions.{DidFind, fewer_text};
+
+use crate::running::refuse;
+use natural::{Natural, parse};
+use std::alloc::{AllocError, Global};
+use xc_count::nth;
+use xc_input::Problem;
+use xc_list::{Sink, SinkFault, write_all, write_choices};
+use xc_search::Choice;
+use xc_tools::{flushed, out_of_memory, write_failed};
+
+/// The solution was printed.
+const COMPLETE: u8 = 0;
+/// There are fewer solutions.
+const FEWER: u8 = 5;
+
+/// A number between two texts.
+fn line_of(
+    alloc: Global,
+    before: &[u8],
+    number: &Natural,
+    after: &[u8],
+) -> Result<Vec<u8>, AllocError>
+    ensures { IfOk result (λ line. line.items ≡ before.now ++ numeral number.now ++ after.now) }
+{
+    let mut line = Vec::from_slice(alloc, before)?;
+    number.write_decimal(&mut line)?;
+    line.extend_from_slice(after)?;
+    Ok(line)
+}
+
+/// Reports that there are fewer solutions, as far as that goes, and returns its status; or that memory is out.
+fn tell_fewer<E: Sink>(alloc: Global, number: &Natural, err: &mut E) -> u8
+    ensures { ((result ≡ 5) × WasTold (E.state err.old) (E.state err.new) (fewer_text number.now))
+        ⊎ ((result ≡ 4) × WasTold (E.state err.old) (E.state err.new) (codes "Out of memory.\n")) }
+{
+    let Ok(line) = line_of(alloc, b"There are fewer than ", number, b" solutions.\n") else {
+        return out_of_memory(err);
+    };
+    refuse(FEWER, line.as_slice(), err)
+}
+
+/// Writes a solution after the line of its number.
+fn write_numbered<O: Sink>(
+    header: &[u8],
+    choices: &[Choice],
+    problem: &Problem,
+    out: &mut O,
+) -> Result<(), SinkFault>
+    requires { All (IsKnownChoice problem.now.puzzle) choices.now }
+    ensures { Writes (O.state out.old) (O.state out.new) result
+        (header.now ++ flat_map (choice_text problem.now) choices.now) }
+{
+    write_all(out, header)?;
+    write_choices(choices, problem, out)
+}
+
+/// Writes and flushes a solution.
+fn tell_solution<O: Sink, E: Sink>(
+    header: &[u8],
+    choices: &[Choice],
+    problem: &Problem,
+    out: &mut O,
+    err: &mut E,
+) -> u8
+    requires { All (IsKnownChoice problem.now.puzzle) choices.now }
+    ensures { Prints 0 result (sinks O.state E.state out.old err.old) (sinks O.state E.state out.new err.new)
+        (header.now ++ flat_map (choice_text problem.now) choices.now) }
+{
+    if write_numbered(header, choices, problem, out).is_err() {
+        return write_failed(err);
+    }
+    match flushed(out, err) {
+        Ok(()) => COMPLETE,
+        Err(status) => status,
+    }
+}
+
+/// Prints the solution of a number.
+fn find_numbered<O: Sink, E: Sink>(
+    alloc: Global,
+    problem: &Problem,
+    number: &Natural,
+    bound: usize,
+    out: &mut O,
+    err: &mut E,
+) -> u8
+    ensures did { DidFind problem.now number.now result
+        (sinks O.state E.state out.old err.old) (sinks O.state E.state out.new err.new) }
+{
+    match nth(alloc, problem, number, bound) {
+        Ok(Some(choices)) => match line_of(alloc, b"", number, b":\n") {
+            Ok(header) => tell_solution(header.as_slice(), choices.as_slice(), problem, out, err),
+            Err(_) => out_of_memory(err),
+        },
+        Ok(None) => tell_fewer(alloc, number, err),
+        Err(_) => out_of_memory(err),
+    }
+}
+
+/// Prints the solution of the number with these digits.
+pub fn find_solution<O: Sink, E: Sink>(
+    alloc: Global,
+    problem: &Problem,
+    digits: &[u8],
+    bound: usize,
+    out: &mut O,
+    err: &mut E,
+) -> u8
+    ensures did { DidFind problem.now (digits_value 10 digits.now) result
+        (sinks O.state E.state out.old err.old) (sinks O.state E.state out.new err.new) }
+{
+    match parse(alloc, digits) {
+        Ok(number) => find_numbered(alloc, problem, &number, bound, out, err),
+        Err(_) => out_of_memory(err),
+    }
+}

@@ -1,0 +1,87 @@
+#!/usr/bin/env python3
+"""numbered.py CASES SEED: solutions by their numbers (`dlx-count K nN`) against the listings of dlx1, dlx2 and dlx3.
+
+Random problems of all kinds, up to 20 numbers of each, and one more than there are solutions. Then tilings of 8 by 8
+with dominoes, by a listing of every 500,000th. The last line is `N passed, M failed`.
+"""
+from __future__ import annotations
+
+import random
+import subprocess
+import sys
+import tempfile
+
+from problems import dominoes, drawn
+from running import HANG, programs
+
+
+class Failed:
+    """How many runs passed, and how many did not; tells each that did not."""
+
+    def __init__(self) -> None:
+        self.passed = self.failed = 0
+
+    def expect(self, what: str, found: tuple[int, bytes], wanted: tuple[int, bytes]) -> bool:
+        if found == wanted:
+            self.passed += 1
+            return True
+        self.failed += 1
+        print(f"{what}: {found}, and not {wanted}", flush=True)
+        return False
+
+
+def output(program: str, arguments: list[str], text: bytes) -> tuple[int, bytes]:
+    """The status and the standard output of a run."""
+    done = subprocess.run([programs.find(program), *arguments], input=text, capture_output=True, timeout=HANG)
+    return done.returncode, done.stdout
+
+
+def listed(kind: int, text: bytes, spacing: int = 1) -> list[bytes]:
+    """The texts of the solutions of a listing."""
+    solutions: list[bytes] = []
+    for line in output(f"dlx{kind}", [f"m{spacing}"], text)[1].splitlines(keepends=True):
+        if line.startswith(b" "):
+            solutions[-1] += line
+        else:
+            solutions.append(line)
+    return solutions
+
+
+def random_problems(cases: int, rng: random.Random, tally: Failed) -> None:
+    for case in range(cases):
+        made = drawn(rng)
+        text = made.text()
+        solutions = listed(made.kind, text)
+        last = len(solutions)
+        right = tally.expect(
+            f"problem {case}, n{last + 1}", output("dlx-count", [str(made.kind), f"n{last + 1}"], text), (7, b"")
+        )
+        for number in sorted(rng.sample(range(1, last + 1), min(last, 20))):
+            found = output("dlx-count", [str(made.kind), f"n{number}"], text)
+            right &= tally.expect(f"problem {case}, n{number}", found, (0, solutions[number - 1]))
+        if not right:
+            with tempfile.NamedTemporaryFile(prefix=f"dlx{made.kind}-", suffix=".dlx", delete=False) as file:
+                file.write(text)
+            print(f"problem {case} is in {file.name}", flush=True)
+
+
+def tilings(rng: random.Random, tally: Failed) -> None:
+    """Some of the 12,988,816 tilings of 8 by 8, by a listing of every 500,000th."""
+    text = dominoes(8, 8).text()
+    solutions = listed(1, text, 500_000)
+    for place in rng.sample(range(len(solutions)), 5):
+        number = (place + 1) * 500_000
+        found = output("dlx-count", ["1", f"n{number}"], text)
+        tally.expect(f"tiling {number}", found, (0, solutions[place]))
+
+
+def main() -> int:
+    cases, seed = map(int, sys.argv[1:])
+    tally, rng = Failed(), random.Random(seed)
+    random_problems(cases, rng, tally)
+    tilings(rng, tally)
+    print(f"{tally.passed} passed, {tally.failed} failed")
+    return 1 if tally.failed else 0
+
+
+sys.exit(main())
