@@ -223,39 +223,44 @@ def limited(most: float | None) -> Iterator[None]:
     if most is None or not _is_main():
         yield
         return
-
-    is_open = True
-    # When one was raised: by the clock, and by what the process had taken of a processor.
-    raised: tuple[float, float] | None = None
-
-    def end(*_: object) -> None:
-        nonlocal raised
-        now = time.monotonic(), time.process_time()
-        is_on_its_way = raised is not None and now[0] < raised[0] + _ON_ITS_WAY and now[1] < raised[1] + _AT_WORK
-        if is_open and not is_on_its_way:
-            raised = now
-            raise OutOfTime(f"it wasn't done in {most:g} seconds")
-
-    def lose(lost: Any) -> None:
-        # One that is lost isn't told: the next one comes.
-        nonlocal raised
-        if lost.exc_type is OutOfTime:
-            raised = None
-        else:
-            tell(lost)
-
-    before = signal.signal(signal.SIGALRM, end)
-    tell, sys.unraisablehook = sys.unraisablehook, lose
+    clock = _Clock(most, sys.unraisablehook)
+    before = signal.signal(signal.SIGALRM, clock.end)
+    sys.unraisablehook = clock.lose
     try:
         # Should an exception be lost, where Python can't pass it on, the next one comes soon.
         signal.setitimer(signal.ITIMER_REAL, most, 1.0)
         yield
     finally:
-        is_open = False
+        clock.is_open = False
         signal.setitimer(signal.ITIMER_REAL, 0)
         signal.signal(signal.SIGALRM, before)
-        sys.unraisablehook = tell
+        sys.unraisablehook = clock.tell
         end_all()
+
+
+class _Clock:
+    """What is done when time is over, while it is open; `tell` is what tells of exceptions that are lost."""
+
+    def __init__(self, most: float, tell: Callable[[Any], Any]) -> None:
+        self.is_open = True
+        self.tell = tell
+        self._most = most
+        # When an exception was raised: by the clock, and by what the process had taken of a processor.
+        self._raised: tuple[float, float] | None = None
+
+    def end(self, *_: object) -> None:
+        before, now = self._raised, (time.monotonic(), time.process_time())
+        is_on_its_way = before is not None and now[0] < before[0] + _ON_ITS_WAY and now[1] < before[1] + _AT_WORK
+        if self.is_open and not is_on_its_way:
+            self._raised = now
+            raise OutOfTime(f"it wasn't done in {self._most:g} seconds")
+
+    def lose(self, lost: Any) -> None:
+        """One of these that is lost isn't told: the next one comes."""
+        if lost.exc_type is OutOfTime:
+            self._raised = None
+        else:
+            self.tell(lost)
 
 
 def _is_main() -> bool:
