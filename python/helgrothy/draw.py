@@ -33,6 +33,9 @@ _QUEEN = "M8 12l5 9 5-12 5 12 5-9-3 15H11zM11 29h14v2H11z"
 # A picture has so many places at most, or so many for each cell that isn't a hole: it doesn't grow with the numbers
 # that are in names.
 _MOST_PLACES, _MOST_BY_CELL = 10_000, 16
+_BESIDE = ((0, 1), (1, 0), (0, -1), (-1, 0))
+# What stands in a cell without a label.
+_STAR = "*"
 # A pattern that is found nowhere.
 _NOTHING = r"(?!)"
 _LONGEST_SAMPLE = 60
@@ -381,7 +384,8 @@ class Pattern:
         number, or a single letter, which goes on behind the digits (9, a, b, ..). With one group all cells are in one
         row. A third group, or else the cell's colour, is the cell's label.
     label: finds the label of an option's other cells: its first group, or else all of it. Cells without any label
-        are stars in the text.
+        are stars in the text; where options without a label fill several cells they have letters, as a map has colours:
+        those that touch have different ones.
 
     A match begins and ends where words of the line do. It may go over several words. A solution that gives a cell two
     labels has no picture.
@@ -402,27 +406,71 @@ class Pattern:
             raise no_match("cell", self.cell, "whole words", lines)
         if self.label != _NOTHING and not any(map(label.search, lines)):
             raise no_match("label", self.label, "whole words", map(problem.line, problem.options))
-        top, left = min(r for r, _ in board), min(c for _, c in board)
-        check_size(max(r for r, _ in board) - top + 1, max(c for _, c in board) - left + 1, len(board))
-        shades = Shades()
+        return _Laid(cell, label, board, problem).draw
 
-        def draw(lines: Sequence[str]) -> Picture:
-            cells = {(r - top, c - left): Cell() for r, c in board}
-            labels: dict[Place, str] = {}
-            for number, line in enumerate(lines):
-                found = label.search(line)
-                name = "" if found is None else found.group(1 if label.groups else 0)
-                for (r, c), own in _cells(cell, line):
-                    place = cells.setdefault((r - top, c - left), Cell())
-                    place.label, place.is_quiet = own or name or "*", not (own or name)
-                    if labels.setdefault((r, c), place.label) != place.label:
-                        both = f"both {shown(labels[r, c])} and {shown(place.label)} are"
-                        raise NoPicture(f"{both} in row {r}, column {c}: a board has one label in a cell")
-                    if not own:
-                        place.group, place.fill = number, shades[name or number]
-            return Picture("a solution", cells, has_grid=any(place.group is None for place in cells.values()))
 
-        return draw
+class _Laid:
+    """What a pattern finds of solutions on a board."""
+
+    def __init__(
+        self, cell: re.Pattern[str], label: re.Pattern[str], board: set[Place], problem: Problem[Any]
+    ) -> None:
+        self._cell = cell
+        self._label = label
+        self._board = board
+        self._top, self._left = min(r for r, _ in board), min(c for _, c in board)
+        rows, columns = max(r for r, _ in board) - self._top + 1, max(c for _, c in board) - self._left + 1
+        check_size(rows, columns, len(board))
+        # Where options without a name fill several cells they are pieces, to be told apart.
+        lines = map(problem.line, problem.options)
+        self._has_pieces = any(len(cells) > 1 and not name for name, cells in map(self._found, lines))
+        self._shades = Shades()
+
+    def _found(self, line: str) -> tuple[str, dict[Place, str]]:
+        """The label of an option, and its cells with labels of their own."""
+        found = self._label.search(line)
+        name = "" if found is None else found.group(1 if self._label.groups else 0)
+        return name, dict(_cells(self._cell, line))
+
+    def draw(self, lines: Sequence[str]) -> Picture:
+        found = list(map(self._found, lines))
+        names, fills = self._looks(found)
+        cells = {(r - self._top, c - self._left): Cell() for r, c in self._board}
+        labels: dict[Place, str] = {}
+        for number, (name, held) in enumerate(found):
+            for (r, c), own in held.items():
+                place = cells.setdefault((r - self._top, c - self._left), Cell())
+                place.label, place.is_quiet = own or name or names[number], not (own or name)
+                if labels.setdefault((r, c), place.label) != place.label:
+                    both = f"both {shown(labels[r, c])} and {shown(place.label)} are"
+                    raise NoPicture(f"{both} in row {r}, column {c}: a board has one label in a cell")
+                if not own:
+                    place.group, place.fill = number, fills[number]
+        return Picture("a solution", cells, has_grid=any(place.group is None for place in cells.values()))
+
+    def _looks(self, found: Sequence[tuple[str, dict[Place, str]]]) -> tuple[list[str], list[str]]:
+        """What stands in the cells of each option that have no label, and their colours."""
+        parts = [list(held) for _, held in found]
+        is_apart = sum(map(len, parts)) == len({place for part in parts for place in part})
+        if self._has_pieces and is_apart:
+            numbers = _map_colours(parts)
+            return [_letter(number) for number in numbers], [self._shades[number] for number in numbers]
+        return [_STAR] * len(found), [self._shades[name or number] for number, (name, _) in enumerate(found)]
+
+
+def _map_colours(parts: Sequence[Sequence[Place]]) -> list[int]:
+    """A number for each part, other ones for parts that touch by a side: the least that the parts before leave."""
+    owner = {place: number for number, part in enumerate(parts) for place in part}
+    numbers: dict[int, int] = {}
+    for part in sorted(range(len(parts)), key=lambda number: min(parts[number], default=(0, 0))):
+        beside = {owner.get((r + dr, c + dc)) for r, c in parts[part] for dr, dc in _BESIDE}
+        taken = {numbers[other] for other in beside if other in numbers}
+        numbers[part] = next(number for number in itertools.count() if number not in taken)
+    return [numbers[part] for part in range(len(parts))]
+
+
+def _letter(number: int) -> str:
+    return chr(ord("A") + number) if number < 26 else str(number)
 
 
 def no_match(what: str, pattern: str, parts: str, lines: Iterator[str]) -> NoPicture:
