@@ -25,6 +25,8 @@ _CHUNK = 1 << 20
 _MOST_LINE = 1 << 23
 # Numbers in the words of commands: the programs take these too.
 _MOST_NUMBER = (1 << 64) - 1
+# Python reads so many digits at once, and so many of a wrong number are told.
+_MOST_DIGITS, _MOST_TOLD_DIGITS = 4000, 40
 # More than anybody waits, and no more than the system's clocks take.
 _MOST_SECONDS = 1e9
 # Where time is over an exception says so. Until it was raised so long ago, or the process has worked on for so long, it
@@ -32,7 +34,7 @@ _MOST_SECONDS = 1e9
 # at the end.
 _ON_ITS_WAY, _AT_WORK = 10.0, 0.5
 # Behind a wrong word so many that are as near, as `difflib` reckons, are told, or so many where none is near.
-_MOST_NEAR, _NEAR, _MOST_TOLD = 3, 0.65, 16
+_MOST_NEAR, _NEAR, _MOST_TOLD = 3, 0.65, 20
 _INPUT, _OUTPUT, _ERROR = "standard input", "standard output", "standard error"
 
 
@@ -146,6 +148,12 @@ def say(line: str) -> None:
         print(shown(line), file=sys.stderr, flush=True)
 
 
+def fail(message: str, status: int = 2) -> int:
+    """Says why `helgrothy` can't do what is asked, and gives the status. Raises `OSError`."""
+    say(f"helgrothy: {message}")
+    return status
+
+
 def write(texts: Iterable[str]) -> None:
     """Writes texts to standard output as the bytes that they came as, UTF-8 or not; to a terminal only what it prints.
 
@@ -203,6 +211,18 @@ def number(word: str) -> int:
     """A number of at least 0, for a parser."""
     if not re.match(r"[0-9]+\Z", word) or len(word) > 20 or int(word) > _MOST_NUMBER:
         raise argparse.ArgumentTypeError(f"{word}: it has to be a number from 0 to {_MOST_NUMBER}")
+    return int(word)
+
+
+def write_long_numbers() -> None:
+    """Python writes no number of many digits unless it is told to."""
+    getattr(sys, "set_int_max_str_digits", lambda digits: None)(0)
+
+
+def natural(word: str) -> int:
+    """A number of at least 1 with any digits that Python reads, for a parser."""
+    if not re.match(r"[0-9]+\Z", word) or len(word) > _MOST_DIGITS or int(word) < 1:
+        raise argparse.ArgumentTypeError(f"{word[:_MOST_TOLD_DIGITS]}: it has to be a number from 1 on")
     return int(word)
 
 

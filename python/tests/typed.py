@@ -34,6 +34,9 @@ def solutions() -> None:
     for listed in problem.listed(""):
         same: Listed[str] = listed
         one(same)
+    for drawn in (problem.solution(2), problem.random(), problem.random(1, seconds=2.0)):
+        if drawn is not None:
+            one(drawn)
     try:
         least: cost.Least[str] | None = cost.least(problem, [1, 2])
         if least is not None:
