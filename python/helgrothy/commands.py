@@ -160,6 +160,11 @@ def _add_which(parser: argparse.ArgumentParser) -> None:
     which.add_argument("--limit", type=positive, metavar="N", help="the first N solutions")
     which.add_argument("--all", action="store_true", help="all solutions")
     count_command.add_option(which)
+    which.add_argument(
+        "--chances",
+        action="store_true",
+        help="the share of all solutions in which a cell of the picture has what it has, or an option is",
+    )
     which.add_argument("--unique", action="store_true", help="whether there is exactly one solution; if not, two")
 
 

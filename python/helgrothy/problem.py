@@ -437,6 +437,17 @@ class Problem(Generic[Option]):
         left = None if seconds is None else max(0.0, seconds - (time.monotonic() - begun))
         return next(iter(numbered.solve(self, numbered.lot(total, seed), left, total)))
 
+    def occurrences(self, *, seconds: float | None = None, jobs: int | None = None) -> list[int]:
+        """Of each option in how many solutions it is, in the order of `options`.
+
+        Where there are few solutions all are listed once. Otherwise dlx-count counts for each option those that have
+        it, by up to `jobs` processes at once (as many as there are processors). Raises `ProgramNotFound`,
+        `ProgramFailed` and `OutOfTime`.
+        """
+        from . import occurrences
+
+        return occurrences.find(self, seconds, jobs).by_option
+
     def _count(self, seconds: float | None, **how: Any) -> counter.Count:
         """How many solutions there are, and which program counted them; `how` is for `counter.count`."""
         words = _words(None, 0 if seconds is None else _NUMBERED)

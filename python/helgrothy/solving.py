@@ -46,6 +46,10 @@ def solve(problem: Problem[Any], arguments: argparse.Namespace) -> int:
     if arguments.count:
         count_command.check(arguments)
         return count_command.show(asked.inner, arguments)
+    if arguments.chances:
+        from . import chances_command
+
+        return chances_command.show(asked, arguments)
     return _Listing(asked, arguments).show()
 
 
@@ -53,14 +57,15 @@ def check(arguments: argparse.Namespace) -> None:
     """Raises `ValueError` where options don't go together."""
     if arguments.seed is not None and not arguments.random:
         raise ValueError("--seed is of --random")
-    if arguments.random and (arguments.shuffle is not None or arguments.up_to_symmetry):
-        raise ValueError("--random is of all solutions: without --shuffle and --up-to-symmetry")
+    if (arguments.random or arguments.chances) and (arguments.shuffle is not None or arguments.up_to_symmetry):
+        word = "--random" if arguments.random else "--chances"
+        raise ValueError(f"{word} is of all solutions: without --shuffle and --up-to-symmetry")
 
 
 def check_one(arguments: argparse.Namespace) -> None:
     """Raises `ValueError` where more is asked for than a search of another kind finds."""
-    if _asks_which(arguments) or arguments.count or arguments.unique:
-        words = "--all, --limit, --number, --random, --count and --unique"
+    if _asks_which(arguments) or arguments.count or arguments.chances or arguments.unique:
+        words = "--all, --limit, --number, --random, --count, --chances and --unique"
         raise ValueError(f"this search finds one solution: without {words}")
     if arguments.shuffle is not None or arguments.up_to_symmetry:
         raise ValueError("this search has an order of its own: without --shuffle and --up-to-symmetry")
@@ -280,7 +285,7 @@ def _costs(problem: Problem[Any], arguments: argparse.Namespace) -> Costs | None
 def _asks_for_others(arguments: argparse.Namespace) -> bool:
     """Whether other solutions than the cheapest one are asked for."""
     ways = arguments.shuffle is not None or arguments.up_to_symmetry
-    return _asks_which(arguments) or ways or arguments.count or arguments.unique
+    return _asks_which(arguments) or ways or arguments.count or arguments.chances or arguments.unique
 
 
 def _show_least(asked: Given[Any], costs: Costs, arguments: argparse.Namespace) -> int:

@@ -22,7 +22,7 @@ MISTAKES = (
     (["make", "queens", "8", "--all"], "helgrothy make queens: --all: no such option; see helgrothy make queens --help"),
     (
         ["queens", "8", "--solutions", "3"],
-        "helgrothy queens: --solutions: no such option (there are --number, --random, --limit, --all, --count, --unique, --svg, --html, --json, "
+        "helgrothy queens: --solutions: no such option (there are --number, --random, --limit, --all, --count, --chances, --unique, --svg, --html, --json, "
         "--csv, --seed, --seconds, --with, --without, --shuffle, --up-to-symmetry and --cost); see helgrothy queens --help",
     ),
     (["queens", "8", "--limt=3"], "helgrothy queens: --limt: no such option (is it --limit?); see helgrothy queens --help"),

@@ -208,4 +208,5 @@ KIND = Kind(
     drawing,
     cell=r"l(\d+)r(\d+)c(\d+)",
     remarks=lambda problem: alike(problem, _CELL),
+    view=None,
 )

@@ -122,4 +122,4 @@ def _make(arguments: argparse.Namespace) -> Problem[list[str]]:
     return problem((line for _, line in numbered(read_text(arguments.teams))), double=arguments.double)
 
 
-KIND = Kind("roundrobin", "a round robin at home and away", _add_arguments, _make, drawing)
+KIND = Kind("roundrobin", "a round robin at home and away", _add_arguments, _make, drawing, view=None)

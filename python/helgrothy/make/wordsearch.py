@@ -234,4 +234,6 @@ def _make(arguments: argparse.Namespace) -> Problem[Option]:
     return problem(read_text(arguments.list), grid, forwards=arguments.forwards, fill=arguments.fill)
 
 
-KIND = Kind("wordsearch", "words of a list hidden in a grid of letters", _add_arguments, _make, drawing)
+KIND = Kind(
+    "wordsearch", "words of a list hidden in a grid of letters", _add_arguments, _make, drawing, view=None
+)
