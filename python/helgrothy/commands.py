@@ -14,7 +14,7 @@ from collections.abc import Callable, Sequence
 from typing import TYPE_CHECKING, Any
 
 from . import __version__, console, count_command, puzzle_commands
-from .console import Parser, limited, number, positive, seconds
+from .console import Parser, limited, natural, number, positive, seconds
 from .make import KINDS
 from .puzzle_commands import add_choices
 
@@ -144,15 +144,32 @@ def _add_kind(commands: Any, kind: Kind) -> None:
 
 
 def _add_solving(parser: argparse.ArgumentParser) -> None:
+    _add_which(parser)
+    _add_forms(parser, "a picture as SVG, of one solution")
+    parser.add_argument("--seed", type=number, metavar="N", help="of --random: the same solution for the same number")
+    parser.add_argument("--seconds", type=seconds, metavar="S", help="give up after S seconds")
+    add_choices(parser)
+    _add_ways(parser)
+
+
+def _add_which(parser: argparse.ArgumentParser) -> None:
+    """Which solutions are shown, or what is told of all."""
     which = parser.add_mutually_exclusive_group()
-    which.add_argument("--number", type=positive, metavar="K", help="the K-th solution instead of the first")
+    which.add_argument("--number", type=natural, metavar="K", help="the K-th solution instead of the first")
+    which.add_argument("--random", action="store_true", help="one of all solutions, each as likely as any other")
     which.add_argument("--limit", type=positive, metavar="N", help="the first N solutions")
     which.add_argument("--all", action="store_true", help="all solutions")
     count_command.add_option(which)
+    which.add_argument(
+        "--chances",
+        action="store_true",
+        help="in how many percent of all solutions each cell has what, or, without a picture, each option is chosen",
+    )
     which.add_argument("--unique", action="store_true", help="whether there is exactly one solution; if not, two")
-    _add_forms(parser, "a picture as SVG, of one solution")
-    parser.add_argument("--seconds", type=seconds, metavar="S", help="give up after S seconds")
-    add_choices(parser)
+
+
+def _add_ways(parser: argparse.ArgumentParser) -> None:
+    """Other ways to the solutions than in the order of the listing."""
     way = parser.add_mutually_exclusive_group()
     way.add_argument(
         "--shuffle",

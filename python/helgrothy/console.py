@@ -25,6 +25,8 @@ _CHUNK = 1 << 20
 _MOST_LINE = 1 << 23
 # Numbers in the words of commands: the programs take these too.
 _MOST_NUMBER = (1 << 64) - 1
+# Python reads so many digits at once, and so many of a wrong number are told.
+_MOST_DIGITS, _MOST_TOLD_DIGITS = 4000, 40
 # More than anybody waits, and no more than the system's clocks take.
 _MOST_SECONDS = 1e9
 # Where time is over an exception says so. Until it was raised so long ago, or the process has worked on for so long, it
@@ -32,7 +34,7 @@ _MOST_SECONDS = 1e9
 # at the end.
 _ON_ITS_WAY, _AT_WORK = 10.0, 0.5
 # Behind a wrong word so many that are as near, as `difflib` reckons, are told, or so many where none is near.
-_MOST_NEAR, _NEAR, _MOST_TOLD = 3, 0.65, 16
+_MOST_NEAR, _NEAR, _MOST_TOLD = 3, 0.65, 20
 _INPUT, _OUTPUT, _ERROR = "standard input", "standard output", "standard error"
 
 
@@ -146,6 +148,12 @@ def say(line: str) -> None:
         print(shown(line), file=sys.stderr, flush=True)
 
 
+def fail(message: str, status: int = 2) -> int:
+    """Says why `helgrothy` can't do what is asked, and gives the status. Raises `OSError`."""
+    say(f"helgrothy: {message}")
+    return status
+
+
 def write(texts: Iterable[str]) -> None:
     """Writes texts to standard output as the bytes that they came as, UTF-8 or not; to a terminal only what it prints.
 
@@ -206,6 +214,18 @@ def number(word: str) -> int:
     return int(word)
 
 
+def write_long_numbers() -> None:
+    """Python writes no number of many digits unless it is told to."""
+    getattr(sys, "set_int_max_str_digits", lambda digits: None)(0)
+
+
+def natural(word: str) -> int:
+    """A number of at least 1 with any digits that Python reads, for a parser."""
+    if not re.match(r"[0-9]+\Z", word) or len(word) > _MOST_DIGITS or int(word) < 1:
+        raise argparse.ArgumentTypeError(f"{word[:_MOST_TOLD_DIGITS]}: it has to be a number from 1 on")
+    return int(word)
+
+
 def seconds(word: str) -> float:
     """A time, for a parser."""
     try:
@@ -223,39 +243,44 @@ def limited(most: float | None) -> Iterator[None]:
     if most is None or not _is_main():
         yield
         return
-
-    is_open = True
-    # When one was raised: by the clock, and by what the process had taken of a processor.
-    raised: tuple[float, float] | None = None
-
-    def end(*_: object) -> None:
-        nonlocal raised
-        now = time.monotonic(), time.process_time()
-        is_on_its_way = raised is not None and now[0] < raised[0] + _ON_ITS_WAY and now[1] < raised[1] + _AT_WORK
-        if is_open and not is_on_its_way:
-            raised = now
-            raise OutOfTime(f"it wasn't done in {most:g} seconds")
-
-    def lose(lost: Any) -> None:
-        # One that is lost isn't told: the next one comes.
-        nonlocal raised
-        if lost.exc_type is OutOfTime:
-            raised = None
-        else:
-            tell(lost)
-
-    before = signal.signal(signal.SIGALRM, end)
-    tell, sys.unraisablehook = sys.unraisablehook, lose
+    clock = _Clock(most, sys.unraisablehook)
+    before = signal.signal(signal.SIGALRM, clock.end)
+    sys.unraisablehook = clock.lose
     try:
         # Should an exception be lost, where Python can't pass it on, the next one comes soon.
         signal.setitimer(signal.ITIMER_REAL, most, 1.0)
         yield
     finally:
-        is_open = False
+        clock.is_open = False
         signal.setitimer(signal.ITIMER_REAL, 0)
         signal.signal(signal.SIGALRM, before)
-        sys.unraisablehook = tell
+        sys.unraisablehook = clock.tell
         end_all()
+
+
+class _Clock:
+    """What is done when time is over, while it is open; `tell` is what tells of exceptions that are lost."""
+
+    def __init__(self, most: float, tell: Callable[[Any], Any]) -> None:
+        self.is_open = True
+        self.tell = tell
+        self._most = most
+        # When an exception was raised: by the clock, and by what the process had taken of a processor.
+        self._raised: tuple[float, float] | None = None
+
+    def end(self, *_: object) -> None:
+        before, now = self._raised, (time.monotonic(), time.process_time())
+        is_on_its_way = before is not None and now[0] < before[0] + _ON_ITS_WAY and now[1] < before[1] + _AT_WORK
+        if self.is_open and not is_on_its_way:
+            self._raised = now
+            raise OutOfTime(f"it wasn't done in {self._most:g} seconds")
+
+    def lose(self, lost: Any) -> None:
+        """One of these that is lost isn't told: the next one comes."""
+        if lost.exc_type is OutOfTime:
+            self._raised = None
+        else:
+            self.tell(lost)
 
 
 def _is_main() -> bool:

@@ -2,7 +2,6 @@
 
 from __future__ import annotations
 
-import sys
 from collections.abc import Callable
 from typing import TYPE_CHECKING, Any
 
@@ -59,8 +58,7 @@ def show(problem: Problem[Any], arguments: argparse.Namespace) -> int:
     except OutOfTime as error:
         console.say(f"helgrothy: {error}; {error.found} solution{'' if error.found == 1 else 's'} till then")
         return 2
-    # Python writes no number of many digits unless it is told to.
-    getattr(sys, "set_int_max_str_digits", lambda digits: None)(0)
+    console.write_long_numbers()
     if arguments.data == "json":
         import json
 

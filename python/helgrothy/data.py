@@ -73,6 +73,10 @@ class Data(ABC):
     def solution(self, number: int, places: Sequence[int]) -> str:
         """A solution of this number, with the options of these places."""
 
+    @abstractmethod
+    def chances(self, total: int, times: Sequence[int]) -> str:
+        """Of each option in how many of all solutions it is."""
+
     def _named(self, place: int) -> Uses:
         """The names of an option's items, each with its colour's name or None."""
         found = self._uses.get(place)
@@ -107,6 +111,9 @@ class Json(Data):
         }
         return f"{json.dumps(told)}\n"
 
+    def chances(self, total: int, times: Sequence[int]) -> str:
+        return f"{json.dumps({'solutions': total, 'occurrences': list(times)})}\n"
+
 
 class Csv(Data):
     """A line for each choice: the solution's number, the option's number, and the option's items."""
@@ -116,13 +123,20 @@ class Csv(Data):
         self._width = max((len(list(problem._pairs(option))) for option in problem.options), default=0)
 
     def head(self) -> str:
-        return self._lines([["solution", "option", *(f"item {place}" for place in range(1, self._width + 1))]])
+        return self._heads("solution")
 
     def solution(self, number: int, places: Sequence[int]) -> str:
-        return self._lines(
-            [number, place + 1, *words, *[""] * (min(self._width, _MOST_FILLED) - len(words))]
-            for place, words in ((place, list(self._words(place))) for place in places)
-        )
+        return self._lines(self._row(number, place) for place in places)
+
+    def chances(self, total: int, times: Sequence[int]) -> str:
+        return self._heads("solutions") + self._lines(self._row(count, place) for place, count in enumerate(times))
+
+    def _heads(self, first: str) -> str:
+        return self._lines([[first, "option", *(f"item {place}" for place in range(1, self._width + 1))]])
+
+    def _row(self, first: int, place: int) -> list[object]:
+        words = list(self._words(place))
+        return [first, place + 1, *words, *[""] * (min(self._width, _MOST_FILLED) - len(words))]
 
     def _words(self, place: int) -> Iterator[str]:
         for item, colour in self._named(place).items():

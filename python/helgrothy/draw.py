@@ -8,6 +8,7 @@ from __future__ import annotations
 
 import colorsys
 import itertools
+import math
 import re
 from collections.abc import Callable, Hashable, Iterator, Sequence
 from dataclasses import dataclass, field
@@ -24,15 +25,21 @@ __all__ = ["Cell", "Drawing", "Pattern", "Picture", "drawing_of"]
 
 Place = tuple[int, int]
 
-_SIDE = 36
+# Of a cell in the SVG, in pixels.
+SIDE = 36
 _FONT = 16
 # How far the line of a cage lies within its cells.
 _INSET = 3
+# What is as dark as its share is no paler than this.
+_PALEST = 0.15
 # A queen in a square of side 36.
 _QUEEN = "M8 12l5 9 5-12 5 12 5-9-3 15H11zM11 29h14v2H11z"
 # A picture has so many places at most, or so many for each cell that isn't a hole: it doesn't grow with the numbers
 # that are in names.
 _MOST_PLACES, _MOST_BY_CELL = 10_000, 16
+_BESIDE = ((0, 1), (1, 0), (0, -1), (-1, 0))
+# What stands in a cell without a label.
+_STAR = "*"
 # A pattern that is found nowhere.
 _NOTHING = r"(?!)"
 _LONGEST_SAMPLE = 60
@@ -43,7 +50,8 @@ _DECIMAL = re.compile(r"[0-9]+\Z")
 class Cell:
     """A cell of a picture. No thick line parts cells of one group; a quiet label is only in the text.
 
-    corner: a small label in the SVG alone. sums: instead of a label, those of the cells below and to the right. cage:
+    corner: a small label in the SVG alone. marks: there small labels instead of the label, each with the share, from 0
+    to 1, that it is as dark as. sums: instead of a label, those of the cells below and to the right. cage:
     cells of one cage are in one dashed line, in the SVG alone.
     """
 
@@ -54,6 +62,7 @@ class Cell:
     is_queen: bool = False
     is_quiet: bool = False
     corner: str = ""
+    marks: tuple[tuple[str, float], ...] = ()
     sums: tuple[str, str] | None = None
     cage: Hashable = None
 
@@ -97,6 +106,11 @@ class Picture:
 
     def _repr_svg_(self) -> str:
         return self.svg()
+
+    @property
+    def extent(self) -> Place:
+        """How many rows and columns it has."""
+        return self._size
 
     def is_parted(self, a: Place, b: Place) -> bool:
         """Whether a thick line stands between two places."""
@@ -232,15 +246,16 @@ class _Svg:
         self.picture = picture
         self.rows = rows
         self.columns = columns
-        labels = [cell.label for cell in picture.cells.values()]
-        self.wide = max(_SIDE, *(_width(label) for label in [*labels, *picture.columns]))
+        labels = [cell.label for cell in picture.cells.values() if not cell.is_quiet]
+        marks = [label for cell in picture.cells.values() for label, _ in cell.marks]
+        self.wide = max([SIDE, *map(_width, [*labels, *marks, *picture.columns])])
         self.left = max((_width(name) for name in picture.rows), default=4)
-        self.top = _SIDE if picture.columns else 4
+        self.top = SIDE if picture.columns else 4
         # Labels make room for those in the corners.
         self.down = 4 if any(cell.corner for cell in picture.cells.values()) else 0
 
     def text(self) -> str:
-        width, height = self.left + self.columns * self.wide + 4, self.top + self.rows * _SIDE + 4
+        width, height = self.left + self.columns * self.wide + 4, self.top + self.rows * SIDE + 4
         lines = [
             f'<svg xmlns="http://www.w3.org/2000/svg" width="{width}" height="{height}" '
             f'viewBox="0 0 {width} {height}" font-family="sans-serif" font-size="{_FONT}" text-anchor="middle">',
@@ -256,7 +271,7 @@ class _Svg:
         return "".join(f"{line}\n" for line in lines)
 
     def at(self, r: int, c: int) -> tuple[int, int]:
-        return self.left + c * self.wide, self.top + r * _SIDE
+        return self.left + c * self.wide, self.top + r * SIDE
 
     def fills(self) -> Iterator[str]:
         """A rectangle for each run of cells of one colour in a row."""
@@ -268,7 +283,7 @@ class _Svg:
                     c += 1
                 if fill not in ("", "#fff"):
                     x, y = self.at(r, start)
-                    size = f'width="{(c - start) * self.wide}" height="{_SIDE}"'
+                    size = f'width="{(c - start) * self.wide}" height="{SIDE}"'
                     yield f'<rect x="{x}" y="{y}" {size} fill="{escape(fill)}"/>'
 
     def fill(self, at: Place) -> str:
@@ -292,7 +307,7 @@ class _Svg:
         for c in range(self.columns + 1):
             for r, length in _runs([is_line((r, c - 1), (r, c)) for r in range(self.rows)]):
                 x, y = self.at(r, c)
-                steps.append(f"M{x} {y}v{length * _SIDE}")
+                steps.append(f"M{x} {y}v{length * SIDE}")
         return "".join(steps)
 
     def cages(self) -> Iterator[str]:
@@ -304,9 +319,9 @@ class _Svg:
                 # Each side with the way along it.
                 for (down, right), (x, y), way, length in (
                     ((-1, 0), (x, y + _INSET), (0, 1), self.wide),
-                    ((1, 0), (x, y + _SIDE - _INSET), (0, 1), self.wide),
-                    ((0, -1), (x + _INSET, y), (1, 0), _SIDE),
-                    ((0, 1), (x + self.wide - _INSET, y), (1, 0), _SIDE),
+                    ((1, 0), (x, y + SIDE - _INSET), (0, 1), self.wide),
+                    ((0, -1), (x + _INSET, y), (1, 0), SIDE),
+                    ((0, 1), (x + self.wide - _INSET, y), (1, 0), SIDE),
                 ):
                     if not self.is_caged((r + down, c + right), cell.cage):
                         begin = self.corner((r, c), (down, right), (-way[0], -way[1]))
@@ -334,26 +349,41 @@ class _Svg:
             if cell.corner:
                 yield self.small(x + 5, y + 13, cell.corner, "start")
             if cell.sums is not None:
-                yield f'<path d="M{x} {y}l{self.wide} {_SIDE}" stroke="#222"/>'
-                yield self.small(x + 4, y + _SIDE - 5, cell.sums[0], "start")
+                yield f'<path d="M{x} {y}l{self.wide} {SIDE}" stroke="#222"/>'
+                yield self.small(x + 4, y + SIDE - 5, cell.sums[0], "start")
                 yield self.small(x + self.wide - 4, y + 14, cell.sums[1], "end")
             elif cell.is_queen:
-                yield f'<path d="{_QUEEN}" transform="translate({x + (self.wide - _SIDE) // 2} {y})" fill="#222"/>'
+                yield f'<path d="{_QUEEN}" transform="translate({x + (self.wide - SIDE) // 2} {y})" fill="#222"/>'
+            elif cell.marks:
+                yield from self.marks(x, y, cell.marks)
             elif cell.label and not cell.is_quiet:
                 weight = ' font-weight="bold"' if cell.is_strong else ""
                 yield self.word(x + self.wide / 2, y + self.down, cell.label, weight)
+
+    def marks(self, x: int, y: int, marks: Sequence[tuple[str, float]]) -> Iterator[str]:
+        """Small labels in a square, or in a column where one is long."""
+        is_narrow = all(len(label) <= 2 for label, _ in marks)
+        columns = math.ceil(math.sqrt(len(marks))) if is_narrow else 1
+        rows = math.ceil(len(marks) / columns)
+        high, wide = SIDE / rows, self.wide / columns
+        size = min(_FONT, 0.85 * high)
+        for number, (label, share) in enumerate(marks):
+            down, right = divmod(number, columns)
+            at = x + (right + 0.5) * wide, y + (down + 0.5) * high + 0.35 * size
+            look = f'font-size="{size:.3g}" fill-opacity="{max(share, _PALEST):.2g}"'
+            yield f'<text x="{at[0]:g}" y="{at[1]:g}" {look}>{escape(shown(label))}</text>'
 
     def heads(self) -> Iterator[str]:
         for c, name in enumerate(self.picture.columns):
             yield self.word(self.left + (c + 0.5) * self.wide, 2, name, ' fill="#555"')
         for r, name in enumerate(self.picture.rows):
-            yield self.word(self.left - 10, self.top + r * _SIDE, name, ' fill="#555" text-anchor="end"')
+            yield self.word(self.left - 10, self.top + r * SIDE, name, ' fill="#555" text-anchor="end"')
 
     def small(self, x: float, y: float, text: str, anchor: str) -> str:
         return f'<text x="{x:g}" y="{y:g}" font-size="11" text-anchor="{anchor}">{escape(shown(text))}</text>'
 
     def word(self, x: float, y: float, text: str, more: str) -> str:
-        return f'<text x="{x:g}" y="{y + _SIDE / 2 + 5.5:g}"{more}>{escape(shown(text))}</text>'
+        return f'<text x="{x:g}" y="{y + SIDE / 2 + 5.5:g}"{more}>{escape(shown(text))}</text>'
 
 
 def _width(label: str) -> int:
@@ -381,7 +411,8 @@ class Pattern:
         number, or a single letter, which goes on behind the digits (9, a, b, ..). With one group all cells are in one
         row. A third group, or else the cell's colour, is the cell's label.
     label: finds the label of an option's other cells: its first group, or else all of it. Cells without any label
-        are stars in the text.
+        are stars in the text; where options without a label fill several cells they have letters, as a map has colours:
+        those that touch have different ones.
 
     A match begins and ends where words of the line do. It may go over several words. A solution that gives a cell two
     labels has no picture.
@@ -402,27 +433,71 @@ class Pattern:
             raise no_match("cell", self.cell, "whole words", lines)
         if self.label != _NOTHING and not any(map(label.search, lines)):
             raise no_match("label", self.label, "whole words", map(problem.line, problem.options))
-        top, left = min(r for r, _ in board), min(c for _, c in board)
-        check_size(max(r for r, _ in board) - top + 1, max(c for _, c in board) - left + 1, len(board))
-        shades = Shades()
+        return _Laid(cell, label, board, problem).draw
 
-        def draw(lines: Sequence[str]) -> Picture:
-            cells = {(r - top, c - left): Cell() for r, c in board}
-            labels: dict[Place, str] = {}
-            for number, line in enumerate(lines):
-                found = label.search(line)
-                name = "" if found is None else found.group(1 if label.groups else 0)
-                for (r, c), own in _cells(cell, line):
-                    place = cells.setdefault((r - top, c - left), Cell())
-                    place.label, place.is_quiet = own or name or "*", not (own or name)
-                    if labels.setdefault((r, c), place.label) != place.label:
-                        both = f"both {shown(labels[r, c])} and {shown(place.label)} are"
-                        raise NoPicture(f"{both} in row {r}, column {c}: a board has one label in a cell")
-                    if not own:
-                        place.group, place.fill = number, shades[name or number]
-            return Picture("a solution", cells, has_grid=any(place.group is None for place in cells.values()))
 
-        return draw
+class _Laid:
+    """What a pattern finds of solutions on a board."""
+
+    def __init__(
+        self, cell: re.Pattern[str], label: re.Pattern[str], board: set[Place], problem: Problem[Any]
+    ) -> None:
+        self._cell = cell
+        self._label = label
+        self._board = board
+        self._top, self._left = min(r for r, _ in board), min(c for _, c in board)
+        rows, columns = max(r for r, _ in board) - self._top + 1, max(c for _, c in board) - self._left + 1
+        check_size(rows, columns, len(board))
+        # Where options without a name fill several cells they are pieces, to be told apart.
+        lines = map(problem.line, problem.options)
+        self._has_pieces = any(len(cells) > 1 and not name for name, cells in map(self._found, lines))
+        self._shades = Shades()
+
+    def _found(self, line: str) -> tuple[str, dict[Place, str]]:
+        """The label of an option, and its cells with labels of their own."""
+        found = self._label.search(line)
+        name = "" if found is None else found.group(1 if self._label.groups else 0)
+        return name, dict(_cells(self._cell, line))
+
+    def draw(self, lines: Sequence[str]) -> Picture:
+        found = list(map(self._found, lines))
+        names, fills = self._looks(found)
+        cells = {(r - self._top, c - self._left): Cell() for r, c in self._board}
+        labels: dict[Place, str] = {}
+        for number, (name, held) in enumerate(found):
+            for (r, c), own in held.items():
+                place = cells.setdefault((r - self._top, c - self._left), Cell())
+                place.label, place.is_quiet = own or name or names[number], not (own or name)
+                if labels.setdefault((r, c), place.label) != place.label:
+                    both = f"both {shown(labels[r, c])} and {shown(place.label)} are"
+                    raise NoPicture(f"{both} in row {r}, column {c}: a board has one label in a cell")
+                if not own:
+                    place.group, place.fill = number, fills[number]
+        return Picture("a solution", cells, has_grid=any(place.group is None for place in cells.values()))
+
+    def _looks(self, found: Sequence[tuple[str, dict[Place, str]]]) -> tuple[list[str], list[str]]:
+        """What stands in the cells of each option that have no label, and their colours."""
+        parts = [list(held) for _, held in found]
+        is_apart = sum(map(len, parts)) == len({place for part in parts for place in part})
+        if self._has_pieces and is_apart:
+            numbers = _map_colours(parts)
+            return [_letter(number) for number in numbers], [self._shades[number] for number in numbers]
+        return [_STAR] * len(found), [self._shades[name or number] for number, (name, _) in enumerate(found)]
+
+
+def _map_colours(parts: Sequence[Sequence[Place]]) -> list[int]:
+    """A number for each part, other ones for parts that touch by a side: the least that the parts before leave."""
+    owner = {place: number for number, part in enumerate(parts) for place in part}
+    numbers: dict[int, int] = {}
+    for part in sorted(range(len(parts)), key=lambda number: min(parts[number], default=(0, 0))):
+        beside = {owner.get((r + dr, c + dc)) for r, c in parts[part] for dr, dc in _BESIDE}
+        taken = {numbers[other] for other in beside if other in numbers}
+        numbers[part] = next(number for number in itertools.count() if number not in taken)
+    return [numbers[part] for part in range(len(parts))]
+
+
+def _letter(number: int) -> str:
+    return chr(ord("A") + number) if number < 26 else str(number)
 
 
 def no_match(what: str, pattern: str, parts: str, lines: Iterator[str]) -> NoPicture:

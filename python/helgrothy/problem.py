@@ -4,6 +4,7 @@ from __future__ import annotations
 
 import io
 import tempfile
+import time
 import warnings
 from collections import Counter
 from collections.abc import Callable, Generator, Hashable, Iterable, Iterator, Mapping, Sequence
@@ -342,7 +343,7 @@ class Problem(Generic[Option]):
 
         return Solutions(begin, again)
 
-    def _wire(self, places: Sequence[int]) -> tuple[Iterator[bytes], Callable[[bytes], Solution[Any]]]:
+    def _wire(self, places: Sequence[int] | None) -> tuple[Iterator[bytes], Callable[[bytes], Solution[Any]]]:
         """The options of these places for a program, and what makes solutions of the lines that it prints."""
         wire = Wire(self, places=places)
         return _ended(wire.lines), partial(Solution, wire)
@@ -410,6 +411,42 @@ class Problem(Generic[Option]):
             except OutOfTime as error:
                 error.found = found
                 raise
+
+    def solution(self, number: int, *, seconds: float | None = None) -> Solution[Option] | None:
+        """The solution of this number of those that `solve` gives, from 1 on, or None where there are fewer.
+
+        Those before it aren't made where dlx-count is first, which counts the branches that they are in. Raises
+        `ProgramNotFound`, `ProgramFailed` and `OutOfTime`.
+        """
+        from . import numbered
+
+        return next(iter(numbered.solve(self, number, seconds)), None)
+
+    def random(self, seed: int | None = None, *, seconds: float | None = None) -> Solution[Option] | None:
+        """One of all solutions, each as likely as any other, or None where there is none.
+
+        They are counted, and a number of them is drawn: the same one for the same seed, and without one another each
+        time. Raises `ProgramNotFound`, `ProgramFailed` and `OutOfTime`.
+        """
+        from . import numbered
+
+        begun = time.monotonic()
+        total = self._count(seconds).total
+        if total == 0:
+            return None
+        left = None if seconds is None else max(0.0, seconds - (time.monotonic() - begun))
+        return next(iter(numbered.solve(self, numbered.lot(total, seed), left, total)))
+
+    def occurrences(self, *, seconds: float | None = None, jobs: int | None = None) -> list[int]:
+        """Of each option in how many solutions it is, in the order of `options`.
+
+        Where there are few solutions all are listed once. Otherwise dlx-count counts for each option those that have
+        it, by up to `jobs` processes at once (as many as there are processors). Raises `ProgramNotFound`,
+        `ProgramFailed` and `OutOfTime`.
+        """
+        from . import occurrences
+
+        return occurrences.find(self, seconds, jobs).by_option
 
     def _count(self, seconds: float | None, **how: Any) -> counter.Count:
         """How many solutions there are, and which program counted them; `how` is for `counter.count`."""

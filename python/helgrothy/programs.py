@@ -156,23 +156,14 @@ class Run:
             given.writelines(text)
             given.seek(0)
             self._told: IO[bytes] = tempfile.TemporaryFile()
-            with undisturbed():
-                self._process = subprocess.Popen(
-                    [path, *words], stdin=given, stdout=subprocess.PIPE, stderr=self._told, bufsize=0
-                )
-                _running.add(self._process)
+            self._process = _begun([path, *words], given, self._told)
 
     def __enter__(self) -> Run:
         return self
 
     def __exit__(self, *_: object) -> None:
-        if self._process.poll() is None:
-            self._process.kill()
-            self._process.wait()
+        _end(self._process)
         self.go_on()
-        _running.discard(self._process)
-        if self._process.stdout is not None:
-            self._process.stdout.close()
         self._told.close()
 
     def chunks(
@@ -254,6 +245,30 @@ class Run:
     def failure(self) -> ProgramFailed:
         """What is raised where the status isn't the one that was wanted."""
         return ProgramFailed(self.program, self.status(), self.messages())
+
+
+def _begun(words: Sequence[str], given: IO[bytes], told: IO[bytes]) -> subprocess.Popen[bytes]:
+    """A process of these words. Where it can't be begun, or a clock has run down meanwhile, nothing of it is left."""
+    process = None
+    try:
+        with undisturbed():
+            process = subprocess.Popen(words, stdin=given, stdout=subprocess.PIPE, stderr=told, bufsize=0)
+            _running.add(process)
+    except BaseException:
+        told.close()
+        if process is not None:
+            _end(process)
+        raise
+    return process
+
+
+def _end(process: subprocess.Popen[bytes]) -> None:
+    if process.poll() is None:
+        process.kill()
+        process.wait()
+    _running.discard(process)
+    if process.stdout is not None:
+        process.stdout.close()
 
 
 class Ending:

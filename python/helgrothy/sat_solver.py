@@ -19,7 +19,7 @@ import tempfile
 import time
 from collections.abc import Hashable, Iterable, Iterator
 from contextlib import suppress
-from typing import Any, NamedTuple
+from typing import IO, Any, NamedTuple
 
 from . import answers, export, guard, programs
 from .errors import AnswerFault, HelgrothyError, ListingFault, OutOfTime, ProblemFault, ProgramFailed
@@ -106,11 +106,21 @@ class Asked:
             limits = [str(_MEMORY >> 10), str(output // _BLOCK)]
             command = ["/bin/sh", "-c", _LIMITED, "sh", *limits, engine.path, *SOLVERS[engine.name]]
             self._told = tempfile.TemporaryFile()
+            self._begin(command, given)
+
+    def _begin(self, command: list[str], given: IO[bytes]) -> None:
+        """Where it can't be begun, or a clock has run down meanwhile, nothing of it is left."""
+        try:
             with programs.undisturbed():
                 self._process = guard.start(
                     command, stdin=given, stdout=self._told, stderr=subprocess.DEVNULL, start_new_session=True
                 )
                 programs._running.add(self)
+        except BaseException:
+            if self in programs._running:
+                self.__exit__()
+            self._told.close()
+            raise
 
     def __enter__(self) -> Asked:
         return self

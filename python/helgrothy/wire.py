@@ -67,13 +67,15 @@ class Wire(Reader[Option]):
     """A problem as it is given to a solver whose listing is read back: with names as short as can be, since each byte
     of a listing costs time.
 
-    places: the options that are given, in this order; without it all are. lines: those of the text.
+    places: the options that are given, in this order; without it all are. lines: those of the text. spare: a name that
+    no item has.
     """
 
     def __init__(self, problem: Problem[Option], nulls: bool = False, places: Sequence[int] | None = None) -> None:
         super().__init__(problem, nulls)
         code = codes()
         self._names = {item: next(code) for item in (*problem.items, *problem.secondary)}
+        self.spare = next(code)
         self._colours = dict(zip(problem.colours, codes()))
         self._places = places
         options = self._options if places is None else [self._options[place] for place in places]

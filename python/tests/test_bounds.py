@@ -190,9 +190,10 @@ class Time(unittest.TestCase):
     def test_times_and_numbers(self):
         for words in (
             *(("--seconds", time) for time in ("0", "-1", "nan", "1_0", "x")),
-            *(("--number", number) for number in ("0", "1_0", "\u0663", "9" * 20, "9" * 5000)),
+            *(("--number", number) for number in ("0", "1_0", "\u0663", "9" * 5000)),
         ):
             self.assertEqual(run("queens", "4", *words)[0], 2)
+        self.assertEqual(run("queens", "4", "--number", "9" * 4000)[0], 1)
         for words in (("--seconds", "inf"), ("--seconds", "1e300"), ("--number", "1")):
             self.assertEqual(run("queens", "4", *words)[0], 0)
         self.assertEqual(Problem("a", options=["a"]).count(seconds=1e300), 1)

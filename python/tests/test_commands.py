@@ -10,7 +10,7 @@ from unittest import mock
 
 from folders import InFolder
 
-from helgrothy import OutOfTime, acts, make, sums, why
+from helgrothy import OutOfTime, make, solving, sums, why
 from helgrothy.__main__ import main
 
 # Each mistake with the line that says what is wrong, and what to do.
@@ -22,8 +22,8 @@ MISTAKES = (
     (["make", "queens", "8", "--all"], "helgrothy make queens: --all: no such option; see helgrothy make queens --help"),
     (
         ["queens", "8", "--solutions", "3"],
-        "helgrothy queens: --solutions: no such option (there are --number, --limit, --all, --count, --unique, --svg, --html, --json, --csv, --seconds, "
-        "--with, --without, --shuffle, --up-to-symmetry and --cost); see helgrothy queens --help",
+        "helgrothy queens: --solutions: no such option (there are --number, --random, --limit, --all, --count, --chances, --unique, --svg, --html, --json, "
+        "--csv, --seed, --seconds, --with, --without, --shuffle, --up-to-symmetry and --cost); see helgrothy queens --help",
     ),
     (["queens", "8", "--limt=3"], "helgrothy queens: --limt: no such option (is it --limit?); see helgrothy queens --help"),
     (["queens", "8", "--al"], "helgrothy queens: --al: no such option (is it --all?); see helgrothy queens --help"),
@@ -110,7 +110,7 @@ class Commands(InFolder):
         self.assertEqual(run("export", "cnf", given="A\nA\n")[1].splitlines()[1:], ["p cnf 1 1", "1 0"])
 
     # A machine that does other things too finds none in a second or two.
-    @mock.patch.object(acts, "_REASON_SECONDS", 99.0)
+    @mock.patch.object(solving, "_REASON_SECONDS", 99.0)
     @mock.patch("helgrothy.lint.search", lambda problem, _: sums.search(problem, 100.0))
     def test_no_solution_has_its_reason(self):
         told = "Altogether 0 solutions.\ncan't all be held: B\nit is in no option\n"

@@ -113,7 +113,7 @@ class Cost(unittest.TestCase):
             self.assertEqual(solve("5 1 0 3", "--csv")[1].splitlines()[1:], ["1,3,A,B"])
             status, _, told = solve("5", given="A B\nA\n")
             self.assertEqual((status, told.splitlines()[0]), (1, "Altogether 0 solutions."))
-            told = "helgrothy: this search finds one solution: without --all, --limit, --number, --count and --unique\n"
+            told = "helgrothy: this search finds one solution: without --all, --limit, --number, --random, --count, --chances and --unique\n"
             self.assertEqual(solve("5", "--all")[2], told)
             self.assertEqual(solve("5", "--html")[0], 2)
             told = f"helgrothy: {path}: line 1: 1 costs, and the problem has 4 options\n"

@@ -38,7 +38,7 @@ BAD = (
     ("a x y\nc 1 2 3\n", ["--tests", "2", "--strength", "1"], "2 tests are too few: c has 3 values"),
     ("a x y\nb p q\n", [], "--tests N says how many; `helgrothy tests FACTORS --least` looks for as few as can be"),
     ("a x y\nb p q\n", ["--tests", "4", "--least"], "either --tests or --least"),
-    ("a x y\nb p q\n", ["--least", "--all"], "this search finds one solution: without --all, --limit, --number, --count and --unique"),
+    ("a x y\nb p q\n", ["--least", "--all"], "this search finds one solution: without --all, --limit, --number, --random, --count, --chances and --unique"),
     ("a x y\nb p q\n", ["--least", "--shuffle", "7"], "this search has an order of its own: without --shuffle and --up-to-symmetry"),
     ("3,0,2", ["--tests", "9"], "line 1: 0: neither a number of values nor one with ^ and a number of factors"),
     ("3,2^0", ["--tests", "9"], "line 1: 2^0: neither a number of values nor one with ^ and a number of factors"),

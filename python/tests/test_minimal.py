@@ -48,7 +48,7 @@ class Unique(InFolder):
         page = run("queens", "4", "--unique", "--html")
         self.assertEqual((page[0], '"total":2' in page[1]), (1, True))
         told = run("tests", "2,2", "--least", "--unique")
-        self.assertEqual(told[2], "helgrothy: this search finds one solution: without --all, --limit, --number, --count and --unique\n")
+        self.assertEqual(told[2], "helgrothy: this search finds one solution: without --all, --limit, --number, --random, --count, --chances and --unique\n")
 
 
 class Minimal(InFolder):

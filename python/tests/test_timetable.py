@@ -28,7 +28,7 @@ DAYS = "day,mon,1 2\nday,tue,1\n"
 BAD = (
     ("", "line 1: no line `day,NAME,HOURS`"),
     (DAYS, "line 1: no line `lesson,NAME,PEOPLE` or `exam,NAME,PEOPLE`"),
-    (DAYS + "lessons,maths,ann\n", "line 3: lessons: a line begins with day, room, lesson, exam or person"),
+    (DAYS + "lessons,maths,ann\n", "line 3: lessons: a line begins with day, room, lesson, exam, person, before or same"),
     (DAYS + "\n# no name\nlesson,,ann\n", "line 5: lesson: a name is missing after this"),
     (DAYS + "lesson,maths 1a,ann\n", "line 3: maths 1a: a name has no blank and no : | / @, and begins with no minus"),
     (DAYS + "lesson,maths,ann/bob\n", "line 3: ann/bob: a name has no blank and no : | / @, and begins with no minus"),

@@ -34,6 +34,11 @@ def solutions() -> None:
     for listed in problem.listed(""):
         same: Listed[str] = listed
         one(same)
+    for drawn in (problem.solution(2), problem.random(), problem.random(1, seconds=2.0)):
+        if drawn is not None:
+            one(drawn)
+    times: list[int] = problem.occurrences(jobs=2)
+    times.sort()
     try:
         least: cost.Least[str] | None = cost.least(problem, [1, 2])
         if least is not None:

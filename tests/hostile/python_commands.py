@@ -54,7 +54,7 @@ REWRITTEN = b"\r\x1b[K"
 ELEMENTS = {"svg", "title", "rect", "path", "text", "g"}
 ATTRIBUTES = {
     "width", "height", "viewBox", "font-family", "font-size", "font-weight", "text-anchor", "x", "y", "fill", "d",
-    "stroke", "stroke-width", "stroke-linecap", "stroke-dasharray", "transform",
+    "stroke", "stroke-width", "stroke-linecap", "stroke-dasharray", "transform", "fill-opacity", "stroke-opacity", "paint-order",
 }  # fmt: skip
 
 # Bytes that have a meaning to terminals, browsers, shells, Python or the texts of problems.
@@ -255,7 +255,7 @@ KAKURO = b"# 4\\ 3\\\n\\4 . .\n\\3 . 1\n"
 FACTORS = b"system linux mac\nbrowser firefox chrome\nsize 1 2 3\n"
 CUBES = b"AA .A\nA. ..\n\nBB\nB.\n\nC\n"
 BOX = b".. ..\n.. ..\n"
-LESSONS = b"day,mon,1 2\nday,tue,1\nroom,hall,,-mon-2,3\nroom,lab\nlesson,x,ann bob,lab,,2\nexam,y,cat,-tue\nperson,cat,x,,2\n"
+LESSONS = b"day,mon,1 2\nday,tue,1\nroom,hall,,-mon-2,3\nroom,lab\nlesson,x,ann bob,lab,,2\nexam,y,cat,-tue\nperson,cat,x,,2\nbefore,y,x\nsame,y,z\nexam,z\n"
 TABLES = [ROSTER, TEAMS, GRID, LIST, PIECES, REGION, REGIONS, CLUES, JIGSAW, *CAGES, *NONOGRAM, KAKURO, FACTORS, CUBES, BOX, LESSONS]
 MADE = [
     problem.text.encode()
@@ -270,6 +270,7 @@ MADE = [
         make.roster.problem(ROSTER.decode()),
         make.roundrobin.problem(TEAMS.decode().splitlines()),
         make.words.problem(GRID.decode(), LIST.decode().split()),
+        make.wordsearch.problem("tea cup", "3x4", fill=1),
         make.polyominoes.problem("LL\nL\n\nII\n\nO\n", "...\n...\n"),
         make.tests.problem(FACTORS.decode(), 6),
         make.polycubes.problem(CUBES.decode(), BOX.decode()),
@@ -326,9 +327,9 @@ class Try:
 
     def choice(self):
         rng = self.rng
-        words = rng.choice([[], ["--all"], ["--limit", "3"], ["--number", "2"]])
+        words = rng.choice([[], ["--all"], ["--limit", "3"], ["--number", "2"], ["--random"], ["--chances"]])
         if rng.random() < 0.1:
-            words = [rng.choice(["--number", "--limit", "--seconds", "--shuffle"]), rng.choice(WORDS)]
+            words = [rng.choice(["--number", "--limit", "--seconds", "--shuffle", "--random", "--seed"]), rng.choice(WORDS)]
         if rng.random() < 0.2:
             words = [*words, *rng.choice([["--shuffle", "7"], ["--up-to-symmetry"]])]
         return [*words, *([] if "--seconds" in words else ["--seconds", "5"])]
@@ -378,7 +379,7 @@ class Try:
         if kind == "sudoku":
             words = [rng.choice([CLUES.decode().replace("\n", ""), self.input(changed(rng, CLUES)), *WORDS])]
             if rng.random() < 0.5:
-                words = rng.choice([[], words, ["." * 16]])
+                words = rng.choice([[], words, ["." * 16], ["." * 16, "--diagonals"]])
                 for name, table in (("--regions", JIGSAW), ("--cages", rng.choice(CAGES))):
                     content = changed(rng, table if rng.random() < 0.9 else rng.choice(TABLES))
                     words += rng.choice([[], [f"{name}={self.file(content)}"]])
@@ -388,12 +389,13 @@ class Try:
         if kind == "tests":
             count = rng.choice([["--tests", "6"], ["--tests", "7", "--strength", rng.choice(["1", "3", *WORDS])], ["--tests", rng.choice(WORDS)]])
             return kind, [rng.choice([self.input(changed(rng, FACTORS)), self.input(changed(rng, FACTORS)), "3,2^2", *WORDS]), *count]
-        given = {"words": [GRID, LIST], "polyominoes": [PIECES, REGION], "polycubes": [CUBES, BOX], "roster": [ROSTER],
+        given = {"words": [GRID, LIST], "wordsearch": [LIST, GRID], "polyominoes": [PIECES, REGION], "polycubes": [CUBES, BOX], "roster": [ROSTER],
                  "roundrobin": [TEAMS], "timetable": [LESSONS], "nonogram": [rng.choice(NONOGRAM)], "kakuro": [KAKURO]}[kind]  # fmt: skip
         tables = [self.file(changed(rng, table if rng.random() < 0.9 else rng.choice(TABLES))) for table in given]
         if rng.random() < 0.1:
             tables[-1] = rng.choice(WORDS)
-        more = {"roster": ["--rest"], "roundrobin": ["--double"], "polyominoes": ["--no-turns"], "polycubes": ["--some", "--mirrors"], "timetable": ["--daily", "2"]}.get(kind, [])
+        more = {"roster": ["--rest", "--in-a-row", "1", "--days-off", rng.choice(["1", "2", *WORDS])], "roundrobin": ["--double"], "polyominoes": ["--no-turns", "--some"],
+                "polycubes": ["--some", "--mirrors"], "timetable": ["--daily", "2"], "wordsearch": ["--fill", rng.choice(["1", *WORDS])]}.get(kind, [])  # fmt: skip
         return kind, [*tables, *(more if rng.random() < 0.3 else [])]
 
     def kind(self):
@@ -773,6 +775,9 @@ class Processes:
             "a box": "polyominoes pentominoes 99999x99999",
             "roster": f"roster {self.file('roster', slots + chr(10).encode() + people)}",
             "roster, one day": f"roster {self.file('roster1', b'- d' + chr(10).encode() + b''.join(b's%d 1' % n + chr(10).encode() for n in range(60_000)) + chr(10).encode() + people)}",
+            "roster, in a row": f"roster --in-a-row 5 --days-off 2 {self.file('roster3', slots + chr(10).encode() + people)}",
+            "wordsearch": f"wordsearch {self.file('list3', b'ab' * 12)} 316x316",
+            "wordsearch, more": f"wordsearch {self.file('list4', ' '.join(chr(97 + n % 26) + chr(97 + n // 26 % 26) + chr(97 + n // 676) for n in range(9_000)).encode())} 99x99",
             "roster, rest": f"roster --rest {self.file('roster2', slots + chr(10).encode() + people[:1000])}",
             "roundrobin": f"roundrobin {self.file('teams', b''.join(b't%d' % n + chr(10).encode() for n in range(100_000)))}",
             "roundrobin, 250": f"roundrobin {self.file('teams2', b''.join(b't%d' % n + chr(10).encode() for n in range(250)))}",

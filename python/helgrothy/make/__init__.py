@@ -13,6 +13,7 @@ The kinds; `help(make.sudoku)` says what one takes:
     polyominoes  pieces of squares that fill a region
     polycubes    pieces of cubes that fill a box
     words        words across and down in a grid
+    wordsearch   words hidden in a grid of letters
     nonogram     a nonogram from its clues
     kakuro       a Kakuro from its grid
     roster       shifts of people on days
@@ -41,6 +42,7 @@ if TYPE_CHECKING:
         tests,
         timetable,
         words,
+        wordsearch,
     )
     from .kind import Kind
 
@@ -58,6 +60,7 @@ __all__ = [
     "tests",
     "timetable",
     "words",
+    "wordsearch",
 ]
 _IN_ORDER = (
     "sudoku",
@@ -66,6 +69,7 @@ _IN_ORDER = (
     "polyominoes",
     "polycubes",
     "words",
+    "wordsearch",
     "nonogram",
     "kakuro",
     "roster",

@@ -6,7 +6,7 @@ import argparse
 import itertools
 import re
 from collections import Counter
-from collections.abc import Iterator, Sequence
+from collections.abc import Iterator, Mapping, Sequence
 from dataclasses import dataclass, field
 from typing import Any
 
@@ -60,20 +60,11 @@ def problem(grid: str) -> Problem[list[str]]:
     check_items(len(white))
     runs = list(_runs(rows, marks))
     _check_totals(rows, runs)
-    own: dict[Square, list[_Run]] = {}
-    for run in runs:
-        for at in run.cells:
-            own.setdefault(at, []).append(run)
     _check_given(rows, runs, marks)
     check_items(len(white) + 10 * len(runs))
     options: Counted[list[str]] = Counted()
-    for at in white:
-        for digit in DIGITS if marks[at] in _WHITE else [int(marks[at])]:
-            if all(any(digit in digits for digits in run.sets) for run in own.get(at, ())):
-                options.add([_name(at), *(f"{run.name}={digit}" for run in own.get(at, ()))])
-    for run in runs:
-        for digits in run.sets:
-            options.add([run.name, *(f"{run.name}={digit}" for digit in DIGITS if digit not in digits)])
+    for option in _options(white, marks, runs):
+        options.add(option)
     return Problem(
         [
             *map(_name, white),
@@ -87,6 +78,21 @@ def problem(grid: str) -> Problem[list[str]]:
             *(" ".join(words) for _, words in rows),
         ],
     )
+
+
+def _options(white: Sequence[Square], marks: Mapping[Square, str], runs: Sequence[_Run]) -> Iterator[list[str]]:
+    """A digit in a cell, and the digits that a run doesn't have."""
+    own: dict[Square, list[_Run]] = {}
+    for run in runs:
+        for at in run.cells:
+            own.setdefault(at, []).append(run)
+    for at in white:
+        for digit in DIGITS if marks[at] in _WHITE else [int(marks[at])]:
+            if all(any(digit in digits for digits in run.sets) for run in own.get(at, ())):
+                yield [_name(at), *(f"{run.name}={digit}" for run in own.get(at, ()))]
+    for run in runs:
+        for digits in run.sets:
+            yield [run.name, *(f"{run.name}={digit}" for digit in DIGITS if digit not in digits)]
 
 
 def _name(at: Square) -> str:

@@ -43,6 +43,9 @@ class Kind:
     for so many seconds, or for its own time without a number; None where the arguments don't ask for it.
     wishes: of a kind whose table may have wishes those of a problem, from the table in its comments.
     clues: of a kind whose clues are options what these are, for who makes such puzzles.
+    remarks: what is no fault of a problem that was made, and yet may be meant otherwise.
+    view: from which side the option of a line shows cells, where several options may show one, as a row and a column
+        do; None where pictures of single options say nothing.
     """
 
     name: str
@@ -55,6 +58,8 @@ class Kind:
     cell: str | None = None
     wishes: Callable[[Problem[Any]], list[Wish]] = lambda problem: []
     clues: Callable[[argparse.Namespace], Clues] | None = None
+    remarks: Callable[[Problem[Any]], list[str]] = lambda problem: []
+    view: Callable[[str], str] | None = lambda line: ""
 
 
 def kind_of(comments: Sequence[str]) -> str | None:

@@ -6,6 +6,8 @@ Its lines; last cells that are empty may be left out:
     room,NAME,,PLACES,SEATS
     lesson,NAME,PEOPLE,PLACES,SEATS,TIMES        or exam
     person,NAME,LESSONS,PLACES,LIMIT
+    before,NAME,LESSONS                          NAME is before each of the lessons
+    same,NAME,LESSONS                            NAME is in the same slot as these
 
 Among PLACES may be wishes, `fri=3`.
 """
@@ -33,6 +35,8 @@ _CELLS = {
     "lesson": ("name", "people", "places", "seats", "times"),
     "exam": ("name", "people", "places", "seats", "times"),
     "person": ("name", "lessons", "places", "limit"),
+    "before": ("name", "lessons"),
+    "same": ("name", "lessons"),
 }
 _ARTICLES = {"day": "a day", "hour": "an hour", "slot": "a slot", "room": "a room"}
 _NOT_IN_NAME = re.compile(r"[\s:|/@\0]")
@@ -147,6 +151,23 @@ class Lesson:
         return len(self.people) if self.given_seats is None else self.given_seats
 
 
+@dataclass(frozen=True)
+class Order:
+    """A rule on the slots of lessons: the first one is before each of the others, or all are in the same slot."""
+
+    line: _Line
+    first: Lesson
+    others: list[Lesson]
+
+    @property
+    def is_same(self) -> bool:
+        return self.line.kind == "same"
+
+    @property
+    def lessons(self) -> list[Lesson]:
+        return [self.first, *self.others]
+
+
 class Plan:
     """The table, read and checked: slots, rooms, lessons and people, each in the order of its lines.
 
@@ -180,6 +201,7 @@ class Plan:
             raise TableFault(1, "", "no line `lesson,NAME,PEOPLE` or `exam,NAME,PEOPLE`")
         for line in lines["person"]:
             self._enrol(line)
+        self.orders = [self._order(line) for kind in ("before", "same") for line in lines[kind]]
         many = (len(self.lessons) + len(self.people)) * len(self.slots) * len(self.rooms)
         if many > MOST_USES:
             raise ValueError("the table has too many lessons, people, slots and rooms")
@@ -240,13 +262,26 @@ class Plan:
             lesson.people[name] = person
             person.lessons.append(lesson)
 
+    def _lesson(self, line: _Line, name: str) -> Lesson:
+        if name not in self.lessons:
+            line.refuse(name, "no lesson or exam", self._nearest.question(name, self.lessons))
+        return self.lessons[name]
+
+    def _order(self, line: _Line) -> Order:
+        """The rule of a line `before` or `same`."""
+        order = Order(line, self._lesson(line, line.name), [self._lesson(line, name) for name in line.words("lessons")])
+        if not order.others:
+            line.refuse(line.name, "no lesson or exam behind it")
+        for lesson in order.others:
+            if lesson is order.first:
+                line.refuse(lesson.name, "twice in this line")
+        return order
+
     def _enrol(self, line: _Line) -> None:
         """Adds the lessons of a person's line."""
         person = self.people[line.name]
         for name in line.words("lessons"):
-            lesson = self.lessons.get(name)
-            if lesson is None:
-                line.refuse(name, "no lesson or exam", self._nearest.question(name, self.lessons))
+            lesson = self._lesson(line, name)
             if person.name not in lesson.people:
                 lesson.people[person.name] = person
                 person.lessons.append(lesson)
@@ -281,6 +316,8 @@ def _check(plan: Plan) -> None:
         _check_lesson(plan, lesson)
     for person in plan.people.values():
         _check_person(plan, person)
+    for order in plan.orders:
+        _check_order(order)
     asked = sum(lesson.times for lesson in plan.lessons.values())
     free = sum(room.places.allow(slot, room.name) for slot in plan.slots for room in plan.rooms)
     if plan.has_rooms and asked > free:
@@ -310,6 +347,20 @@ def _check_person(plan: Plan, person: Person) -> None:
         limit = "" if person.daily is None else f", and at most {person.daily} a day"
         slots = _counted(sum(days.values()), "slot")
         person.line.refuse(person.name, f"{_counted(person.asked, person.lessons[0].line.kind)} in {slots}{limit}")
+
+
+def _check_order(order: Order) -> None:
+    """Lessons of one slot are held as often, and share nobody."""
+    if not order.is_same:
+        return
+    seen: dict[str, Lesson] = {}
+    for lesson in order.lessons:
+        if lesson.times > 1:
+            order.line.refuse(lesson.name, f"held {lesson.times} times; a lesson of the same slot is held once")
+        for name in lesson.people:
+            if name in seen:
+                order.line.refuse(name, f"in {seen[name].name} and in {lesson.name}, which can't be in one slot")
+            seen[name] = lesson
 
 
 def _counted(count: int, what: str) -> str:

@@ -327,4 +327,5 @@ def _make(arguments: argparse.Namespace) -> Problem[Option]:
     return problem(read_text(arguments.clues))
 
 
-KIND = Kind("nonogram", "a nonogram from its clues", _add_arguments, _make, drawing)
+# A row shows all of its squares, and so do the columns.
+KIND = Kind("nonogram", "a nonogram from its clues", _add_arguments, _make, drawing, view=lambda line: line[:3])

@@ -4,7 +4,6 @@ from __future__ import annotations
 
 import argparse
 import re
-from collections import Counter
 from collections.abc import Iterator, Sequence
 from typing import Any
 
@@ -12,19 +11,16 @@ from ..draw import Cell, Drawing, Shades
 from ..errors import TableFault
 from ..problem import Problem
 from ..solid import Cube, Solid, check_box
-from ..syntax import MOST_USES
 from ..turns import images
 from .cubes import SETS
 from .kind import Counted, Kind, check_items, is_one, numbered, read_text
+from .pieces import Form, Pieces, alike
 
-Form = frozenset[tuple[int, ...]]
 Lines = list[tuple[int, str]]
 
 _BOX = re.compile(r"([0-9]{1,9})x([0-9]{1,9})x([0-9]{1,9})\Z")
 _SIZES = re.compile(r"[0-9]+(x[0-9]+)*x?\Z")
 _CELL = re.compile(r"l([0-9]+)r([0-9]+)c([0-9]+)\Z")
-# It is looked so often at most whether a cube of a piece lies on a cell.
-_MOST_LOOKS = 10 * MOST_USES
 
 
 def problem(
@@ -42,36 +38,17 @@ def problem(
     An option is a piece with the cells lLrRcC that it fills. Raises `TableFault`.
     """
     cells = _region(box)
-    copies: Counter[str] = Counter()
-    forms: dict[str, Form] = {}
-    lines: dict[str, int] = {}
-    for number, name, form in _pieces(SETS.get(pieces, pieces)):
-        if forms.setdefault(name, form) != form:
-            raise TableFault(number, name, f"the piece of line {lines[name]} has this letter, and is another one")
-        lines.setdefault(name, number)
-        copies[name] += 1
-    if not forms:
-        raise TableFault(1, "", "no piece")
-    _check_volume(sum(len(form) * copies[name] for name, form in forms.items()), len(cells), some)
-    check_items(len(forms) + len(cells))
+    given = Pieces(_pieces(SETS.get(pieces, pieces)))
+    _check_volume(given.volume, len(cells), some)
+    check_items(len(given.forms) + len(cells))
     options: Counted[list[str]] = Counted()
-    looks = 0
-    for name, form in forms.items():
-        before = len(options)
-        # A piece of more cubes than there are cells can't be laid.
-        if len(form) <= len(cells):
-            _check_looks(looks, form, cells)
-            for turned in images(form, mirrors):
-                looks = _check_looks(looks, form, cells)
-                for held in _laid(turned, cells):
-                    options.add([name, *map(_name, held)])
-        if len(options) == before and not some:
-            raise TableFault(lines[name], name, "this piece fits nowhere")
-    used = {name: (0 if some else count, count) for name, count in copies.items()}
-    # What may be left out once is a secondary item.
-    spare = [name for name, bounds in used.items() if bounds == (0, 1)]
+    for name, held in given.laid(cells, lambda form: images(form, mirrors)):
+        options.add([name, *map(_name, held)])
+    if not some:
+        _check_each_fits(given, options)
+    used, spare = given.bounds(some)
     return Problem(
-        {**{name: bounds for name, bounds in used.items() if bounds != (0, 1)}, **{_name(at): (1, 1) for at in cells}},
+        {**used, **{_name(at): (1, 1) for at in cells}},
         spare,
         options,
         comments=[
@@ -82,17 +59,16 @@ def problem(
     )
 
 
-def _check_looks(looks: int, form: Form, cells: Sequence[Cube]) -> int:
-    """How often it was looked whether a cube lies on a cell, once a form more is laid. Raises `ValueError`."""
-    looks += len(form) * len(cells)
-    if looks > _MOST_LOOKS:
-        raise ValueError("the pieces and the region are too large to be laid")
-    return looks
-
-
 def _name(at: Sequence[int]) -> str:
     layer, r, c = at
     return f"l{layer}r{r}c{c}"
+
+
+def _check_each_fits(given: Pieces, options: Sequence[Sequence[str]]) -> None:
+    laid = {option[0] for option in options}
+    for name, line in given.lines.items():
+        if name not in laid:
+            raise TableFault(line, name, "this piece fits nowhere")
 
 
 def _check_volume(cubes: int, cells: int, some: bool) -> None:
@@ -164,16 +140,6 @@ def _cubes(block: Lines) -> Iterator[tuple[int, int, int, str]]:
                 yield layer, r, c, mark
 
 
-def _laid(form: Form, cells: Sequence[Cube]) -> Iterator[list[Cube]]:
-    """The places of a form in the region: each lays its first cube on a cell."""
-    held = set(cells)
-    first, *_ = cubes = sorted(form)
-    for layer, r, c in cells:
-        laid = [(layer + at[0] - first[0], r + at[1] - first[1], c + at[2] - first[2]) for at in cubes]
-        if held.issuperset(laid):
-            yield laid
-
-
 # ---- drawing
 
 
@@ -241,4 +207,6 @@ KIND = Kind(
     _make,
     drawing,
     cell=r"l(\d+)r(\d+)c(\d+)",
+    remarks=lambda problem: alike(problem, _CELL),
+    view=None,
 )

@@ -4,18 +4,16 @@ from __future__ import annotations
 
 import argparse
 import re
-from collections import Counter
 from collections.abc import Iterator, Sequence
 from typing import Any
 
 from ..draw import Cell, Drawing, Picture, Shades, check_size
 from ..errors import TableFault
 from ..problem import Problem
-from ..syntax import MOST_USES
 from .kind import Counted, Kind, check_items, is_one, numbered, picture, read_text
+from .pieces import Form, Place, Pieces, alike
 
 Square = tuple[int, int]
-Form = frozenset[Square]
 
 # Sets of pieces that have a name.
 SETS = {
@@ -27,43 +25,36 @@ SETS = {
 }
 _BOX = re.compile(r"([0-9]{1,9})x([0-9]{1,9})\Z")
 _CELL = re.compile(r"r([0-9]+)c([0-9]+)\Z")
-# It is looked so often at most whether a square of a piece lies on a cell.
-_MOST_LOOKS = 10 * MOST_USES
 
 
 def problem(
-    pieces: str = "pentominoes", region: str = "6x10", *, turns: bool = True, mirrors: bool = True
+    pieces: str = "pentominoes",
+    region: str = "6x10",
+    *,
+    turns: bool = True,
+    mirrors: bool = True,
+    some: bool = False,
 ) -> Problem[list[str]]:
     """A region to be filled by pieces, each used as often as it is given.
 
     pieces: `pentominoes`, `tetrominoes`, or pictures parted by blank lines. A piece's squares are a letter, which is
         its name; dots and blanks are no part of it. A piece given k times is used k times.
     region: `6x10`, or a picture, in which # and blanks are holes and anything else is a cell.
-    turns, mirrors: whether pieces may be turned and mirrored.
+    turns, mirrors: whether pieces may be turned and mirrored. some: whether pieces may be left over.
 
     An option is a piece with the cells rRcC that it fills. Raises `TableFault`.
     """
     cells = _region(region)
+    given = Pieces(_pieces(SETS.get(pieces, pieces)))
+    check_items(len(given.forms) + len(cells))
     options: Counted[list[str]] = Counted()
-    copies: Counter[str] = Counter()
-    forms: dict[str, Form] = {}
-    for number, name, form in _pieces(SETS.get(pieces, pieces)):
-        if forms.setdefault(name, form) != form:
-            raise TableFault(number, name, "another piece has this letter")
-        copies[name] += 1
-    check_items(len(forms) + len(cells))
-    looks = 0
-    for name, form in forms.items():
-        # A piece of more squares than there are cells can't be laid.
-        for turned in _turned(form, turns, mirrors) if len(form) <= len(cells) else ():
-            looks += len(form) * len(cells)
-            if looks > _MOST_LOOKS:
-                raise ValueError("the pieces and the region are too large to be laid")
-            for held in _laid(turned, cells):
-                options.add([name, *(f"r{r}c{c}" for r, c in held)])
+    for name, held in given.laid(cells, lambda form: _turned(form, turns, mirrors)):
+        options.add([name, *(f"r{r}c{c}" for r, c in held)])
+    used, spare = given.bounds(some)
     return Problem(
-        {**dict(copies), **{f"r{r}c{c}": 1 for r, c in cells}},
-        options=options,
+        {**used, **{f"r{r}c{c}": (1, 1) for r, c in cells}},
+        spare,
+        options,
         comments=[
             f"helgrothy make polyominoes {pieces if pieces in SETS else 'PIECES'} REGION",
             "Each piece is laid as often as its bound says, each cell rRcC is filled once. The region:",
@@ -110,7 +101,7 @@ def _pieces(text: str) -> Iterator[tuple[int, str, Form]]:
             block = []
 
 
-def _moved(squares: Sequence[Square]) -> Form:
+def _moved(squares: Sequence[Place]) -> Form:
     """The squares moved to the upper left corner."""
     top, left = min(r for r, _ in squares), min(c for _, c in squares)
     return frozenset((r - top, c - left) for r, c in squares)
@@ -126,17 +117,6 @@ def _turned(form: Form, turns: bool, mirrors: bool) -> list[Form]:
     return sorted(found, key=sorted)
 
 
-def _laid(form: Form, cells: Sequence[Square]) -> Iterator[list[Square]]:
-    """The places of a form in the region: each lays its first square on a cell."""
-    held = set(cells)
-    squares = sorted(form)
-    first = squares[0]
-    for r, c in cells:
-        laid = [(r + down - first[0], c + right - first[1]) for down, right in squares]
-        if held.issuperset(laid):
-            yield laid
-
-
 def drawing(problem: Problem[Any]) -> Drawing:
     """Pieces in their colours, each with its letter."""
     found = map(_CELL.match, problem.item_names)
@@ -144,7 +124,7 @@ def drawing(problem: Problem[Any]) -> Drawing:
     top, left = min(r for r, _ in board), min(c for _, c in board)
     check_size(max(r for r, _ in board) - top + 1, max(c for _, c in board) - left + 1, len(board))
     shades = Shades()
-    for item in problem.item_names:
+    for item in [*problem.item_names, *problem.secondary_names]:
         if not _CELL.match(item):
             shades[item]
 
@@ -180,6 +160,7 @@ def _add_arguments(parser: argparse.ArgumentParser) -> None:
     )
     parser.add_argument("--no-turns", action="store_true", help="pieces may not be turned")
     parser.add_argument("--no-mirrors", action="store_true", help="pieces may not be mirrored")
+    parser.add_argument("--some", action="store_true", help="pieces may be left over")
 
 
 def _make(arguments: argparse.Namespace) -> Problem[list[str]]:
@@ -188,7 +169,17 @@ def _make(arguments: argparse.Namespace) -> Problem[list[str]]:
         pieces = read_text(pieces, "a set of pieces", SETS)
     if not _BOX.match(region):
         region = read_text(region, "ROWSxCOLUMNS")
-    return problem(pieces, region, turns=not arguments.no_turns, mirrors=not arguments.no_mirrors)
+    return problem(
+        pieces, region, turns=not arguments.no_turns, mirrors=not arguments.no_mirrors, some=arguments.some
+    )
 
 
-KIND = Kind("polyominoes", "pieces of squares that fill a region", _add_arguments, _make, drawing, cell=r"r(\d+)c(\d+)")
+KIND = Kind(
+    "polyominoes",
+    "pieces of squares that fill a region",
+    _add_arguments,
+    _make,
+    drawing,
+    cell=r"r(\d+)c(\d+)",
+    remarks=lambda problem: alike(problem, _CELL),
+)

@@ -9,12 +9,14 @@ from dataclasses import dataclass, field
 from typing import Any
 
 from ..amounts import number_of
+from ..console import positive
 from ..draw import Cell, Drawing, Picture, Shades, check_size
 from ..errors import TableFault
 from ..problem import Problem
 from ..syntax import MOST_USES
 from ..wishes import Wish, check
-from .kind import Counted, Kind, numbered, read_text
+from .kind import Counted, Kind, check_items, numbered, read_text
+from .rules import DaysOff, InARow, Rest, Rule
 
 # How many people a shift of a day takes, at least and at most.
 Needs = dict[tuple[str, str], tuple[int, int]]
@@ -34,7 +36,9 @@ class _Person:
     wishes: list[tuple[str, str]] = field(default_factory=list)
 
 
-def problem(table: str, *, rest: bool = False) -> Problem[list[str]]:
+def problem(
+    table: str, *, rest: bool = False, in_a_row: int | None = None, days_off: int | None = None
+) -> Problem[list[str]]:
     """A roster from a table.
 
         -      mon tue wed
@@ -49,38 +53,65 @@ def problem(table: str, *, rest: bool = False) -> Problem[list[str]]:
     shift and how many people it takes on each day, a number or the least and the most. Behind the blank line stand
     the people, each with the number of shifts and what is not for him or her: a day, a shift, or a shift on a day.
     `late=3` is a wish: each late shift of bob's costs 3; a number below 0 is for what is liked. `helgrothy.wishes`
-    reads them from the problem. Lines that begin with # are skipped. Nobody has two shifts on a day. `rest`: nor a
-    shift on the next day that stands higher in the table.
+    reads them from the problem. Lines that begin with # are skipped. Nobody has two shifts on a day.
 
-    An option is a person in a shift: `DAY/SHIFT PERSON PERSON-DAY`. Raises `TableFault`.
+    rest: nor a shift on the next day that stands higher in the table. in_a_row: nobody works more days in a row.
+    days_off: everybody has so many days off together, once at least.
+
+    An option is a person in a shift, `DAY/SHIFT PERSON PERSON-DAY`; with days_off there are also those of `PERSON-off`,
+    the first days that are off together. Raises `TableFault`.
     """
     days, needs, people = _read(table)
-    shifts = list(dict.fromkeys(shift for _, shift in needs))
-    rests = _Rests(days, shifts)
     if len(needs) * len(people) > MOST_USES:
         raise ValueError(f"{len(needs)} shifts of days for {len(people)} people are too many")
+    rules = list(_rules(days, needs, rest, in_a_row, days_off))
     options: Counted[list[str]] = Counted()
-    secondary: dict[str, None] = {}
+    bounds: dict[str, tuple[int, int]] = {}
     for person in people:
-        for day, shift in _free(person, needs):
-            once = [f"{person.name}-{day}", *(rests.items(person.name, day, shift) if rest else [])]
-            secondary.update(dict.fromkeys(once))
-            options.add([f"{day}/{shift}", person.name, *once])
-    made = Problem(
-        {
-            **{f"{day}/{shift}": bounds for (day, shift), bounds in needs.items() if bounds[1]},
-            **{person.name: person.bounds for person in people},
-        },
-        secondary,
-        options,
-        comments=[
-            f"helgrothy make roster{' --rest' if rest else ''} TABLE",
-            "A person in a shift DAY/SHIFT, at most once a day (PERSON-DAY). The table:",
-            *(line for _, line in numbered(table)),
-        ],
-    )
+        for option in _options_of(person, needs, rules):
+            options.add(option)
+        for rule in rules:
+            bounds.update(rule.bounds(person.name))
+        check_items(len(bounds))
+    primary = {
+        **{f"{day}/{shift}": need for (day, shift), need in needs.items() if need[1]},
+        **{person.name: person.bounds for person in people},
+        **bounds,
+    }
+    secondary = dict.fromkeys(item for option in options for item in option if item not in primary)
+    limits = {"--in-a-row": in_a_row, "--days-off": days_off}
+    words = ["--rest"] * rest + [f"{word} {limit}" for word, limit in limits.items() if limit is not None]
+    made = Problem(primary, secondary, options, comments=list(_comments(words, table)))
     check(wishes(made), "no shift of this person is one of these")
     return made
+
+
+def _rules(
+    days: Sequence[str], needs: Needs, rest: bool, in_a_row: int | None, days_off: int | None
+) -> Iterator[Rule]:
+    if rest:
+        yield Rest(days, list(dict.fromkeys(shift for _, shift in needs)))
+    if in_a_row is not None:
+        yield InARow(days, in_a_row)
+    if days_off is not None:
+        if days_off > len(set(days)):
+            raise TableFault(1, "", f"{len(set(days))} days, of which {days_off} together are to be off")
+        yield DaysOff(days, days_off)
+
+
+def _options_of(person: _Person, needs: Needs, rules: Sequence[Rule]) -> Iterator[list[str]]:
+    for day, shift in _free(person, needs):
+        held = [item for rule in rules for item in rule.held(person.name, day, shift)]
+        yield [f"{day}/{shift}", person.name, f"{person.name}-{day}", *held]
+    for rule in rules:
+        yield from rule.options(person.name)
+
+
+def _comments(words: Sequence[str], table: str) -> Iterator[str]:
+    """What was asked for, what the options are, and the table, from `_TABLE_AT` on."""
+    yield " ".join(["helgrothy make roster", *words, "TABLE"])
+    yield "A person in a shift DAY/SHIFT, at most once a day (PERSON-DAY). The table:"
+    yield from (line for _, line in numbered(table))
 
 
 def wishes(problem: Problem[Any]) -> list[Wish]:
@@ -90,6 +121,8 @@ def wishes(problem: Problem[Any]) -> list[Wish]:
     if any(person.wishes for person in people):
         for place, option in enumerate(problem.options):
             slot, name = problem.line(option).split()[:2]
+            if "/" not in slot:
+                continue
             own.setdefault(name, []).append((place, {slot, *slot.split("/")}))
     return [
         Wish(
@@ -102,24 +135,6 @@ def wishes(problem: Problem[Any]) -> list[Wish]:
         for person in people
         for what, number in person.wishes
     ]
-
-
-class _Rests:
-    """Items that a shift and a higher one on the next day have in common: the lines of the table between them."""
-
-    def __init__(self, days: Sequence[str], shifts: Sequence[str]) -> None:
-        self._days = days
-        self._shifts = shifts
-        # Of equal days the first one counts.
-        self._day = {day: at for at, day in reversed(list(enumerate(days)))}
-        self._shift = {shift: place for place, shift in enumerate(shifts)}
-
-    def items(self, name: str, day: str, shift: str) -> list[str]:
-        days, shifts = self._days, self._shifts
-        at, place = self._day[day], self._shift[shift]
-        after = [f"{name}-{day}>{line}" for line in shifts[:place]] if at + 1 < len(days) else []
-        before = [f"{name}-{days[at - 1]}>{line}" for line in shifts[place : len(shifts) - 1]] if at else []
-        return after + before
 
 
 def _free(person: _Person, needs: Needs) -> Iterator[tuple[str, str]]:
@@ -179,7 +194,9 @@ def drawing(problem: Problem[Any]) -> Drawing:
     """A table of people and days."""
     slots = [item for item in problem.item_names if "/" in item]
     days = list(dict.fromkeys(slot.split("/")[0] for slot in slots))
-    people = [item for item in problem.item_names if "/" not in item]
+    # Behind the people are the items of rules.
+    _, _, known = _read("\n".join(problem.comments[_TABLE_AT:]))
+    people = [item for item in problem.item_names if "/" not in item][: len(known)]
     check_size(len(people), len(days), len(problem.options))
     row, column = ({name: number for number, name in enumerate(names)} for names in (people, days))
     shades = Shades()
@@ -190,8 +207,9 @@ def drawing(problem: Problem[Any]) -> Drawing:
         cells = {(r, c): Cell() for r in range(len(people)) for c in range(len(days))}
         for line in lines:
             slot, person = line.split()[:2]
-            day, shift = slot.split("/")
-            cells[row[person], column[day]] = Cell(shift, fill=shades[shift])
+            day, sign, shift = slot.partition("/")
+            if sign:
+                cells[row[person], column[day]] = Cell(shift, fill=shades[shift])
         return Picture("a roster", cells, people, days)
 
     return draw
@@ -206,10 +224,16 @@ def _add_arguments(parser: argparse.ArgumentParser) -> None:
         "it (DAY=3, SHIFT=3, DAY/SHIFT=3)",
     )
     parser.add_argument("--rest", action="store_true", help="no shift on the next day that stands higher in the table")
+    parser.add_argument("--in-a-row", type=positive, metavar="N", help="nobody works more than N days in a row")
+    parser.add_argument(
+        "--days-off", type=positive, metavar="N", help="everybody has N days off together, once at least"
+    )
 
 
 def _make(arguments: argparse.Namespace) -> Problem[list[str]]:
-    return problem(read_text(arguments.table), rest=arguments.rest)
+    return problem(
+        read_text(arguments.table), rest=arguments.rest, in_a_row=arguments.in_a_row, days_off=arguments.days_off
+    )
 
 
 KIND = Kind("roster", "shifts of people on days", _add_arguments, _make, drawing, wishes=wishes)

@@ -33,15 +33,7 @@ def problem(teams: Iterable[str], *, double: bool = False) -> Problem[list[str]]
     rounds = (len(names) - 1 + len(names) % 2) * (2 if double else 1)
     pairs = len(names) * (len(names) - 1)
     check_items((pairs if double else pairs // 2) + len(names) * rounds)
-    place: dict[str, int] = {}
-    for number, name in enumerate(names):
-        place.setdefault(name, number)
-    games = {
-        (home, away): f"{home}-{away}" if double or place[home] < place[away] else f"{away}-{home}"
-        for home in names
-        for away in names
-        if home != away
-    }
+    games = _games(names, double)
     options: Counted[list[str]] = Counted()
     for (home, away), pair in games.items():
         for number in range(1, rounds + 1):
@@ -51,12 +43,9 @@ def problem(teams: Iterable[str], *, double: bool = False) -> Problem[list[str]]
     played = [f"{name}@{number}" for number in range(1, rounds + 1) for name in names]
     is_even = len(names) % 2 == 0
     least = (len(names) - 1) // 2
-    items: dict[str, tuple[int, int]] = {
-        **{item: (1, 1) for item in (*games.values(), *(played if is_even else ()))},
-        **({} if double else {f"home={name}": (least, len(names) - 1 - least) for name in names}),
-    }
+    at_home = {} if double else {f"home={name}": (least, len(names) - 1 - least) for name in names}
     return Problem(
-        items,
+        {**dict.fromkeys((*games.values(), *(played if is_even else ())), (1, 1)), **at_home},
         [item for item in played if not is_even],
         options,
         comments=[
@@ -65,6 +54,18 @@ def problem(teams: Iterable[str], *, double: bool = False) -> Problem[list[str]]
             *(" ".join([name, *(f"{where}:{at}" for at, where in own.items())]) for name, own in wishes),
         ],
     )
+
+
+def _games(names: Sequence[str], double: bool) -> dict[tuple[str, str], str]:
+    """The games by who is at home and who away, and the name of each: that of both unless they meet twice."""
+    # Of equal names the first one counts.
+    place = {name: number for number, name in reversed(list(enumerate(names)))}
+    return {
+        (home, away): f"{home}-{away}" if double or place[home] < place[away] else f"{away}-{home}"
+        for home in names
+        for away in names
+        if home != away
+    }
 
 
 def _wishes(number: int, words: Sequence[str]) -> tuple[str, dict[int, str]]:
@@ -121,4 +122,4 @@ def _make(arguments: argparse.Namespace) -> Problem[list[str]]:
     return problem((line for _, line in numbered(read_text(arguments.teams))), double=arguments.double)
 
 
-KIND = Kind("roundrobin", "a round robin at home and away", _add_arguments, _make, drawing)
+KIND = Kind("roundrobin", "a round robin at home and away", _add_arguments, _make, drawing, view=None)

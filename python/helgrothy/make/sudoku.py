@@ -1,4 +1,4 @@
-"""Sudokus of 4 to 25 rows: of boxes, of other regions (jigsaws), with cages that have sums (killers), or of both."""
+"""Sudokus of 4 to 25 rows: of boxes or other regions (jigsaws), with cages that have sums (killers), with diagonals."""
 
 from __future__ import annotations
 
@@ -8,6 +8,7 @@ import os
 import re
 from collections import Counter
 from collections.abc import Iterator, Sequence
+from dataclasses import dataclass
 from typing import Any
 
 from ..draw import Cell, Drawing, Picture
@@ -24,9 +25,42 @@ _EMPTY = ".0_*"
 _PLACE = re.compile(r"r(\d+)c(\d+)\Z")
 _DIGIT = re.compile(r"r\d+=(.)\Z")
 _CAGE = re.compile(r"(k\d+)(?:=(.))?\Z")
+_CROSSED = re.compile(r"x[12]=")
+_ON_DIAGONAL = "#eceadf"
 
 
-def problem(clues: str = "", *, regions: str | None = None, cages: str | None = None) -> Problem[list[str]]:
+@dataclass(frozen=True)
+class _Board:
+    """What is given: the marks of the places, row by row, or none; the size; the region of each place, and whether
+    these are of a picture; cages; and whether each diagonal has each digit."""
+
+    marks: str
+    size: int
+    region: dict[Square, str]
+    has_regions: bool
+    cages: list[Cage]
+    has_diagonals: bool
+
+    @property
+    def digits(self) -> str:
+        return _DIGITS[: self.size]
+
+    def places(self) -> Iterator[tuple[Square, str]]:
+        """Each place with its mark."""
+        squares = ((r, c) for r in range(self.size) for c in range(self.size))
+        return zip(squares, self.marks or "." * self.size**2)
+
+    def diagonals(self, place: Square) -> list[str]:
+        """The diagonals on which a place is: x1 from the upper left, x2 from the upper right."""
+        r, c = place
+        if not self.has_diagonals:
+            return []
+        return ["x1"] * (r == c) + ["x2"] * (r + c == self.size - 1)
+
+
+def problem(
+    clues: str = "", *, regions: str | None = None, cages: str | None = None, diagonals: bool = False
+) -> Problem[list[str]]:
     """The Sudoku of these clues: 81 characters row by row, a dot or 0 for an empty place. Another one of 4 to 25 rows
     has as many characters as places; its digits go on after 9 with A, B, .. White space counts for nothing.
 
@@ -34,56 +68,64 @@ def problem(clues: str = "", *, regions: str | None = None, cages: str | None = 
         there are rows.
     cages: sums of places with different digits: a line for each cage, `12 r1c1 r1c2`, or a picture with the letter of
         its cage in each place, a blank line, and the sums, `a=12 b=7`.
+    diagonals: whether each of the two long diagonals has each digit.
 
     With regions or cages there may be no clues. To write digit d in row r and column c is the option
     `rRcC r=d c=d b=d`, with an item for the place and for the digit in its row, column and box or region. A place with
     a clue has one option. A place in cage 3 has `k3=d` too, and the cage takes the digits that aren't in it,
-    `k3 k3=1 ..`. Raises `TableFault`.
+    `k3 k3=1 ..`. A place on a diagonal has `x1=d` or `x2=d`, or both. Raises `TableFault`.
     """
+    board = _board(clues, regions, cages, diagonals)
+    digits = board.digits
+    sets = [list(_sets(cage, digits)) for cage in board.cages]
+    options: Counted[list[str]] = Counted()
+    for option in _writings(board, sets):
+        options.add(option)
+    for cage, found in enumerate(sets, 1):
+        for held_digits in found:
+            options.add([f"k{cage}", *(f"k{cage}={digit}" for digit in digits if digit not in held_digits)])
+    return Problem(list(_items(board)), options=options, comments=list(_comments(board)))
+
+
+def _board(clues: str, regions: str | None, cages: str | None, diagonals: bool) -> _Board:
+    """What is given, read and checked. Raises `TableFault`."""
     marks = _marks(clues)
     _check_rows(clues)
-    own_region = None if regions is None else areas.regions(regions)
-    size = _size(marks, own_region)
+    region = None if regions is None else areas.regions(regions)
+    size = _size(marks, region)
     own_cages: list[Cage] = []
     if cages is not None:
         own_cages, size = areas.cages(cages, size)
     if marks and len(marks) != size * size:
         raise TableFault(1, "", f"the regions have {size} rows, so there are {size * size} places, not {len(marks)}")
-    if own_region is None:
-        own_region = _boxes(size)
-    digits = _DIGITS[:size]
-    _check(clues, digits)
-    caged = {cell: number for number, cage in enumerate(own_cages, 1) for cell in cage.cells}
+    board = _Board(marks, size, region or _boxes(size), region is not None, own_cages, diagonals)
+    _check(clues, board.digits)
     _check_sets(own_cages, size)
-    sets = [list(_sets(cage, digits)) for cage in own_cages]
-    may: list[frozenset[str]] = [frozenset(digit for one in found for digit in one) for found in sets]
-    places = [(r, c) for r in range(size) for c in range(size)]
-    options: Counted[list[str]] = Counted()
-    for place, mark in zip(places, marks or "." * len(places)):
+    return board
+
+
+def _writings(board: _Board, sets: Sequence[Sequence[frozenset[str]]]) -> Iterator[list[str]]:
+    """The options that write a digit; in a cage those of its sets of digits."""
+    caged = {cell: number for number, cage in enumerate(board.cages, 1) for cell in cage.cells}
+    may = [{digit for one in found for digit in one} for found in sets]
+    for place, mark in board.places():
         cage = caged.get(place)
-        for digit in digits if mark in _EMPTY else mark.upper():
+        for digit in board.digits if mark in _EMPTY else mark.upper():
             if cage is None or digit in may[cage - 1]:
                 held = [] if cage is None else [f"k{cage}={digit}"]
-                options.add([*_uses(place, own_region[place], digit), *held])
-    for cage, found in enumerate(sets, 1):
-        for held_digits in found:
-            options.add([f"k{cage}", *(f"k{cage}={digit}" for digit in digits if digit not in held_digits)])
-    named = list(dict.fromkeys(own_region.values()))
-    items = [
-        item
-        for x in range(size)
-        for y in range(size)
-        for item in (
-            f"r{x + 1}c{y + 1}",
-            *(f"{line}{x + 1}={digits[y]}" for line in "rc"),
-            f"b{named[x]}={digits[y]}",
-        )
-    ]
-    return Problem(
-        items + [item for k in range(1, len(sets) + 1) for item in (f"k{k}", *(f"k{k}={digit}" for digit in digits))],
-        options=options,
-        comments=list(_comments(marks, None if regions is None else own_region, own_cages, size)),
-    )
+                crossed = [f"{diagonal}={digit}" for diagonal in board.diagonals(place)]
+                yield [*_uses(place, board.region[place], digit), *held, *crossed]
+
+
+def _items(board: _Board) -> Iterator[str]:
+    digits, named = board.digits, list(dict.fromkeys(board.region.values()))
+    for x in range(board.size):
+        for y, digit in enumerate(digits):
+            yield from (f"r{x + 1}c{y + 1}", f"r{x + 1}={digit}", f"c{x + 1}={digit}", f"b{named[x]}={digit}")
+    for cage in range(1, len(board.cages) + 1):
+        yield from (f"k{cage}", *(f"k{cage}={digit}" for digit in digits))
+    if board.has_diagonals:
+        yield from (f"{diagonal}={digit}" for diagonal in ("x1", "x2") for digit in digits)
 
 
 def _uses(place: Square, region: str, digit: str) -> list[str]:
@@ -91,19 +133,20 @@ def _uses(place: Square, region: str, digit: str) -> list[str]:
     return [f"r{r + 1}c{c + 1}", f"r{r + 1}={digit}", f"c{c + 1}={digit}", f"b{region}={digit}"]
 
 
-def _comments(
-    marks: str, regions: dict[Square, str] | None, cages: Sequence[Cage], size: int
-) -> Iterator[str]:
-    told = "".join("." if mark in _EMPTY else mark for mark in marks)
-    words = ["--regions REGIONS"] * (regions is not None) + ["--cages CAGES"] * bool(cages)
+def _comments(board: _Board) -> Iterator[str]:
+    told = "".join("." if mark in _EMPTY else mark for mark in board.marks)
+    words = ["--regions REGIONS"] * board.has_regions + ["--cages CAGES"] * bool(board.cages)
+    words += ["--diagonals"] * board.has_diagonals
     yield " ".join(["helgrothy make sudoku", *([told] if told else []), *words])
     yield "A digit in each place rRcC, and each digit once in each row r, column c and box b."
-    if regions is not None:
+    if board.has_diagonals:
+        yield "Each digit is once on each of the long diagonals x1 and x2 too."
+    if board.has_regions:
         yield "The regions, whose letters are those of the boxes b:"
-        yield from ("".join(regions[r, c] for c in range(size)) for r in range(size))
-    if cages:
+        yield from ("".join(board.region[r, c] for c in range(board.size)) for r in range(board.size))
+    if board.cages:
         yield "A cage k takes the digits that its places don't have. The cages:"
-        for number, cage in enumerate(cages, 1):
+        for number, cage in enumerate(board.cages, 1):
             yield " ".join([f"k{number}: {cage.total}", *(f"r{r + 1}c{c + 1}" for r, c in cage.cells)])
 
 
@@ -184,34 +227,11 @@ def _sets(cage: Cage, digits: str) -> Iterator[frozenset[str]]:
 
 
 def drawing(problem: Problem[Any]) -> Drawing:
-    """Boxes or regions with digits, clues in bold; cages with their sums in the SVG."""
-    times: Counter[Square] = Counter()
-    boxes: dict[Square, str] = {}
-    clues: dict[Square, str] = {}
-    cages: dict[Square, str] = {}
-    sums: dict[str, int] = {}
-    digits = frozenset(name[3:] for name in problem.item_names if name.startswith("r1="))
-    for option in problem.options:
-        line = problem.line(option)
-        cage = _CAGE.match(line.split(" ", 1)[0])
-        if cage is not None:
-            sums[cage.group(1)] = _sum(line, digits)
-            continue
-        place, digit, box = _cut(line)
-        times[place] += 1
-        boxes[place] = box
-        clues[place] = digit
-        cages.update((place, found.group(1)) for found in map(_CAGE.match, line.split()) if found)
-    first = {name: min(place for place, own in cages.items() if own == name) for name in set(cages.values())}
-
-    def cell(place: Square) -> Cell:
-        name = cages.get(place)
-        is_clue = times[place] == 1
-        told = str(sums[name]) if name in sums and name is not None and first[name] == place else ""
-        return Cell(clues[place] if is_clue else "", boxes[place], is_strong=is_clue, corner=told, cage=name)
+    """Boxes or regions with digits, clues in bold; cages with their sums, and diagonals, in the SVG."""
+    printed = _Printed(problem)
 
     def draw(lines: Sequence[str]) -> Picture:
-        cells = {place: cell(place) for place in boxes}
+        cells = {place: printed.cell(place) for place in printed.boxes}
         for line in lines:
             if _CAGE.match(line.split(" ", 1)[0]) is None:
                 place, digit, _ = _cut(line)
@@ -219,6 +239,51 @@ def drawing(problem: Problem[Any]) -> Drawing:
         return Picture("a Sudoku", cells, has_boxes=True)
 
     return draw
+
+
+class _Printed:
+    """The board as it is printed: the box of each place, clues, cages with their sums, and diagonals."""
+
+    def __init__(self, problem: Problem[Any]) -> None:
+        self.boxes: dict[Square, str] = {}
+        self._times: Counter[Square] = Counter()
+        self._clues: dict[Square, str] = {}
+        self._cages: dict[Square, str] = {}
+        self._crossed: set[Square] = set()
+        self._sums: dict[str, int] = {}
+        digits = frozenset(name[3:] for name in problem.item_names if name.startswith("r1="))
+        for option in problem.options:
+            line = problem.line(option)
+            cage = _CAGE.match(line.split(" ", 1)[0])
+            if cage is not None:
+                self._sums[cage.group(1)] = _sum(line, digits)
+            else:
+                self._take(line)
+        own = self._cages
+        self._first = {name: min(place for place in own if own[place] == name) for name in set(own.values())}
+
+    def _take(self, line: str) -> None:
+        place, digit, box = _cut(line)
+        self._times[place] += 1
+        self.boxes[place] = box
+        self._clues[place] = digit
+        self._cages.update((place, found.group(1)) for found in map(_CAGE.match, line.split()) if found)
+        if any(map(_CROSSED.match, line.split())):
+            self._crossed.add(place)
+
+    def cell(self, place: Square) -> Cell:
+        """A place with its clue, if it has one."""
+        cage = self._cages.get(place)
+        is_clue = self._times[place] == 1
+        told = str(self._sums[cage]) if cage in self._sums and self._first[cage] == place else ""
+        return Cell(
+            self._clues[place] if is_clue else "",
+            self.boxes[place],
+            _ON_DIAGONAL if place in self._crossed else "#fff",
+            is_strong=is_clue,
+            corner=told,
+            cage=cage,
+        )
 
 
 def _sum(line: str, digits: frozenset[str]) -> int:
@@ -254,6 +319,7 @@ def _add_arguments(parser: argparse.ArgumentParser) -> None:
         help="a file with a line for each cage, its sum and its places (12 r1c1 r1c2); or with a picture, a letter for "
         "each place, and after a blank line the sums (a=12 b=7)",
     )
+    parser.add_argument("--diagonals", action="store_true", help="each of the two long diagonals has each digit too")
 
 
 def _texts(arguments: argparse.Namespace) -> tuple[str, str | None, str | None]:
@@ -268,14 +334,14 @@ def _texts(arguments: argparse.Namespace) -> tuple[str, str | None, str | None]:
 
 def _make(arguments: argparse.Namespace) -> Problem[list[str]]:
     clues, regions, cages = _texts(arguments)
-    return problem(clues, regions=regions, cages=cages)
+    return problem(clues, regions=regions, cages=cages, diagonals=arguments.diagonals)
 
 
 def _clues(arguments: argparse.Namespace) -> Clues:
     text, regions, cages = _texts(arguments)
     marks = _marks(text)
-    problem(text, regions=regions, cages=cages)
-    empty = problem("." * len(marks), regions=regions, cages=cages)
+    problem(text, regions=regions, cages=cages, diagonals=arguments.diagonals)
+    empty = problem("." * len(marks), regions=regions, cages=cages, diagonals=arguments.diagonals)
     lines = [empty.line(option) for option in empty.options]
     cells = {place: _cut(line) for place, line in enumerate(lines) if _CAGE.match(line.split(" ", 1)[0]) is None}
     size = 1 + max(r for (r, _), _, _ in cells.values())

@@ -128,4 +128,5 @@ KIND = Kind(
     drawing,
     add_search_arguments=_add_search_arguments,
     search=_search,
+    view=None,
 )

@@ -3,8 +3,8 @@
 from __future__ import annotations
 
 import argparse
-from collections.abc import Sequence
-from typing import Any
+from collections.abc import Iterable, Sequence
+from typing import Any, Optional
 
 from ..amounts import number_of
 from ..console import positive
@@ -12,13 +12,17 @@ from ..draw import Cell, Drawing, Picture, Shades, check_size
 from ..problem import Problem
 from ..wishes import Wish, check
 from .kind import Counted, Kind, check_items, numbered, read_text
-from .lessons import Lesson, Plan, Slot
+from .lessons import Lesson, Order, Plan, Room, Slot
+
+# Items with their colours, or None.
+Option = dict[str, Optional[str]]
 
 # Where the table begins in the comments of a problem.
 _TABLE_AT = 2
+_EARLIER, _LATER = "a", "b"
 
 
-def problem(table: str, *, daily: int | None = None) -> Problem[list[str]]:
+def problem(table: str, *, daily: int | None = None) -> Problem[Option]:
     """A timetable from a table.
 
         day,mon,1 2
@@ -28,9 +32,12 @@ def problem(table: str, *, daily: int | None = None) -> Problem[list[str]]:
         lesson,maths,ann 1a,,24
         lesson,physics,bob 1a,lab,,2
         person,bob,,-tue
+        before,maths,physics
 
     A line is `day,NAME,HOURS`, or `room,NAME,,PLACES,SEATS`, or `lesson,NAME,PEOPLE,PLACES,SEATS,TIMES`, or the same
-    with `exam`, or `person,NAME,LESSONS,PLACES,LIMIT`. Lines that begin with # are skipped.
+    with `exam`, or `person,NAME,LESSONS,PLACES,LIMIT`, or `before,NAME,LESSONS`: the first lesson is in an earlier slot
+    than each of the others, in the order of the table, or `same,NAME,LESSONS`: all are in the same slot. Lines that
+    begin with # are skipped.
 
     PLACES are words: days, hours, slots such as mon-1, and rooms. Of the words of one kind any will do, and what a
         minus bars is left out. `fri=3` is a wish: each lesson there (of this room, or of this person) costs 3.
@@ -40,19 +47,18 @@ def problem(table: str, *, daily: int | None = None) -> Problem[list[str]]:
         him or her.
     daily: the limit of people without one of their own.
 
-    An option is a lesson in a slot and a room, `maths mon-1/hall ann@mon-1 1a@mon-1`. Raises `TableFault`.
+    An option is a lesson in a slot and a room, `maths mon-1/hall ann@mon-1 1a@mon-1`. Of lessons one before another the
+    first has items `before1@@SLOT` up to its slot, of one colour, and the others those from theirs on, of another one;
+    of those of the same slot each has this as the colour of an item. Raises `TableFault`.
     """
     plan = Plan(table, daily)
-    limits = _Limits(plan)
-    options: Counted[list[str]] = Counted()
+    limits, orders = _Limits(plan), _Orders(plan)
+    options: Counted[Option] = Counted()
     for lesson in plan.lessons.values():
         for slot, room in plan.places_of(lesson):
-            place = [f"{slot.name}/{room.name}"] if plan.has_rooms else []
-            # Where neither a room nor a person is twice in a slot, a lesson is.
-            if not place or lesson.times > 1 and not lesson.people:
-                place.append(f"{lesson.name}@{slot.name}")
-            people = [f"{name}@{slot.name}" for name in lesson.people]
-            options.add([lesson.name, *place, *people, *limits.items(lesson, slot)])
+            held = [lesson.name, *_place(plan, lesson, slot, room), *(f"{name}@{slot.name}" for name in lesson.people)]
+            held += limits.items(lesson, slot)
+            options.add({**dict.fromkeys(held), **orders.colours(lesson, slot)})
     primary = {
         **{name: (lesson.times, lesson.times) for name, lesson in plan.lessons.items()},
         **{name: (0, most) for name, most in limits.bounds.items() if most > 1},
@@ -71,6 +77,15 @@ def problem(table: str, *, daily: int | None = None) -> Problem[list[str]]:
     )
     check(_wishes(made, plan), "no lesson or exam can be there")
     return made
+
+
+def _place(plan: Plan, lesson: Lesson, slot: Slot, room: Room) -> list[str]:
+    """The items that a lesson takes in a slot."""
+    place = [f"{slot.name}/{room.name}"] if plan.has_rooms else []
+    # Where neither a room nor a person is twice in a slot, a lesson is.
+    if not place or lesson.times > 1 and not lesson.people:
+        place.append(f"{lesson.name}@{slot.name}")
+    return place
 
 
 def wishes(problem: Problem[Any]) -> list[Wish]:
@@ -132,42 +147,74 @@ class _Limits:
         return [name for name in names if name in self.bounds]
 
 
+class _Orders:
+    """What says that lessons are one before another, or in the same slot."""
+
+    def __init__(self, plan: Plan) -> None:
+        self._slots = [slot.name for slot in plan.slots]
+        self._orders: dict[str, list[tuple[str, Order]]] = {}
+        for number, order in enumerate(plan.orders, 1):
+            for lesson in order.lessons:
+                # No other name has two of these signs.
+                self._orders.setdefault(lesson.name, []).append((f"{order.line.kind}{number}@@", order))
+
+    def colours(self, lesson: Lesson, slot: Slot) -> Option:
+        """The items of a lesson in a slot, with their colours."""
+        at = self._slots.index(slot.name)
+        found: Option = {}
+        for stem, order in self._orders.get(lesson.name, []):
+            if order.is_same:
+                found[stem] = str(at + 1)
+            elif lesson is order.first:
+                found.update(dict.fromkeys((f"{stem}{name}" for name in self._slots[: at + 1]), _EARLIER))
+            else:
+                found.update(dict.fromkeys((f"{stem}{name}" for name in self._slots[at:]), _LATER))
+        return found
+
+
 def drawing(problem: Problem[Any]) -> Drawing:
     """A table of slots and rooms; without rooms one of hours and days."""
-    plan = Plan("\n".join(problem.comments[_TABLE_AT:]))
-    if plan.has_rooms:
-        heads, columns = [slot.name for slot in plan.slots], [room.name for room in plan.rooms]
-    else:
-        heads = list(dict.fromkeys(slot.hour for slot in plan.slots))
-        columns = list(dict.fromkeys(slot.day for slot in plan.slots))
-    check_size(len(heads), len(columns), len(problem.options))
-    row, column = ({name: place for place, name in enumerate(names)} for names in (heads, columns))
-    slots = {slot.name: slot for slot in plan.slots}
+    grid = _Grid(Plan("\n".join(problem.comments[_TABLE_AT:])))
+    check_size(len(grid.rows), len(grid.columns), len(problem.options))
     shades = Shades()
 
-    def place(word: str) -> tuple[int, int]:
-        name, sign, room = word.partition("/")
-        if sign:
-            return row[name], column[room]
-        slot = slots[name.rpartition("@")[2]]
-        return row[slot.hour], column[slot.day]
-
-    empty = (
-        [(r, c) for r in row.values() for c in column.values()]
-        if plan.has_rooms
-        else [(row[slot.hour], column[slot.day]) for slot in plan.slots]
-    )
-
     def draw(lines: Sequence[str]) -> Picture:
-        cells = {at: Cell() for at in empty}
+        cells = {at: Cell() for at in grid.places}
         for line in lines:
             name, word, *_ = line.split()
-            cell = cells[place(word)]
+            cell = cells[grid.place(word)]
             cell.label = f"{cell.label} {name}" if cell.label else name
             cell.fill = shades[name]
-        return Picture("a timetable", cells, heads if any(heads) else (), columns)
+        return Picture("a timetable", cells, list(grid.rows) if any(grid.rows) else (), list(grid.columns))
 
     return draw
+
+
+class _Grid:
+    """The names of the rows and columns with their numbers, and the places that there are."""
+
+    def __init__(self, plan: Plan) -> None:
+        self._slots = {slot.name: slot for slot in plan.slots}
+        if plan.has_rooms:
+            self.rows = _numbered(slot.name for slot in plan.slots)
+            self.columns = _numbered(room.name for room in plan.rooms)
+            self.places = [(r, c) for r in self.rows.values() for c in self.columns.values()]
+        else:
+            self.rows = _numbered(slot.hour for slot in plan.slots)
+            self.columns = _numbered(slot.day for slot in plan.slots)
+            self.places = [(self.rows[slot.hour], self.columns[slot.day]) for slot in plan.slots]
+
+    def place(self, word: str) -> tuple[int, int]:
+        """That of an item SLOT/ROOM, or NAME@SLOT where there are no rooms."""
+        name, sign, room = word.partition("/")
+        if sign:
+            return self.rows[name], self.columns[room]
+        slot = self._slots[name.rpartition("@")[2]]
+        return self.rows[slot.hour], self.columns[slot.day]
+
+
+def _numbered(names: Iterable[str]) -> dict[str, int]:
+    return {name: number for number, name in enumerate(dict.fromkeys(names))}
 
 
 def _add_arguments(parser: argparse.ArgumentParser) -> None:
@@ -176,12 +223,13 @@ def _add_arguments(parser: argparse.ArgumentParser) -> None:
         metavar="TABLE",
         help="a file of CSV, with lines day,NAME,HOURS and room,NAME,,PLACES,SEATS and "
         "lesson,NAME,PEOPLE,PLACES,SEATS,TIMES and person,NAME,LESSONS,PLACES,LIMIT; a place is a day, an hour, a "
-        "slot DAY-HOUR or a room, a minus bars one, and DAY=3 is what it costs there",
+        "slot DAY-HOUR or a room, a minus bars one, and DAY=3 is what it costs there; before,NAME,LESSONS and "
+        "same,NAME,LESSONS are rules on their slots",
     )
     parser.add_argument("--daily", type=positive, metavar="N", help="nobody has more than N lessons a day")
 
 
-def _make(arguments: argparse.Namespace) -> Problem[list[str]]:
+def _make(arguments: argparse.Namespace) -> Problem[Option]:
     return problem(read_text(arguments.table), daily=arguments.daily)
 
 

@@ -134,4 +134,12 @@ def _make(arguments: argparse.Namespace) -> Problem[Option]:
     return problem(read_text(arguments.grid), read_text(arguments.list).split())
 
 
-KIND = Kind("words", "words across and down in a grid", _add_arguments, _make, drawing)
+# A word across shows its squares, and so do the words down.
+KIND = Kind(
+    "words",
+    "words across and down in a grid",
+    _add_arguments,
+    _make,
+    drawing,
+    view=lambda line: line.partition("-")[0],
+)
