@@ -34,6 +34,7 @@ EVIL = [
 # So many seconds of a processor a page of 200 boxes may take until it is seen, the least of three times.
 SECONDS = 0.5
 DARK, LIGHT = "rgb(23, 25, 28)", "rgb(252, 252, 250)"
+INK = "rgb(29, 31, 33)"
 PAPER = "rgb(255, 255, 255)"
 
 
@@ -249,7 +250,9 @@ class File(Pages):
             parsed = f"new DOMParser().parseFromString({json.dumps(svg)}, 'image/svg+xml').documentElement"
             plain = self.browser.tab()
             plain.go("data:text/html,")
-            drawn = "(it) => [it.tagName, [...it.attributes].map((one) => one.name + '=' + one.value).sort()]"
+            # Both its colours are in styles of the page's own.
+            told = "[...it.attributes].filter((one) => !['class', 'style'].includes(one.name)).map((one) => one.name + '=' + one.value)"
+            drawn = f"(it) => [it.tagName, {told}.sort()]"
             wanted = plain.value(f"[...{parsed}.querySelectorAll(':not(title)')].map({drawn})")
             plain.close()
             self.assertEqual(self.tab.value(f"[...document.querySelectorAll('#picture svg *')].map({drawn})"), wanted)
@@ -323,6 +326,7 @@ class File(Pages):
         self.assertEqual(names, ["rect", "g", "text"])
         self.assertEqual(self.tab.value("document.querySelector('#picture text').textContent"), "<b>B</b>")
         self.assertEqual(self.tab.value("document.querySelector('#picture rect').getAttributeNames()"), [])
+        self.assertEqual(self.tab.value("getComputedStyle(document.querySelector('#picture rect')).fill"), INK)
         # A script that is put into it isn't the one that the policy names.
         self.open(self.boxes.replace(b"</body>", b"<script>owned()</script><img src=x onerror=owned()></body>"))
         self.assertEqual(self.tab.value("owned.times"), 0)

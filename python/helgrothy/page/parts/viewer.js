@@ -206,14 +206,19 @@ class Viewer {
 
   showOne() {
     const solution = this.solutions[this.found[this.at]];
+    this.showPicture(solution, false);
+    this.showSteps(solution);
+  }
+
+  // isPaper: whether it is in the colours that it has on paper.
+  showPicture(solution, isPaper) {
     const picture = this.picture(solution);
     get("single").classList.toggle("plain", !picture);
-    get("picture").replaceChildren(...(picture ? [picture] : []));
+    get("picture").replaceChildren(...(picture ? [shaded(picture, isPaper)] : []));
     if (picture) {
       const [wide, high] = this.sizeOf(solution);
       picture.style.width = `min(100%, ${2 * wide}px, ${Math.round((70 * wide) / high)}vh)`;
     }
-    this.showSteps(solution);
   }
 
   showSteps(solution) {
@@ -333,7 +338,7 @@ class Viewer {
     for (const { target, isIntersecting } of cards) {
       const room = target.querySelector(".room");
       if (!isIntersecting) room.replaceChildren();
-      else if (!room.hasChildNodes()) room.append(this.picture(this.solutions[target.dataset.place]));
+      else if (!room.hasChildNodes()) room.append(shaded(this.picture(this.solutions[target.dataset.place])));
     }
   }
 
@@ -446,6 +451,44 @@ class Viewer {
 }
 
 // ---- light and dark
+
+// The colours of a picture on a dark page: lines and letters are light, and fills dark, each of its own hue and lighter
+// where it was lighter. Where a fill is grey or black, white and black mean something: such a picture stays as it is.
+const INK = /^#([0-9a-f]{3}|[0-9a-f]{6})$/i;
+const WHITE = "#fff";
+
+function channels(colour) {
+  const digits = colour.length === 4 ? colour.replace(/[^#]/g, "$&$&") : colour;
+  return [1, 3, 5].map((start) => parseInt(digits.slice(start, start + 2), 16) / 255);
+}
+
+const isGrey = (colour) => INK.test(colour) && Math.max(...channels(colour)) - Math.min(...channels(colour)) < 0.1;
+
+function dimmed(colour) {
+  if (!INK.test(colour)) return colour;
+  const [red, green, blue] = channels(colour);
+  const [most, least] = [Math.max(red, green, blue), Math.min(red, green, blue)];
+  const light = (most + least) / 2;
+  if (isGrey(colour)) return `hsl(0 0% ${Math.round(93 - 75 * light)}%)`;
+  const part = (one, other) => (60 * (one - other)) / (most - least);
+  const hue = most === red ? part(green, blue) : most === green ? 120 + part(blue, red) : 240 + part(red, green);
+  return `hsl(${Math.round(hue)} 45% ${Math.round(36 * light)}%)`;
+}
+
+// A picture with both its colours, of which the style shows one; its ground is that of the page.
+function shaded(picture, isPaper = false) {
+  const fills = [...picture.querySelectorAll("rect")].filter((part) => part.getAttribute("fill") !== WHITE);
+  picture.classList.toggle("paper", isPaper || fills.some((part) => isGrey(part.getAttribute("fill") ?? "")));
+  for (const part of picture.querySelectorAll("[fill], [stroke]")) {
+    for (const name of ["fill", "stroke"]) {
+      if (part.hasAttribute(name)) part.style.setProperty(`--${name}`, dimmed(part.getAttribute(name)));
+    }
+  }
+  const ground = picture.querySelector("rect");
+  const isAll = ground && ["width", "height"].every((side) => ground.getAttribute(side) === picture.getAttribute(side));
+  if (isAll && ground.getAttribute("fill") === WHITE) ground.classList.add("ground");
+  return picture;
+}
 
 const isSystemDark = matchMedia("(prefers-color-scheme: dark)");
 
