@@ -78,6 +78,28 @@ class Pages(unittest.TestCase):
         self.assertEqual(self.tab.complaints(), [])
         self.assertFalse(self.tab.value("'owned' in window && window.owned.times > 0"))
 
+    def unfold(self):
+        """Opens what is folded of the steps and cut of their options."""
+        self.tab.value("document.querySelectorAll('#steps details').forEach((it) => it.open = true)")
+        self.tab.value("document.querySelectorAll('#steps .rest').forEach((it) => it.click())")
+
+    def wait(self, holds):
+        deadline = time.monotonic() + PATIENCE
+        while not holds():
+            self.assertLess(time.monotonic(), deadline, "it never came to it")
+            time.sleep(0.05)
+
+    def saved(self, selector, name):
+        """What a file has that is saved by pressing a button."""
+        path = os.path.join(self.folder, name)
+        self.browser.call("Browser.setDownloadBehavior", behavior="allow", downloadPath=self.folder)
+        self.tab.click(selector)
+        self.wait(lambda: os.path.exists(path))
+        with open(path, "rb") as file:
+            content = file.read()
+        os.unlink(path)
+        return content
+
 
 class File(Pages):
     @classmethod
@@ -95,7 +117,7 @@ class File(Pages):
         return int(self.tab.value("document.querySelector('#place').value"))
 
     def seen_steps(self):
-        rows = "[...document.querySelectorAll('#steps tr')]"
+        rows = "[...document.querySelectorAll('#steps tr:not(.across)')]"
         return self.tab.value(f"{rows}.map((row) => [...row.children].map((cell) => cell.innerText.trim()))")
 
     def test_200_boxes_are_small_and_quick(self):
@@ -292,6 +314,7 @@ class File(Pages):
             self.tab.call("Page.addScriptToEvaluateOnNewDocument", source=OWNED)
             self.open(helgrothy("solve", "--html", "--all", *more, given=problem.text))
             self.tab.press("p")
+            self.unfold()
             for name in ("</script><script>owned()//", "<svg/onload=owned()>", r"\x1b[2J", "__proto__"):
                 self.assertIn(name, self.tab.text("#steps"))
                 self.assertIn(name, self.tab.text("#given"))
@@ -479,6 +502,7 @@ class Page(Pages):
 
     def test_solutions_come_as_they_are_found_and_it_stops(self):
         items = self.type_one_that_is_found()
+        self.unfold()
         self.assertEqual(sorted(self.tab.text("#steps .items").split()), sorted(items.split()))
         self.wait(lambda: [len(it) for it in self.running()] == [1, 1])
         self.tab.press(".", ctrl=True)
@@ -516,6 +540,7 @@ class Page(Pages):
         self.tab.type(r"at(\d+)")
         self.solve()
         self.assertEqual(self.tab.text("#summary"), "1 solution; all that there are.")
+        self.unfold()
         self.assertIn("<svg/onload=owned()>", self.tab.text("#steps"))
         for element, count in (("script", 2), ("img", 0), ("iframe", 0), ("main", 1)):
             self.assertEqual(self.tab.value(f"document.querySelectorAll('{element}').length"), count, element)

@@ -9,7 +9,9 @@ const ATTRIBUTES = new Set(
     "stroke stroke-width stroke-linecap stroke-linejoin stroke-opacity stroke-dasharray font-family font-size " +
     "font-weight font-style text-anchor dominant-baseline").split(" "));
 const MOST_STEPS = 2000;
-const MOST_WORDS = 200;
+// Of a longer option so many items are shown at first, and of forced steps one behind another fewer than so many.
+const MOST_WORDS = 8;
+const FOLDED = 3;
 const MOST_NAMES = 40;
 const MOST_LINES = 30;
 
@@ -72,9 +74,9 @@ class Viewer {
 
   takeProblem(problem) {
     this.problem = problem;
-    const secondary = problem.secondary ? `, ${counted(problem.secondary, "secondary one")}` : "";
-    get("size").textContent =
-      `${counted(problem.primary, "primary item")}${secondary}, ${counted(problem.options, "option")}, for ${problem.program}`;
+    const secondary = problem.secondary ? [counted(problem.secondary, "secondary one")] : [];
+    const size = [counted(problem.primary, "primary item"), ...secondary, counted(problem.options, "option")];
+    get("size").textContent = `${size.join(", ")}, for ${problem.program}`;
     const more = problem.more ? "\n.. and more, which isn't shown here" : "";
     get("given").textContent = problem.text.join("\n") + more;
     get("problem").hidden = false;
@@ -146,8 +148,8 @@ class Viewer {
         if (names.size > MOST_NAMES) break;
       }
     }
-    const offered = [...names].slice(0, MOST_NAMES).map((name) => made("option", { value: text.slice(0, start) + name }));
-    get("names").replaceChildren(...offered);
+    const offered = [...names].slice(0, MOST_NAMES).map((name) => text.slice(0, start) + name);
+    get("names").replaceChildren(...offered.map((value) => made("option", { value })));
   }
 
   // Adds an item or an option to the filter, or takes it away.
@@ -223,23 +225,54 @@ class Viewer {
 
   showSteps(solution) {
     const steps = solution.steps;
-    const before = solution.place ? this.solutions[solution.place - 1] : null;
-    let same = 0;
-    if (before && before.number === solution.number - 1) {
-      while (same < steps.length && before.steps[same] && String(steps[same]) === String(before.steps[same])) same++;
-    }
+    const same = this.same(solution);
     const wanted = new Set(this.wanted().map((words) => words.join(" ")));
     const rows = steps.slice(0, MOST_STEPS).map((step, place) => this.row(step, place, same, wanted));
+    const shown = this.folded(rows, steps);
     if (steps.length > MOST_STEPS) {
-      rows.push(made("tr", {}, made("td"), made("td", { colSpan: 3, textContent: `and ${counted(steps.length - MOST_STEPS, "step")} more` })));
+      shown.push(this.across(`and ${counted(steps.length - MOST_STEPS, "step")} more`));
     }
-    get("steps").replaceChildren(...rows);
+    get("steps").replaceChildren(...shown);
     const isKnown = steps.some(([, , , branches]) => branches);
     get("way").classList.toggle("unknown", !isKnown);
     get("went").textContent = isKnown ? "How the search went to it" : "Its options";
     get("items").textContent = isKnown ? "Items, from the one at which it chose" : "Items";
     const way = isKnown ? this.way(solution, same) : `${counted(steps.length, "option")}.`;
     get("told").textContent = `Solution ${solution.number.toLocaleString("en")}: ${way}`;
+  }
+
+  // How many of its first steps are those of the solution before.
+  same(solution) {
+    const before = solution.place ? this.solutions[solution.place - 1] : null;
+    if (!before || before.number !== solution.number - 1) return 0;
+    const other = solution.steps.findIndex((step, place) => String(step) !== String(before.steps[place]));
+    return other < 0 ? solution.steps.length : other;
+  }
+
+  // The rows of steps, with those that are forced one behind another in a fold.
+  folded(rows, steps) {
+    const shown = [];
+    for (let start = 0, end = 0; start < rows.length; start = end) {
+      const isForced = (place) => steps[place][1] && steps[place][3] === 1;
+      for (end = start; end < rows.length && isForced(end); ) end++;
+      if (end - start >= FOLDED) shown.push(this.fold(rows.slice(start, end), start));
+      else shown.push(...rows.slice(start, (end = Math.max(end, start + 1))));
+    }
+    return shown;
+  }
+
+  fold(rows, start) {
+    const columns = ["step", "branch", "option"].map((className) => made("col", { className }));
+    const table = made("table", {}, made("colgroup", {}, ...columns, made("col")), made("tbody", {}, ...rows));
+    const name = `Steps ${start + 1} to ${start + rows.length}, each one forced`;
+    const fold = made("details", {}, made("summary", { textContent: name }), table);
+    fold.open = rows.some((row) => row.querySelector(".held"));
+    return this.across(fold);
+  }
+
+  // A row of one cell.
+  across(...within) {
+    return made("tr", { className: "across" }, made("td", { colSpan: 4 }, ...within));
   }
 
   way(solution, same) {
@@ -252,7 +285,8 @@ class Viewer {
     const choices = solution.steps.filter(([, , , branches]) => branches > 1).length;
     const chosen = choices ? `${counted(choices, "choice")} among branches` : "each one forced";
     const told = [`${counted(solution.steps.length, "step")}, ${chosen}`];
-    if (before > 0) {
+    // Of less than a hundredth of a percent nothing is to be seen.
+    if (before > 0.0001) {
       told.push(`by its branches about ${(100 * before).toFixed(before < 0.1 ? 2 : 1)} % of the search lies before it`);
     }
     if (same) told.push(`the first ${counted(same, "step")} as in solution ${solution.number - 1}`);
@@ -272,17 +306,32 @@ class Viewer {
     const start = Math.max(words.indexOf(item), 0);
     const turned = [...words.slice(start), ...words.slice(0, start)];
     const items = made("td", { className: "items" });
-    for (const word of turned.slice(0, MOST_WORDS)) {
-      items.append(this.button(word, word, "", wanted.has(word), "only solutions with this item"), " ");
-    }
-    if (turned.length > MOST_WORDS) items.append(`and ${turned.length - MOST_WORDS} more`);
+    const title = "only solutions with this item";
+    const buttons = turned.map((word) => this.button(word, word, "", wanted.has(word), title));
+    // To say that one or two more are left out takes as much room as these.
+    const most = buttons.length > MOST_WORDS + 2 ? MOST_WORDS : buttons.length;
+    items.append(...buttons.slice(0, most).flatMap((each) => [each, " "]));
+    if (most < buttons.length) items.append(this.rest(buttons.slice(most)));
     row.append(made("td", {}, number), items);
     return row;
+  }
+
+  // A button in the place of others, which come when it is pressed.
+  rest(buttons) {
+    const rest = made("button", { type: "button", className: "rest", textContent: `and ${buttons.length} more` });
+    const open = () => {
+      rest.replaceWith(...buttons.flatMap((each) => [each, " "]));
+      buttons[0].focus();
+    };
+    rest.addEventListener("click", open);
+    rest.classList.toggle("held", buttons.some((each) => each.classList.contains("held")));
+    return rest;
   }
 
   button(text, line, className, isHeld, title) {
     const button = made("button", { type: "button", className, title, textContent: text });
     button.classList.toggle("held", isHeld);
+    button.setAttribute("aria-pressed", isHeld);
     button.addEventListener("click", () => this.want(line));
     return button;
   }
