@@ -7,12 +7,14 @@ Without a browser it says so, and nothing is tested. The programs are found as t
 import contextlib
 import json
 import os
+import re
 import signal
 import subprocess
 import sys
 import tempfile
 import time
 import unittest
+from xml.etree import ElementTree
 
 TOP = os.path.dirname(os.path.dirname(os.path.dirname(os.path.abspath(__file__))))
 sys.path[:0] = [os.path.join(TOP, "python"), os.path.join(TOP, "tests")]
@@ -25,6 +27,7 @@ from helgrothy.page import forms  # noqa: E402
 
 OWNED = "window.owned = () => { owned.times++; }; owned.times = 0;"
 SCRIPT = os.path.join(TOP, "scripts", "helgrothy")
+SVG = "{http://www.w3.org/2000/svg}"
 # What names may try: each runs `owned` where it is taken for more than text.
 EVIL = [
     "</script><script>owned()//", "<img/src=x/onerror=owned()>", "<svg/onload=owned()>", "<!--<script>", "]]>",
@@ -45,6 +48,29 @@ def helgrothy(*words, given=""):
     if done.returncode not in (0, 1):
         raise RuntimeError(f"{words}: {done.stderr.decode()}")
     return done.stdout
+
+
+def reasons(words):
+    """What a command says of a problem without solutions."""
+    done = subprocess.run([SCRIPT, *words], capture_output=True, text=True)
+    return done.stderr.splitlines()[1:]
+
+
+def elements(element):
+    """An element of SVG as nested tuples, without the blanks between them."""
+    return element.tag, sorted(element.items()), (element.text or "").strip(), [elements(it) for it in element]
+
+
+def luminance(colour):
+    """How light a colour such as rgb(1, 2, 3) is, from 0 to 1."""
+    parts = [int(part) / 255 for part in re.findall(r"\d+", colour)[:3]]
+    red, green, blue = (part / 12.92 if part <= 0.04045 else ((part + 0.055) / 1.055) ** 2.4 for part in parts)
+    return 0.2126 * red + 0.7152 * green + 0.0722 * blue
+
+
+def level(node):
+    """The level of a heading in a tree for screen readers; 0 of what is none."""
+    return next((it["value"]["value"] for it in node.get("properties", []) if it["name"] == "level"), 0)
 
 
 def legal(name):
@@ -152,6 +178,16 @@ class File(Pages):
         self.tab.press("p")
         self.assertTrue(self.tab.is_shown("#given"))
         self.assertEqual(self.tab.text("#given").strip(), self.problem.text.strip())
+        self.is_quiet()
+
+    def test_what_is_saved(self):
+        self.open()
+        listed = self.saved("#save-solutions", "tiling-by-polyominoes-solutions.txt")
+        self.assertEqual(list(self.problem.listed(listed)), self.solutions)
+        self.tab.press("End")
+        picture = self.saved("#save-picture", "tiling-by-polyominoes-200.svg")
+        drawn = ElementTree.fromstring(self.problem.draw(self.solutions[-1]).svg())
+        self.assertEqual(elements(ElementTree.fromstring(picture))[3][1:], elements(drawn)[3][1:])
         self.is_quiet()
 
     def test_keys(self):

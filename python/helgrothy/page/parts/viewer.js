@@ -13,6 +13,7 @@ const MOST_STEPS = 2000;
 const MOST_WORDS = 8;
 const FOLDED = 3;
 const MOST_NAMES = 40;
+const SAVED_WITHIN = 60_000;
 const MOST_LINES = 30;
 
 const sentence = (text) => `${text[0].toUpperCase()}${text.slice(1).replace(/\.$/, "")}.`;
@@ -24,6 +25,13 @@ function made(name, words = {}, ...within) {
   Object.assign(element, words);
   element.append(...within);
   return element;
+}
+
+// Has the browser save a text as a file.
+function save(name, type, text) {
+  const href = URL.createObjectURL(new Blob([text], { type }));
+  made("a", { href, download: name }).click();
+  setTimeout(() => URL.revokeObjectURL(href), SAVED_WITHIN);
 }
 
 class Viewer {
@@ -45,6 +53,11 @@ class Viewer {
     this.held = new Map();
     this.elements = [];
     this.ended = null;
+    // How many solutions there are, if that was counted.
+    this.total = null;
+    // A picture of the shares of all solutions, if that was asked for.
+    this.chances = null;
+    this.lines = [];
     this.found = [];
     this.at = 0;
     get("filter").value = "";
@@ -58,6 +71,7 @@ class Viewer {
   take(lines) {
     const had = this.found.length;
     for (const told of lines) {
+      this.lines.push(told);
       if (told.problem) this.takeProblem(told.problem);
       if (told.solution) this.takeSolution(told.solution);
       if (told.end) this.ended = told.end;
@@ -168,7 +182,10 @@ class Viewer {
     get("single").hidden = !any || this.isAll;
     get("glance").hidden = !any || !this.isAll;
     get("bar").hidden = this.solutions.length === 0;
-    get("none").hidden = any;
+    get("bar").classList.toggle("few", this.solutions.length < 2);
+    get("save").hidden = !any && !this.chances;
+    get("save-solutions").disabled = !any;
+    get("none").hidden = any || this.chances !== null;
     get("none").textContent = any ? "" : this.reason();
     if (any && this.isAll) this.showAll();
     else if (any) this.showOne();
@@ -191,6 +208,7 @@ class Viewer {
     get("place").value = this.found.length ? this.at + 1 : 0;
     get("back").disabled = this.at <= 0;
     get("on").disabled = this.at >= this.found.length - 1;
+    get("save-picture").disabled = !(this.chances ?? this.solutions[this.found[this.at]])?.picture;
     get("summary").textContent = this.summary();
   }
 
@@ -302,9 +320,7 @@ class Viewer {
     }
     const line = this.options.get(option);
     const number = this.button(`${option}`, line, "number", wanted.has(line), "only solutions with this option");
-    const words = line.split(" ");
-    const start = Math.max(words.indexOf(item), 0);
-    const turned = [...words.slice(start), ...words.slice(0, start)];
+    const turned = this.turned(item, option);
     const items = made("td", { className: "items" });
     const title = "only solutions with this item";
     const buttons = turned.map((word) => this.button(word, word, "", wanted.has(word), title));
@@ -426,6 +442,41 @@ class Viewer {
     return element;
   }
 
+  // ---- what is saved
+
+  get slug() {
+    return get("title").textContent.toLowerCase().replace(/[^a-z0-9]+/g, "-").replace(/^(an?-)|-$/g, "");
+  }
+
+  savePicture() {
+    const solution = this.chances ?? this.solutions[this.found[this.at]];
+    const picture = this.picture(solution);
+    const title = document.createElementNS(picture.namespaceURI, "title");
+    title.textContent = picture.getAttribute("aria-label");
+    picture.prepend(title);
+    const number = solution.number ? `-${solution.number}` : "";
+    save(`${this.slug}${number}.svg`, "image/svg+xml", new XMLSerializer().serializeToString(picture));
+  }
+
+  // The solutions that are shown, as the programs list them.
+  saveSolutions() {
+    const lines = this.found.map((place) => this.solutions[place]).flatMap((solution) =>
+      [`${solution.number}:`, ...solution.steps.map((step) => this.listed(step))]);
+    save(`${this.slug}-solutions.txt`, "text/plain", lines.map((line) => `${line}\n`).join(""));
+  }
+
+  listed([item, option, branch, branches]) {
+    const words = option ? this.turned(item, option).join(" ") : `null ${item}`;
+    return ` ${words}${branches ? ` (${branch} of ${branches})` : ""}`;
+  }
+
+  // The words of an option from an item on.
+  turned(item, option) {
+    const words = this.options.get(option).split(" ");
+    const start = Math.max(words.indexOf(item), 0);
+    return [...words.slice(start), ...words.slice(0, start)];
+  }
+
   // ---- what people do
 
   go(place) {
@@ -455,6 +506,8 @@ class Viewer {
     get("place").addEventListener("change", () => this.go((parseInt(get("place").value, 10) || 1) - 1));
     get("place").addEventListener("focus", () => get("place").select());
     get("filter").addEventListener("input", () => this.filter());
+    get("save-picture").addEventListener("click", () => this.savePicture());
+    get("save-solutions").addEventListener("click", () => this.saveSolutions());
     get("help").addEventListener("click", () => get("keys").showModal());
     get("theme").addEventListener("click", turnTheme);
     addEventListener("keydown", (event) => this.press(event));
