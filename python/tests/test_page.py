@@ -254,13 +254,43 @@ class Forms(unittest.TestCase):
 class Requests(unittest.TestCase):
     def test_what_is_no_request(self):
         for raw in (
-            b"", b"[]", b"null", b"{", b"\xff", b'{"what":"read"}', b'{"way":"x"}', b'{"text":1}', b'{"limit":0}', b'{"limit":1001}', b'{"limit":true}',
+            b"", b"[]", b"null", b"{", b"\xff", b'{"what":"read"}', b'{"what":"__init__"}', b'{"way":"x"}', b'{"text":1}', b'{"limit":0}', b'{"limit":1001}', b'{"limit":true}',
             b'{"limit":1.5}', b'{"seconds":0}', b'{"seconds":1e9}', b'{"seconds":NaN}', b'{"values":[]}', b'{"file":"x"}',
             b'{"limit":' + b"9" * 5000 + b"}",
         ):  # fmt: skip
             with self.subTest(raw=raw[:30]), self.assertRaises(ValueError):
                 answer.Request.of(raw)
         self.assertEqual(answer.Request.of(b'{"text":"a","limit":7}'), answer.Request(text="a", limit=7))
+
+    def test_the_text_of_a_problem(self):
+        self.assertEqual(self.told(what="make", text="a b\na b\n"), [{"text": "a b\na b\n"}])
+        self.assertIn("unknown item", self.told(what="make", text="a\nb\n")[0]["error"])
+        with mock.patch.object(answer, "_MOST_TOLD", 3):
+            self.assertIn("too large for a page", self.told(what="make", text="a b\na b\n")[0]["error"])
+
+    def test_chances(self):
+        """Where the package has such; else it says so."""
+        *_, told = self.told(what="chances", text=make.queens.problem(6).text, seconds=60.0)
+        if not hasattr(Problem, "occurrences"):
+            self.assertEqual(told, {"error": "this version has no chances"})
+            return
+        self.assertEqual((told["chances"]["total"], told["chances"]["elements"][0][0]), ("4", "svg"))
+        *_, told = self.told(what="chances", text="a b\na b\n", seconds=60.0)
+        self.assertIn("this problem has no picture", told["error"])
+
+    def test_one_of_all_solutions(self):
+        """Where the package has such; else it says so."""
+        given = {"what": "solve", "text": make.queens.problem(6).text, "way": "one"}
+        if not hasattr(Problem, "random"):
+            self.assertEqual(self.told(**given)[-1], {"error": "this version has no random solutions"})
+        some = list(make.queens.problem(6).solve())
+        with mock.patch.object(Problem, "random", lambda self, *, seconds: some[2], create=True):
+            _, solution, *last = self.told(**given, seconds=60.0)
+        self.assertEqual([it[1] - 1 for it in solution["solution"]["steps"]], some[2].numbers)
+        self.assertEqual(last, [{"end": {"total": 1, "complete": False, "notes": []}}, {"counting": True}, {"count": "4"}])
+        with mock.patch.object(Problem, "random", lambda self, *, seconds: None, create=True):
+            told = self.told(what="solve", text="a b\na\n", way="one")
+        self.assertEqual(told[-1]["end"]["notes"], ["can't all be held: b", "it is in no option"])
 
     def told(self, **request):
         return [json.loads(line) for line in answer.answer(answer.Request(**request))]
@@ -272,7 +302,9 @@ class Requests(unittest.TestCase):
         self.assertEqual((first["problem"]["options"], len(solutions)), (36, 4))
         self.assertEqual(last, {"end": {"total": 4, "complete": True, "notes": []}})
         self.assertEqual(self.told(what="solve", text="a\nb\n")[0]["error"], "the text has faults")
-        self.assertEqual(len(self.told(what="solve", text=make.queens.problem(8).text, limit=3)), 5)
+        told = self.told(what="solve", text=make.queens.problem(8).text, limit=3, seconds=60.0)
+        self.assertEqual(len(told), 7)
+        self.assertEqual(told[-3:], [{"end": {"total": 3, "complete": False, "notes": []}}, {"counting": True}, {"count": "92"}])
         self.assertEqual(len(self.told(what="solve", text=make.queens.problem(8).text, way="symmetry")), 14)
         shuffled = self.told(what="solve", text=make.queens.problem(6).text, way="random")[1]["solution"]["steps"]
         self.assertEqual(len(shuffled), 6)

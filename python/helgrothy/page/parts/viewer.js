@@ -7,7 +7,7 @@ const ELEMENTS = new Set("svg g rect path text tspan line circle ellipse polygon
 const ATTRIBUTES = new Set(
   ("width height viewBox x y x1 y1 x2 y2 dx dy cx cy r rx ry d points transform fill fill-opacity fill-rule opacity " +
     "stroke stroke-width stroke-linecap stroke-linejoin stroke-opacity stroke-dasharray font-family font-size " +
-    "font-weight font-style text-anchor dominant-baseline").split(" "));
+    "font-weight font-style text-anchor dominant-baseline paint-order").split(" "));
 const MOST_STEPS = 2000;
 // Of a longer option so many items are shown at first, and of forced steps one behind another fewer than so many.
 const MOST_WORDS = 8;
@@ -18,7 +18,7 @@ const MOST_LINES = 30;
 
 const sentence = (text) => `${text[0].toUpperCase()}${text.slice(1).replace(/\.$/, "")}.`;
 const get = (id) => document.getElementById(id);
-const counted = (count, one, more = `${one}s`) => `${count.toLocaleString("en")} ${count === 1 ? one : more}`;
+const counted = (count, one, more = `${one}s`) => `${count.toLocaleString("en")} ${Number(count) === 1 ? one : more}`;
 
 function made(name, words = {}, ...within) {
   const element = document.createElement(name);
@@ -75,6 +75,8 @@ class Viewer {
       if (told.problem) this.takeProblem(told.problem);
       if (told.solution) this.takeSolution(told.solution);
       if (told.end) this.ended = told.end;
+      if (told.count) this.total = BigInt(told.count);
+      if (told.chances) this.takeChances(told.chances);
     }
     if (!had || this.ended) this.refresh();
     else if (this.isAll) this.addCards();
@@ -108,6 +110,13 @@ class Viewer {
     this.solutions.push(solution);
     if (solution.picture && get("title").textContent === "Solutions") this.name(solution);
     if (this.matches(solution)) this.found.push(solution.place);
+  }
+
+  takeChances(chances) {
+    for (const element of chances.elements) this.elements.push(element);
+    this.chances = chances;
+    this.name(chances);
+    this.refresh();
   }
 
   name(solution) {
@@ -179,7 +188,8 @@ class Viewer {
   refresh() {
     const any = this.found.length > 0;
     this.isAll = get("all").getAttribute("aria-pressed") === "true";
-    get("single").hidden = !any || this.isAll;
+    get("single").hidden = !this.chances && (!any || this.isAll);
+    get("way").hidden = this.chances !== null;
     get("glance").hidden = !any || !this.isAll;
     get("bar").hidden = this.solutions.length === 0;
     get("bar").classList.toggle("few", this.solutions.length < 2);
@@ -189,6 +199,7 @@ class Viewer {
     get("none").textContent = any ? "" : this.reason();
     if (any && this.isAll) this.showAll();
     else if (any) this.showOne();
+    if (this.chances) this.showPicture(this.chances, true);
     this.refreshCount();
   }
 
@@ -214,11 +225,14 @@ class Viewer {
 
   summary() {
     const all = this.solutions.length;
+    if (this.chances) return `Of ${counted(BigInt(this.chances.total), "solution")}, in percent.`;
     if (!all) return "";
-    const told = [counted(this.ended ? this.ended.total : all, "solution")];
+    const total = this.total ?? (this.ended ? this.ended.total : all);
+    const told = [counted(total, "solution")];
     if (!this.ended) told.push("and it searches on");
-    else if (all < this.ended.total) told.push(`${all.toLocaleString("en")} of them here`);
-    if (this.ended) told.push(this.ended.complete ? "all that there are" : "there may be more");
+    else if (all < total) told.push(`${all.toLocaleString("en")} of them here`);
+    if (this.ended?.complete || Number(this.total) === all) told.push("all that there are");
+    else if (this.ended && this.total === null) told.push("there may be more");
     const wanted = this.wanted().map((words) => words.join(" ")).join(" and ");
     if (wanted) told.push(`${this.found.length.toLocaleString("en")} with ${wanted}`);
     return [told.join("; "), ...(this.ended ? this.ended.notes : [])].filter(Boolean).map(sentence).join(" ");
@@ -423,7 +437,8 @@ class Viewer {
     const [whole, ...parts] = solution.picture.map((number) => this.elements[number]);
     const picture = this.drawn(whole);
     picture.setAttribute("role", "img");
-    picture.setAttribute("aria-label", `${this.titleOf(solution)}, solution ${solution.number}`);
+    const number = solution.number ? `, solution ${solution.number}` : "";
+    picture.setAttribute("aria-label", `${this.titleOf(solution)}${number}`);
     for (const part of parts) {
       const element = this.drawn(part);
       if (element) picture.append(element);
