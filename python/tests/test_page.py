@@ -25,7 +25,9 @@ from unittest import mock
 
 from helgrothy import HelgrothyError, Problem, make
 from helgrothy.listing import branch_of
-from helgrothy.page import answer, folders, forms, lobby, server
+from helgrothy.page import answer, folders, forms, lobby, server, terms
+from helgrothy.page.document import document, frame
+from helgrothy.page.examples import examples, first_of
 from helgrothy.page.record import Record
 from helgrothy.programs import Run
 from test_commands import run
@@ -196,18 +198,35 @@ class Forms(unittest.TestCase):
         """Goes to a folder that is empty."""
         os.chdir(tempfile.mkdtemp(dir=self.folder))
 
-    def test_examples_of_all_kinds_are_problems(self):
-        for kind in make.KINDS:
-            if kind in forms.EXAMPLES:
-                with self.subTest(kind=kind):
-                    self.leave()
-                    problem = forms.problem(kind, forms.EXAMPLES[kind])
-                    self.assertTrue(problem.comments[0].startswith(f"helgrothy make {kind}"))
+    def test_examples_are_problems_with_solutions_and_pictures(self):
         told = {form["name"]: form for form in forms.forms()}
         self.assertEqual(set(told), set(make.KINDS))
-        for name, example in forms.EXAMPLES.items():
-            self.assertLessEqual(set(example), {field["name"] for field in told[name]["fields"]})
-        json.dumps(forms.forms())
+        titles = [example["title"] for example in examples()]
+        self.assertEqual(len(titles), len(set(titles)))
+        for example in examples():
+            with self.subTest(title=example["title"]):
+                self.leave()
+                ways = {name: example[name] for name in ("kind", "values", "text", "cell", "row", "column", "label")}
+                lines = list(answer.answer(answer.Request("solve", limit=1, seconds=60.0, **ways)))
+                found = json.loads(lines[1])["solution"]
+                has_patterns = any(example[name] for name in ("cell", "row", "column", "label"))
+                self.assertEqual("picture" in found, bool(example["kind"]) or has_patterns)
+                if example["kind"]:
+                    fields = {field["name"] for field in told[example["kind"]]["fields"]}
+                    self.assertLessEqual(set(example["values"]), fields)
+        json.dumps(start())
+
+    def test_all_is_called_by_words(self):
+        """Each kind has a title, and each field a label and no help that speaks of files."""
+        for form in forms.forms():
+            with self.subTest(kind=form["name"]):
+                self.assertIn(form["name"], terms.TITLES)
+                self.assertEqual({field["name"] for field in form["fields"]} - set(terms.FIELDS[form["name"]]), set())
+                for field in form["fields"]:
+                    self.assertRegex(field["label"], r"\A[A-Z][a-z']+( |\Z)")
+                    self.assertNotRegex(field["help"], r"\bfile|standard input|--|^[a-z].*[^.]$")
+        polyominoes = next(form for form in forms.forms() if form["name"] == "polyominoes")
+        self.assertEqual([it["label"] for it in polyominoes["fields"] if it["forbids"]], ["Pieces may be turned", "Pieces may be mirrored"])
 
     def test_options_and_texts(self):
         region = forms.problem("polyominoes", {"pieces": "L\nLL\n\nII", "region": "...\n.#.\n", "no_turns": True})
@@ -217,9 +236,13 @@ class Forms(unittest.TestCase):
         self.leave()
         self.assertEqual(forms.problem("queens", {"board": "5"}).text, make.queens.problem(5).text)
         self.leave()
-        clues = forms.EXAMPLES["sudoku"]["clues"]
-        rows = "\n".join(clues[start : start + 9] for start in range(0, 81, 9))
+        rows = first_of("sudoku")["clues"]
+        clues = rows.replace("\n", "")
         self.assertEqual(forms.problem("sudoku", {"clues": rows}).text, forms.problem("sudoku", {"clues": clues}).text)
+
+    def test_the_text_of_a_kind(self):
+        (line,) = answer.answer(answer.Request("make", kind="queens", values={"board": "6"}))
+        self.assertEqual(json.loads(line), {"text": make.queens.problem(6).text})
 
     def test_no_other_file_is_read(self):
         with tempfile.NamedTemporaryFile("w", suffix=".txt") as file:
