@@ -29,6 +29,7 @@ from helgrothy.page import answer, folders, forms, lobby, server, terms
 from helgrothy.page.document import document, frame
 from helgrothy.page.examples import examples, first_of
 from helgrothy.page.record import Record
+from helgrothy.page.start import start
 from helgrothy.programs import Run
 from test_commands import run
 
@@ -145,6 +146,11 @@ class File(unittest.TestCase):
         self.assertTrue(policy.startswith("default-src 'none'; "))
         for word in ("unsafe", "http", "data:", "*", "connect-src"):
             self.assertNotIn(word, policy)
+
+    def test_what_is_around_the_data(self):
+        before, between, behind = frame(["viewer.html"], ["viewer.js", "file.js"])
+        whole = document(["viewer.html"], "a <b>", ["viewer.js", "file.js"], ['"</script>"'])
+        self.assertEqual(whole, f'{before}a &lt;b&gt;{between}["\\u003c/script\\u003e"]{behind}')
 
     def test_names_are_text(self):
         problem = evil()
