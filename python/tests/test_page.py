@@ -25,8 +25,11 @@ from unittest import mock
 
 from helgrothy import HelgrothyError, Problem, make
 from helgrothy.listing import branch_of
-from helgrothy.page import answer, folders, forms, lobby, server
+from helgrothy.page import answer, folders, forms, lobby, server, terms
+from helgrothy.page.document import document, frame
+from helgrothy.page.examples import examples, first_of
 from helgrothy.page.record import Record
+from helgrothy.page.start import start
 from helgrothy.programs import Run
 from test_commands import run
 
@@ -144,6 +147,11 @@ class File(unittest.TestCase):
         for word in ("unsafe", "http", "data:", "*", "connect-src"):
             self.assertNotIn(word, policy)
 
+    def test_what_is_around_the_data(self):
+        before, between, behind = frame(["viewer.html"], ["viewer.js", "file.js"])
+        whole = document(["viewer.html"], "a <b>", ["viewer.js", "file.js"], ['"</script>"'])
+        self.assertEqual(whole, f'{before}a &lt;b&gt;{between}["\\u003c/script\\u003e"]{behind}')
+
     def test_names_are_text(self):
         problem = evil()
         usual = [tag for tag, _ in self.page("solve", given="A\nA\n").elements]
@@ -196,18 +204,35 @@ class Forms(unittest.TestCase):
         """Goes to a folder that is empty."""
         os.chdir(tempfile.mkdtemp(dir=self.folder))
 
-    def test_examples_of_all_kinds_are_problems(self):
-        for kind in make.KINDS:
-            if kind in forms.EXAMPLES:
-                with self.subTest(kind=kind):
-                    self.leave()
-                    problem = forms.problem(kind, forms.EXAMPLES[kind])
-                    self.assertTrue(problem.comments[0].startswith(f"helgrothy make {kind}"))
+    def test_examples_are_problems_with_solutions_and_pictures(self):
         told = {form["name"]: form for form in forms.forms()}
         self.assertEqual(set(told), set(make.KINDS))
-        for name, example in forms.EXAMPLES.items():
-            self.assertLessEqual(set(example), {field["name"] for field in told[name]["fields"]})
-        json.dumps(forms.forms())
+        titles = [example["title"] for example in examples()]
+        self.assertEqual(len(titles), len(set(titles)))
+        for example in examples():
+            with self.subTest(title=example["title"]):
+                self.leave()
+                ways = {name: example[name] for name in ("kind", "values", "text", "cell", "row", "column", "label")}
+                lines = list(answer.answer(answer.Request("solve", limit=1, seconds=60.0, **ways)))
+                found = json.loads(lines[1])["solution"]
+                has_patterns = any(example[name] for name in ("cell", "row", "column", "label"))
+                self.assertEqual("picture" in found, bool(example["kind"]) or has_patterns)
+                if example["kind"]:
+                    fields = {field["name"] for field in told[example["kind"]]["fields"]}
+                    self.assertLessEqual(set(example["values"]), fields)
+        json.dumps(start())
+
+    def test_all_is_called_by_words(self):
+        """Each kind has a title, and each field a label and no help that speaks of files."""
+        for form in forms.forms():
+            with self.subTest(kind=form["name"]):
+                self.assertIn(form["name"], terms.TITLES)
+                self.assertEqual({field["name"] for field in form["fields"]} - set(terms.FIELDS[form["name"]]), set())
+                for field in form["fields"]:
+                    self.assertRegex(field["label"], r"\A[A-Z][a-z']+( |\Z)")
+                    self.assertNotRegex(field["help"], r"\bfile|standard input|--|^[a-z].*[^.]$")
+        polyominoes = next(form for form in forms.forms() if form["name"] == "polyominoes")
+        self.assertEqual([it["label"] for it in polyominoes["fields"] if it["forbids"]], ["Pieces may be turned", "Pieces may be mirrored"])
 
     def test_options_and_texts(self):
         region = forms.problem("polyominoes", {"pieces": "L\nLL\n\nII", "region": "...\n.#.\n", "no_turns": True})
@@ -217,9 +242,13 @@ class Forms(unittest.TestCase):
         self.leave()
         self.assertEqual(forms.problem("queens", {"board": "5"}).text, make.queens.problem(5).text)
         self.leave()
-        clues = forms.EXAMPLES["sudoku"]["clues"]
-        rows = "\n".join(clues[start : start + 9] for start in range(0, 81, 9))
+        rows = first_of("sudoku")["clues"]
+        clues = rows.replace("\n", "")
         self.assertEqual(forms.problem("sudoku", {"clues": rows}).text, forms.problem("sudoku", {"clues": clues}).text)
+
+    def test_the_text_of_a_kind(self):
+        (line,) = answer.answer(answer.Request("make", kind="queens", values={"board": "6"}))
+        self.assertEqual(json.loads(line), {"text": make.queens.problem(6).text})
 
     def test_no_other_file_is_read(self):
         with tempfile.NamedTemporaryFile("w", suffix=".txt") as file:
@@ -254,13 +283,43 @@ class Forms(unittest.TestCase):
 class Requests(unittest.TestCase):
     def test_what_is_no_request(self):
         for raw in (
-            b"", b"[]", b"null", b"{", b"\xff", b'{"what":"read"}', b'{"way":"x"}', b'{"text":1}', b'{"limit":0}', b'{"limit":1001}', b'{"limit":true}',
+            b"", b"[]", b"null", b"{", b"\xff", b'{"what":"read"}', b'{"what":"__init__"}', b'{"way":"x"}', b'{"text":1}', b'{"limit":0}', b'{"limit":1001}', b'{"limit":true}',
             b'{"limit":1.5}', b'{"seconds":0}', b'{"seconds":1e9}', b'{"seconds":NaN}', b'{"values":[]}', b'{"file":"x"}',
             b'{"limit":' + b"9" * 5000 + b"}",
         ):  # fmt: skip
             with self.subTest(raw=raw[:30]), self.assertRaises(ValueError):
                 answer.Request.of(raw)
         self.assertEqual(answer.Request.of(b'{"text":"a","limit":7}'), answer.Request(text="a", limit=7))
+
+    def test_the_text_of_a_problem(self):
+        self.assertEqual(self.told(what="make", text="a b\na b\n"), [{"text": "a b\na b\n"}])
+        self.assertIn("unknown item", self.told(what="make", text="a\nb\n")[0]["error"])
+        with mock.patch.object(answer, "_MOST_TOLD", 3):
+            self.assertIn("too large for a page", self.told(what="make", text="a b\na b\n")[0]["error"])
+
+    def test_chances(self):
+        """Where the package has such; else it says so."""
+        *_, told = self.told(what="chances", text=make.queens.problem(6).text, seconds=60.0)
+        if not hasattr(Problem, "occurrences"):
+            self.assertEqual(told, {"error": "this version has no chances"})
+            return
+        self.assertEqual((told["chances"]["total"], told["chances"]["elements"][0][0]), ("4", "svg"))
+        *_, told = self.told(what="chances", text="a b\na b\n", seconds=60.0)
+        self.assertIn("this problem has no picture", told["error"])
+
+    def test_one_of_all_solutions(self):
+        """Where the package has such; else it says so."""
+        given = {"what": "solve", "text": make.queens.problem(6).text, "way": "one"}
+        if not hasattr(Problem, "random"):
+            self.assertEqual(self.told(**given)[-1], {"error": "this version has no random solutions"})
+        some = list(make.queens.problem(6).solve())
+        with mock.patch.object(Problem, "random", lambda self, *, seconds: some[2], create=True):
+            _, solution, *last = self.told(**given, seconds=60.0)
+        self.assertEqual([it[1] - 1 for it in solution["solution"]["steps"]], some[2].numbers)
+        self.assertEqual(last, [{"end": {"total": 1, "complete": False, "notes": []}}, {"counting": True}, {"count": "4"}])
+        with mock.patch.object(Problem, "random", lambda self, *, seconds: None, create=True):
+            told = self.told(what="solve", text="a b\na\n", way="one")
+        self.assertEqual(told[-1]["end"]["notes"], ["can't all be held: b", "it is in no option"])
 
     def told(self, **request):
         return [json.loads(line) for line in answer.answer(answer.Request(**request))]
@@ -272,7 +331,9 @@ class Requests(unittest.TestCase):
         self.assertEqual((first["problem"]["options"], len(solutions)), (36, 4))
         self.assertEqual(last, {"end": {"total": 4, "complete": True, "notes": []}})
         self.assertEqual(self.told(what="solve", text="a\nb\n")[0]["error"], "the text has faults")
-        self.assertEqual(len(self.told(what="solve", text=make.queens.problem(8).text, limit=3)), 5)
+        told = self.told(what="solve", text=make.queens.problem(8).text, limit=3, seconds=60.0)
+        self.assertEqual(len(told), 7)
+        self.assertEqual(told[-3:], [{"end": {"total": 3, "complete": False, "notes": []}}, {"counting": True}, {"count": "92"}])
         self.assertEqual(len(self.told(what="solve", text=make.queens.problem(8).text, way="symmetry")), 14)
         shuffled = self.told(what="solve", text=make.queens.problem(6).text, way="random")[1]["solution"]["steps"]
         self.assertEqual(len(shuffled), 6)

@@ -43,7 +43,7 @@ def page(tab, path):
     """The local page: a text with faults, and what was found of it without them."""
     with subprocess.Popen([SCRIPT, "page"], stdout=subprocess.PIPE, stderr=subprocess.DEVNULL, text=True) as server:
         try:
-            tab.size(1200, 640)
+            tab.size(1200, 720)
             tab.media(prefers_color_scheme="dark")
             tab.go(server.stdout.readline().strip())
             for name, pattern in (("row", "mon|tue"), ("column", "hall|lab")):
@@ -53,6 +53,7 @@ def page(tab, path):
             tab.wait("document.querySelector('#stop').disabled && document.querySelector('#picture svg')")
             fill(tab, LESSONS)
             tab.wait("document.querySelectorAll('#remarks li').length > 1")
+            tab.value("scrollTo(0, 0)")
             tab.screenshot(path)
         finally:
             server.kill()

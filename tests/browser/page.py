@@ -7,12 +7,14 @@ Without a browser it says so, and nothing is tested. The programs are found as t
 import contextlib
 import json
 import os
+import re
 import signal
 import subprocess
 import sys
 import tempfile
 import time
 import unittest
+from xml.etree import ElementTree
 
 TOP = os.path.dirname(os.path.dirname(os.path.dirname(os.path.abspath(__file__))))
 sys.path[:0] = [os.path.join(TOP, "python"), os.path.join(TOP, "tests")]
@@ -21,10 +23,13 @@ sys.dont_write_bytecode = True
 from browser.chromium import PATIENCE, Browser, program  # noqa: E402
 
 from helgrothy import Problem, make  # noqa: E402
-from helgrothy.page import forms  # noqa: E402
+from helgrothy.page.examples import examples, first_of  # noqa: E402
+from helgrothy.programs import Run  # noqa: E402
+from helgrothy.solid import _darker as darker  # noqa: E402
 
 OWNED = "window.owned = () => { owned.times++; }; owned.times = 0;"
 SCRIPT = os.path.join(TOP, "scripts", "helgrothy")
+SVG = "{http://www.w3.org/2000/svg}"
 # What names may try: each runs `owned` where it is taken for more than text.
 EVIL = [
     "</script><script>owned()//", "<img/src=x/onerror=owned()>", "<svg/onload=owned()>", "<!--<script>", "]]>",
@@ -34,6 +39,7 @@ EVIL = [
 # So many seconds of a processor a page of 200 boxes may take until it is seen, the least of three times.
 SECONDS = 0.5
 DARK, LIGHT = "rgb(23, 25, 28)", "rgb(252, 252, 250)"
+INK = "rgb(29, 31, 33)"
 PAPER = "rgb(255, 255, 255)"
 
 
@@ -44,6 +50,29 @@ def helgrothy(*words, given=""):
     if done.returncode not in (0, 1):
         raise RuntimeError(f"{words}: {done.stderr.decode()}")
     return done.stdout
+
+
+def reasons(words):
+    """What a command says of a problem without solutions."""
+    done = subprocess.run([SCRIPT, *words], capture_output=True, text=True)
+    return done.stderr.splitlines()[1:]
+
+
+def elements(element):
+    """An element of SVG as nested tuples, without the blanks between them."""
+    return element.tag, sorted(element.items()), (element.text or "").strip(), [elements(it) for it in element]
+
+
+def luminance(colour):
+    """How light a colour such as rgb(1, 2, 3) is, from 0 to 1."""
+    parts = [int(part) / 255 for part in re.findall(r"\d+", colour)[:3]]
+    red, green, blue = (part / 12.92 if part <= 0.04045 else ((part + 0.055) / 1.055) ** 2.4 for part in parts)
+    return 0.2126 * red + 0.7152 * green + 0.0722 * blue
+
+
+def level(node):
+    """The level of a heading in a tree for screen readers; 0 of what is none."""
+    return next((it["value"]["value"] for it in node.get("properties", []) if it["name"] == "level"), 0)
 
 
 def legal(name):
@@ -77,6 +106,28 @@ class Pages(unittest.TestCase):
         self.assertEqual(self.tab.complaints(), [])
         self.assertFalse(self.tab.value("'owned' in window && window.owned.times > 0"))
 
+    def unfold(self):
+        """Opens what is folded of the steps and cut of their options."""
+        self.tab.value("document.querySelectorAll('#steps details').forEach((it) => it.open = true)")
+        self.tab.value("document.querySelectorAll('#steps .rest').forEach((it) => it.click())")
+
+    def wait(self, holds):
+        deadline = time.monotonic() + PATIENCE
+        while not holds():
+            self.assertLess(time.monotonic(), deadline, "it never came to it")
+            time.sleep(0.05)
+
+    def saved(self, selector, name):
+        """What a file has that is saved by pressing a button."""
+        path = os.path.join(self.folder, name)
+        self.browser.call("Browser.setDownloadBehavior", behavior="allow", downloadPath=self.folder)
+        self.tab.click(selector)
+        self.wait(lambda: os.path.exists(path))
+        with open(path, "rb") as file:
+            content = file.read()
+        os.unlink(path)
+        return content
+
 
 class File(Pages):
     @classmethod
@@ -94,7 +145,7 @@ class File(Pages):
         return int(self.tab.value("document.querySelector('#place').value"))
 
     def seen_steps(self):
-        rows = "[...document.querySelectorAll('#steps tr')]"
+        rows = "[...document.querySelectorAll('#steps tr:not(.across)')]"
         return self.tab.value(f"{rows}.map((row) => [...row.children].map((cell) => cell.innerText.trim()))")
 
     def test_200_boxes_are_small_and_quick(self):
@@ -129,6 +180,16 @@ class File(Pages):
         self.tab.press("p")
         self.assertTrue(self.tab.is_shown("#given"))
         self.assertEqual(self.tab.text("#given").strip(), self.problem.text.strip())
+        self.is_quiet()
+
+    def test_what_is_saved(self):
+        self.open()
+        listed = self.saved("#save-solutions", "tiling-by-polyominoes-solutions.txt")
+        self.assertEqual(list(self.problem.listed(listed)), self.solutions)
+        self.tab.press("End")
+        picture = self.saved("#save-picture", "tiling-by-polyominoes-200.svg")
+        drawn = ElementTree.fromstring(self.problem.draw(self.solutions[-1]).svg())
+        self.assertEqual(elements(ElementTree.fromstring(picture))[3][1:], elements(drawn)[3][1:])
         self.is_quiet()
 
     def test_keys(self):
@@ -237,8 +298,8 @@ class File(Pages):
             ["queens", "8", "--all"],
             ["langford", "4"],
             ["polycubes", "soma", "3x3x3"],
-            ["kakuro", self.file("kakuro.txt", forms.EXAMPLES["kakuro"]["grid"].encode())],
-            ["timetable", self.file("exams.csv", forms.EXAMPLES["timetable"]["table"].encode())],
+            ["kakuro", self.file("kakuro.txt", first_of("kakuro")["grid"].encode())],
+            ["timetable", self.file("exams.csv", first_of("timetable")["table"].encode())],
         ):
             self.open(helgrothy(*words, "--html"))
             self.assertTrue(self.tab.is_shown("#picture svg"))
@@ -249,7 +310,9 @@ class File(Pages):
             parsed = f"new DOMParser().parseFromString({json.dumps(svg)}, 'image/svg+xml').documentElement"
             plain = self.browser.tab()
             plain.go("data:text/html,")
-            drawn = "(it) => [it.tagName, [...it.attributes].map((one) => one.name + '=' + one.value).sort()]"
+            # Both its colours are in styles of the page's own.
+            told = "[...it.attributes].filter((one) => !['class', 'style'].includes(one.name)).map((one) => one.name + '=' + one.value)"
+            drawn = f"(it) => [it.tagName, {told}.sort()]"
             wanted = plain.value(f"[...{parsed}.querySelectorAll(':not(title)')].map({drawn})")
             plain.close()
             self.assertEqual(self.tab.value(f"[...document.querySelectorAll('#picture svg *')].map({drawn})"), wanted)
@@ -289,6 +352,7 @@ class File(Pages):
             self.tab.call("Page.addScriptToEvaluateOnNewDocument", source=OWNED)
             self.open(helgrothy("solve", "--html", "--all", *more, given=problem.text))
             self.tab.press("p")
+            self.unfold()
             for name in ("</script><script>owned()//", "<svg/onload=owned()>", r"\x1b[2J", "__proto__"):
                 self.assertIn(name, self.tab.text("#steps"))
                 self.assertIn(name, self.tab.text("#given"))
@@ -323,6 +387,7 @@ class File(Pages):
         self.assertEqual(names, ["rect", "g", "text"])
         self.assertEqual(self.tab.value("document.querySelector('#picture text').textContent"), "<b>B</b>")
         self.assertEqual(self.tab.value("document.querySelector('#picture rect').getAttributeNames()"), [])
+        self.assertEqual(self.tab.value("getComputedStyle(document.querySelector('#picture rect')).fill"), INK)
         # A script that is put into it isn't the one that the policy names.
         self.open(self.boxes.replace(b"</body>", b"<script>owned()</script><img src=x onerror=owned()></body>"))
         self.assertEqual(self.tab.value("owned.times"), 0)
@@ -382,11 +447,269 @@ class Page(Pages):
         answers = told.get(self.server.pid, [])
         return answers, [program for answer in answers for program in told.get(answer, [])]
 
-    def wait(self, holds):
-        deadline = time.monotonic() + PATIENCE
-        while not holds():
-            self.assertLess(time.monotonic(), deadline, "it never came to it")
-            time.sleep(0.05)
+    def example(self, title):
+        """Fills in the example of this title."""
+        place = [example["title"] for example in examples()].index(title)
+        self.tab.value(f"document.querySelector('#example').value = {place}")
+        self.tab.value("document.querySelector('#example').dispatchEvent(new Event('change', {bubbles: true}))")
+
+    def typed(self, *names):
+        """What stands in these fields."""
+        return [self.tab.value(f"document.querySelector('#{name}').value") for name in names]
+
+    def test_what_is_typed_is_there_after_a_reload(self):
+        self.type_problem("a b\na b\n")
+        self.tab.click("#patterns summary")
+        self.tab.click("#cell")
+        self.tab.type(r"x(\d)")
+        self.choose("polyominoes", pieces="tetrominoes", region="4x5")
+        self.tab.click("#value-no_mirrors")
+        self.choose("queens", board="5")
+        self.tab.click("#limit")
+        self.tab.press("a", ctrl=True)
+        self.tab.type("7")
+        self.tab.go(self.address)
+        wanted = ["a b\na b\n", r"x(\d)", "queens", "5", "7"]
+        self.assertEqual(self.typed("text", "cell", "kind", "value-board", "limit"), wanted)
+        self.assertFalse(self.tab.is_shown("#text"))
+        self.choose("polyominoes")
+        self.assertEqual(self.typed("value-pieces", "value-region"), ["tetrominoes", "4x5"])
+        boxes = [self.tab.value(f"document.querySelector('#value-{name}').checked") for name in ("no_turns", "no_mirrors")]
+        self.assertEqual(boxes, [True, False])
+        self.tab.go(self.address)
+        self.solve()
+        self.assertEqual(self.tab.text("#none"), self.reason(["tetrominoes", "4x5", "--no-mirrors"]))
+        # What another page has left there is no more than text, and what isn't typed so isn't taken.
+        for kept in ("{", "7", '{"text":7,"kind":"__proto__","values":{"queens":["x"],"__proto__":{}},"fields":{"order":"x"}}'):
+            self.tab.value(f"window.onpagehide = () => localStorage.setItem('helgrothy-typed', {json.dumps(kept)})")
+            self.tab.go(self.address)
+            self.assertEqual(self.typed("text", "order"), [next(it["text"] for it in examples() if it["text"]), ""])
+            self.choose("queens")
+            self.assertEqual(self.typed("value-board"), ["8"])
+        self.is_quiet()
+
+    def reason(self, words):
+        """What is said where a kind with these words has no solution."""
+        return "\n".join(["There is no solution.", *reasons(["polyominoes", *words])])
+
+    def test_examples(self):
+        self.type_problem("mine\nmine\n")
+        self.example("Dominoes on 4 by 5")
+        self.solve()
+        self.assertEqual(self.tab.text("#summary"), "95 solutions; 20 of them here.")
+        self.assertTrue(self.tab.is_shown("#picture svg"))
+        self.tab.click("#undo")
+        self.assertEqual(self.typed("text", "cell"), ["mine\nmine\n", ""])
+        self.assertFalse(self.tab.is_shown("#undo"))
+        # Who goes on from one to another without typing gets the same back.
+        self.example("Pentominoes in 6 by 10")
+        self.example("Queens in coloured regions")
+        self.assertEqual(self.typed("kind", "value-board"), ["queens", "BCAAAA\nBCCCAA\nBCCCFF\nDDCCFF\nFFFFFE\nFFFFEE"])
+        self.solve()
+        self.assertEqual(self.tab.text("#summary"), "1 solution; all that there are.")
+        self.tab.click("#undo")
+        self.assertTrue(self.tab.is_shown("#text"))
+        self.choose("queens")
+        self.assertEqual(self.typed("text", "value-board"), ["mine\nmine\n", "8"])
+        self.is_quiet()
+
+    def test_a_problem_is_saved_and_opened(self):
+        text = "ann bob | dör\nann dör:rot\nbob dör:rot\n"
+        self.type_problem(text)
+        self.assertEqual(self.saved("#save-problem", "problem.dlx").decode(), text)
+        self.choose("queens", board="6")
+        saved = self.saved("#save-problem", "queens.dlx")
+        self.assertEqual(saved.decode(), make.queens.problem(6).text)
+        self.open("mine.dlx", saved.replace(b"\n", b"\r\n"))
+        self.tab.wait("document.querySelector('#state').innerText === 'mine.dlx was opened.'")
+        self.assertEqual(self.typed("text")[0], saved.decode())
+        self.solve()
+        self.assertEqual(self.tab.text("#summary"), "4 solutions; all that there are.")
+        self.assertTrue(self.tab.is_shown("#picture svg"))
+        self.tab.click("#undo")
+        self.assertEqual(self.typed("text"), [text])
+        self.open("large.dlx", b"a" * (1 << 21))
+        self.tab.wait("document.querySelector('#state').innerText.includes('large.dlx has more than 1 MB')")
+        self.assertEqual(self.typed("text"), [text])
+        self.choose("queens", board="-1")
+        self.tab.click("#save-problem")
+        self.tab.wait("document.querySelector('#state').matches('.wrong:not(:empty)')")
+        self.is_quiet()
+
+    def open(self, name, content):
+        """Chooses a file to be opened."""
+        self.tab.call("Page.setInterceptFileChooserDialog", enabled=True)
+        self.tab.click("#open")
+        told = self.tab.call("Runtime.evaluate", expression="document.querySelector('#file')")["result"]
+        self.tab.call("DOM.setFileInputFiles", files=[self.file(name, content)], objectId=told["objectId"])
+
+    def test_solutions_are_saved(self):
+        self.choose("queens", board="6")
+        self.solve()
+        self.tab.click("#on")
+        board = make.queens.problem(6)
+        second = list(board.solve())[1]
+        wanted = ElementTree.fromstring(board.draw(second).svg())
+        title = wanted.find(f"{SVG}title")
+        title.text = f"{title.text}, solution 2"
+        saved = ElementTree.fromstring(self.saved("#save-picture", "queens-on-a-board-2.svg"))
+        self.assertEqual([saved.attrib.pop(name) for name in ("role", "aria-label")], ["img", title.text])
+        self.assertEqual(elements(saved), elements(wanted))
+        self.tab.press("/")
+        self.tab.type("r1 c2")
+        with Run("dlx1", ["m1"], [board.text.encode()]) as run:
+            listed = b"".join(run.chunks())
+        places = [number for number, it in enumerate(board.solve(), 1) if any({"r1", "c2"} <= set(one) for one in it)]
+        found = [listed[listed.index(b"%d:\n" % number) :].partition(b"\n%d:\n" % (number + 1))[0] for number in places]
+        saved = self.saved("#save-solutions", "queens-on-a-board-solutions.txt")
+        self.assertEqual(saved.rstrip(b"\n"), b"\n".join(found).rstrip(b"\n"))
+        self.assertEqual([it.number for it in board.listed(saved)], places)
+        other = self.browser.tab()
+        self.addCleanup(other.close)
+        other.go(f"file://{self.file('saved.html', self.saved('#save-page', 'queens-on-a-board.html'))}")
+        self.assertEqual(other.text("#summary"), "4 solutions; all that there are.")
+        self.assertEqual(other.value("document.title"), "Queens on a board")
+        self.assertTrue(other.is_shown("#picture svg"))
+        self.assertFalse(other.is_shown("#save-page"))
+        self.assertEqual(other.complaints(), [])
+        self.is_quiet()
+
+    def test_one_at_random_and_chances(self):
+        self.choose("queens", board="6")
+        for what in ("random", "chances"):
+            self.assertEqual(self.tab.is_shown(f"#{what}"), hasattr(Problem, {"chances": "occurrences"}.get(what, what)))
+        if self.tab.is_shown("#random"):
+            self.press_and_wait("#random")
+            self.assertEqual(self.tab.text("#summary"), "4 solutions; 1 of them here.")
+        if self.tab.is_shown("#chances"):
+            self.press_and_wait("#chances")
+            self.assertEqual(self.tab.text("#summary"), "Of 4 solutions, in percent.")
+            self.assertEqual([self.tab.is_shown(it) for it in ("#picture svg", "#way", "#bar")], [True, False, False])
+            self.solve()
+            self.assertTrue(self.tab.is_shown("#way"))
+        self.is_quiet()
+
+    def press_and_wait(self, button):
+        self.tab.click(button)
+        self.tab.wait("document.querySelector('#stop').disabled")
+
+    def test_all_solutions_are_counted(self):
+        self.example("Eight queens")
+        self.solve()
+        self.assertEqual(self.tab.text("#summary"), "92 solutions; 20 of them here.")
+        self.tab.value("document.querySelector('#limit').value = 92")
+        self.solve()
+        self.assertEqual(self.tab.text("#summary"), "92 solutions; all that there are.")
+        self.is_quiet()
+
+    def test_forced_steps_and_long_options_are_folded(self):
+        self.example("Sudoku")
+        self.solve()
+        self.assertEqual(self.tab.text("#steps").strip(), "Steps 1 to 81, each one forced")
+        self.tab.click("#steps summary")
+        self.assertEqual(self.tab.value("document.querySelectorAll('#steps tr:not(.across)').length"), 81)
+        self.assertTrue(self.tab.is_shown("#steps tr:not(.across) .items"))
+        self.example("A nonogram of 12 by 12")
+        self.solve()
+        self.tab.click("#steps summary")
+        row = "#steps tr:not(.across) .items"
+        self.assertEqual(self.tab.value(f"document.querySelectorAll('{row}')[0].querySelectorAll('button:not(.rest)').length"), 8)
+        self.assertEqual(self.tab.text(f"{row} .rest"), "and 5 more")
+        self.tab.click(f"{row} .rest")
+        self.assertEqual(self.tab.value(f"document.querySelectorAll('{row}')[0].querySelectorAll('button').length"), 13)
+        self.is_quiet()
+
+    def test_pictures_on_a_dark_page(self):
+        """Each has colours of its own: no filter, cubes with the light above, and nonograms black on white."""
+        self.tab.media(prefers_color_scheme="dark")
+        fills = "[...document.querySelectorAll('#picture NAME')].map((it) => getComputedStyle(it).fill)"
+        self.example("The Soma cube")
+        self.solve()
+        self.assertEqual(self.tab.value("getComputedStyle(document.querySelector('#picture svg')).filter"), "none")
+        self.assertEqual(self.tab.value("getComputedStyle(document.querySelector('#picture .ground')).fill"), "none")
+        seen = [fill for fill in self.tab.value(fills.replace("NAME", "path")) if fill != "none"]
+        own = self.tab.value("[...document.querySelectorAll('#picture path')].map((it) => it.getAttribute('fill'))")
+        own = [fill for fill in own if fill != "none"]
+        light = dict(zip(own, map(luminance, seen)))
+        self.assertGreater(min(light.values()), luminance(DARK))
+        self.assertLess(max(light.values()), 0.2)
+        # The faces of a piece, by how light they are where the page is light.
+        letters = make.polycubes.problem("soma", "3x3x3").draw(next(make.polycubes.problem("soma", "3x3x3").solve()))
+        for fill in {cell.fill for cell in letters.cells.values()}:
+            faces = [light[face] for face in (darker(fill, 1.0), darker(fill, 0.88), darker(fill, 0.74)) if face in light]
+            self.assertEqual(faces, sorted(faces, reverse=True))
+        self.example("A small nonogram")
+        self.solve()
+        self.assertIn("rgb(34, 34, 34)", self.tab.value(fills.replace("NAME", "rect")))
+        self.assertEqual(self.tab.value("getComputedStyle(document.querySelector('#picture .ground')).fill"), PAPER)
+        self.example("Sudoku")
+        self.solve()
+        self.assertGreater(luminance(self.tab.value(fills.replace("NAME", "text"))[0]), 0.6)
+        strokes = "[...document.querySelectorAll('#picture path')].map((it) => getComputedStyle(it).stroke)"
+        self.assertGreater(luminance(self.tab.value(strokes)[1]), 0.5)
+        self.tab.click("#theme")
+        self.assertEqual(self.tab.value(fills.replace("NAME", "text"))[0], INK)
+        self.assertEqual(self.tab.value(strokes)[1], "rgb(34, 34, 34)")
+        self.is_quiet()
+
+    def test_a_phone(self):
+        self.tab.call("Emulation.setTouchEmulationEnabled", enabled=True)
+        for width, height in ((360, 740), (412, 915)):
+            self.tab.call("Emulation.setDeviceMetricsOverride", width=width, height=height, deviceScaleFactor=1, mobile=True)
+            self.tab.go(self.address)
+            for title in ("Sudoku", "Pentominoes in 6 by 10", "The Soma cube", "A nonogram of 12 by 12", "Eight queens"):
+                with self.subTest(title=title, width=width):
+                    self.tab.value("document.querySelector('#form').open = true")
+                    self.example(title)
+                    self.are_large()
+                    self.tab.press("Enter", ctrl=True)
+                    self.tab.wait("document.querySelector('#picture svg')?.checkVisibility()")
+                    self.tab.press(".", ctrl=True)
+                    x, y, wide, high = self.tab.value(
+                        "(() => { const it = document.querySelector('#picture svg').getBoundingClientRect();"
+                        " return [it.x, it.y, it.width, it.height]; })()"
+                    )
+                    self.assertEqual(self.tab.value("[scrollX, scrollY]"), [0, 0])
+                    self.assertTrue(0 <= x and x + wide <= width and y + high <= height, (x, y, wide, high))
+                    self.assertFalse(self.tab.is_shown("#values"))
+                    self.are_large()
+            self.tab.click("#form summary")
+            self.assertTrue(self.tab.is_shown("#values"))
+        self.is_quiet()
+
+    def are_large(self):
+        """What is typed into and pressed is large enough for fingers, and nothing is wider than the screen."""
+        small = self.tab.value(
+            "[...document.querySelectorAll('button, input, select, textarea, summary')].filter((it) => it.checkVisibility())"
+            ".map((it) => it.type === 'checkbox' ? it.parentElement : it).filter((it) => {"
+            " const box = it.getBoundingClientRect(); const isTyped = it.matches('input, select, textarea');"
+            " return box.right > innerWidth || (isTyped && parseFloat(getComputedStyle(it).fontSize) < 16)"
+            " || (it.tagName !== 'TEXTAREA' && box.height < 44); }).map((it) => it.outerHTML.slice(0, 80))"
+        )
+        self.assertEqual(small, [])
+        self.assertLessEqual(*self.tab.value("[document.documentElement.scrollWidth, innerWidth]"))
+
+    def test_by_keys_alone(self):
+        """All is reached, in order and visibly, and has a name; what is reached is seen to be reached."""
+        self.tab.value("document.querySelector('#example').focus()")
+        reached = []
+        for _ in range(12):
+            reached.append(self.tab.value("document.activeElement.id || document.activeElement.tagName"))
+            self.tab.press("Tab")
+            style = "getComputedStyle(document.activeElement.id === 'text' ? document.querySelector('.editor') : document.activeElement)"
+            self.assertTrue(self.tab.value(f"{style}.outlineStyle !== 'none' || {style}.boxShadow !== 'none'"), reached)
+        wanted = ["example", "as-kind", "as-text", "text", "SUMMARY", "open", "save-problem", "limit", "order", "seconds", "solve"]
+        self.assertEqual(reached[: len(wanted)], wanted)
+        self.example("Eight queens")
+        self.solve()
+        self.tab.press("g")
+        self.tab.call("Accessibility.enable")
+        nodes = self.tab.call("Accessibility.getFullAXTree")["nodes"]
+        roles = {"button", "textbox", "searchbox", "combobox", "spinbutton", "checkbox", "image", "dialog", "region", "table"}
+        named = [(it["role"]["value"], it.get("name", {}).get("value", "")) for it in nodes if not it["ignored"]]
+        self.assertEqual([it for it in named if it[0] in roles and not it[1]], [])
+        self.assertEqual([it["name"]["value"] for it in nodes if level(it) == 1], ["Exact cover problems"])
+        self.is_quiet()
 
     def test_a_problem_is_typed_and_solved(self):
         self.type_problem("ann bob | door\nann door:red\nbob door:green\nbob door:red\n")
@@ -442,7 +765,7 @@ class Page(Pages):
         self.choose("polyominoes")
         self.solve()
         self.assertEqual(self.tab.text("#title"), "A tiling by polyominoes")
-        self.assertEqual(self.tab.text("#summary"), "20 solutions; there may be more.")
+        self.assertRegex(self.tab.text("#summary"), r"^(20 solutions; there may be more|9,356 solutions; 20 of them here)\.$")
         self.choose("queens", board="BCAAAA\nBCCCAA\nBCCCFF\nDDCCFF\nFFFFFE\nFFFFEE")
         self.solve()
         self.assertEqual(self.tab.text("#summary"), "1 solution; all that there are.")
@@ -450,9 +773,10 @@ class Page(Pages):
         for kind in self.tab.value("[...document.querySelector('#kind').options].map((it) => it.value)"):
             self.choose(kind)
             self.assertTrue(self.tab.is_shown("#values label"), kind)
-            if forms.EXAMPLES.get(kind):
-                self.solve()
-                self.assertTrue(self.tab.is_shown("#picture svg"), kind)
+            if first_of(kind):
+                self.tab.press("Enter", ctrl=True)
+                self.tab.wait("document.querySelector('#picture svg')?.checkVisibility()")
+                self.tab.press(".", ctrl=True)
         self.choose("queens", board="8")
         self.tab.value("document.querySelector('#order').value = 'symmetry'")
         self.solve()
@@ -475,6 +799,7 @@ class Page(Pages):
 
     def test_solutions_come_as_they_are_found_and_it_stops(self):
         items = self.type_one_that_is_found()
+        self.unfold()
         self.assertEqual(sorted(self.tab.text("#steps .items").split()), sorted(items.split()))
         self.wait(lambda: [len(it) for it in self.running()] == [1, 1])
         self.tab.press(".", ctrl=True)
@@ -512,9 +837,18 @@ class Page(Pages):
         self.tab.type(r"at(\d+)")
         self.solve()
         self.assertEqual(self.tab.text("#summary"), "1 solution; all that there are.")
+        self.unfold()
         self.assertIn("<svg/onload=owned()>", self.tab.text("#steps"))
-        for element, count in (("script", 2), ("img", 0), ("iframe", 0), ("main", 1)):
-            self.assertEqual(self.tab.value(f"document.querySelectorAll('{element}').length"), count, element)
+        ElementTree.fromstring(self.saved("#save-picture", "solution-1.svg"))
+        saved = self.browser.tab()
+        self.addCleanup(saved.close)
+        saved.call("Page.addScriptToEvaluateOnNewDocument", source=OWNED)
+        saved.go(f"file://{self.file('saved.html', self.saved('#save-page', 'solution.html'))}")
+        self.assertEqual(saved.text("#summary"), "1 solution; all that there are.")
+        self.assertEqual((saved.value("owned.times"), saved.complaints()), (0, []))
+        for tab in (self.tab, saved):
+            for element, count in (("script", 2), ("img", 0), ("iframe", 0), ("main", 1)):
+                self.assertEqual(tab.value(f"document.querySelectorAll('{element}').length"), count, element)
         self.is_quiet()
 
     def test_other_pages_get_nothing(self):

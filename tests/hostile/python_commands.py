@@ -879,8 +879,8 @@ def left_by(server: int):
 
 def asked(rng: random.Random):
     """A request of a page, mostly a good one."""
-    request = {"what": rng.choice(["solve", "solve", "lint"]), "seconds": 5, "limit": 5}
-    request["way"] = rng.choice(["", "", "", "random", "symmetry"])
+    request = {"what": rng.choice(["solve", "solve", "lint", "make", "chances"]), "seconds": 5, "limit": 5}
+    request["way"] = rng.choice(["", "", "", "random", "symmetry", "one"])
     some = [*(table.decode() for table in TABLES), *WORDS, *(one.decode("utf-8", "replace") for one in EVIL)]
     if rng.random() < 0.4:
         request["kind"] = rng.choice([*make.KINDS, "nothing"])
@@ -913,7 +913,7 @@ def wrong_with_answer(raw: bytes) -> str:
         lines = [json.loads(line) for line in raw.split(b"\n")[:-1]]
     except ValueError:
         return "no JSON"
-    known = {"problem", "solution", "end", "remarks", "error"}
+    known = {"problem", "solution", "end", "counting", "count", "chances", "text", "remarks", "error"}
     return "" if lines and raw.endswith(b"\n") and all(set(line) <= known for line in lines) else "no answer"
 
 

@@ -12,14 +12,14 @@ from __future__ import annotations
 
 import json
 import os
-import random
 import re
 import resource
+import secrets
 import signal
 import sys
 import threading
 import time
-from collections.abc import Iterator, Mapping
+from collections.abc import Callable, Iterator, Mapping
 from contextlib import suppress
 from dataclasses import dataclass, field, fields
 from typing import Any
@@ -27,7 +27,7 @@ from typing import Any
 from .. import shuffle, symmetry, why
 from ..console import limited
 from ..draw import drawing_of
-from ..errors import HelgrothyError, NoPicture, OutOfTime, reason_of
+from ..errors import HelgrothyError, NoPicture, OutOfTime, ProgramFailed, reason_of
 from ..lint import Remark, lint
 from ..make import KINDS
 from ..make.kind import kind_of
@@ -35,14 +35,16 @@ from ..problem import Problem
 from ..shown import shown
 from ..stream import Solutions
 from ..table import by_patterns
-from . import forms
+from . import forms, shares
 from .record import Draw, Record
 
 MOST_LIMIT = 1_000
 MOST_SECONDS = 600.0
-# A page is told so much of solutions, and so many remarks.
+# A page is told so much of solutions or of a problem's text, and so many remarks.
 _MOST_TOLD = 1 << 25
 _MOST_REMARKS = 200
+# A count has at most so many digits, as many as Python writes at once.
+_MOST_COUNTED = 10**4000
 # For the reason why there is no solution.
 _REASON_SECONDS = 2.0
 # Of the process, and of each program that it runs.
@@ -53,9 +55,11 @@ _MORE_SECONDS = 10
 
 @dataclass(frozen=True)
 class Request:
-    """What a page asks: to `lint` or to `solve` a text, or to solve a kind with values for its fields.
+    """What a page asks: to `lint` a text, or to `make` or to `solve` the problem of a text or of a kind with values for
+    its fields, or for the `chances` in it. `make` gives the problem's text.
 
-    way: "" for the order of the search, `random` for a random one, `symmetry` for one of each set of images.
+    way: "" for the order of the search, `random` for a random one, `symmetry` for one of each set of images, and `one`
+    for a single solution, which is any of them with the same chance.
     """
 
     what: str = "lint"
@@ -81,10 +85,10 @@ class Request:
             if not isinstance(value, kind) or isinstance(value, bool):
                 raise ValueError(f"a request with a bad {name}")
         request = cls(**told)
-        if request.what not in ("lint", "solve"):
-            raise ValueError("a page asks to lint or to solve")
-        if request.way not in ("", "random", "symmetry"):
-            raise ValueError("a page asks for solutions in order, at random or up to symmetry")
+        if request.what not in _ANSWERS:
+            raise ValueError("a page asks to lint, to make or to solve, or for chances")
+        if request.way not in ("", "random", "symmetry", "one"):
+            raise ValueError("a page asks for solutions in order, in a random one, up to symmetry, or for one of them")
         if not 1 <= request.limit <= MOST_LIMIT:
             raise ValueError(f"from 1 to {MOST_LIMIT} solutions are shown")
         if not 0 < request.seconds <= MOST_SECONDS:
@@ -96,7 +100,7 @@ def answer(request: Request) -> Iterator[str]:
     """The lines of an answer. One with `error` is the last."""
     try:
         with limited(request.seconds):
-            yield from _lint(request) if request.what == "lint" else _Solving(request).lines()
+            yield from _ANSWERS[request.what](request)
     except (MemoryError, RecursionError):
         yield _line({"error": "it took more memory than it may"})
     except (re.error, OverflowError) as error:
@@ -111,6 +115,18 @@ def _line(told: dict[str, Any]) -> str:
 
 def _lint(request: Request) -> Iterator[str]:
     yield _line({"remarks": _remarks(lint(_raw(request)))})
+
+
+def _make(request: Request) -> Iterator[str]:
+    text = _problem(request).text
+    if len(text) > _MOST_TOLD:
+        raise ValueError("the problem is too large for a page; `helgrothy make` writes it")
+    yield _line({"text": text})
+
+
+def _problem(request: Request) -> Problem[Any]:
+    """The problem that is asked for. Raises `ValueError`, `HelgrothyError` and `OSError`."""
+    return forms.problem(request.kind, request.values) if request.kind else Problem.parse(_raw(request))
 
 
 def _raw(request: Request) -> bytes:
@@ -138,17 +154,22 @@ class _Solving:
 
     def lines(self) -> Iterator[str]:
         request = self._request
-        if request.kind:
-            problem: Problem[Any] = forms.problem(request.kind, request.values)
-        else:
-            remarks = lint(_raw(request))
-            if any(remark.is_fault for remark in remarks):
-                yield _line({"remarks": _remarks(remarks), "error": "the text has faults"})
-                return
-            problem = Problem.parse(_raw(request))
+        remarks = [] if request.kind else lint(_raw(request))
+        if any(remark.is_fault for remark in remarks):
+            yield _line({"remarks": _remarks(remarks), "error": "the text has faults"})
+            return
+        problem = _problem(request)
         record = Record(problem, self._drawing(problem))
         yield record.problem()
-        yield from self._search(problem, record)
+        found = self._one if request.way == "one" else self._search
+        yield from found(problem, record)
+
+    def chances(self) -> Iterator[str]:
+        """In which share of all solutions a cell has what, as a picture."""
+        problem = _problem(self._request)
+        record = Record(problem, self._drawing(problem))
+        yield record.problem()
+        yield record.chances(*shares.find(problem, record.draw, self._left()))
 
     def _drawing(self, problem: Problem[Any]) -> Draw | None:
         cell, row, column, label = (
@@ -180,11 +201,35 @@ class _Solving:
         # None where so much was told that it was left.
         total = shown if solutions.total is None else solutions.total
         yield record.end(total, bool(solutions.complete), [] if total else self._reasons(problem))
+        # Up to symmetry there are fewer than are counted.
+        if not solutions.complete and self._request.way != "symmetry":
+            yield from self._count(problem)
+
+    def _count(self, problem: Problem[Any]) -> Iterator[str]:
+        """How many solutions there are, where the time that is left is enough."""
+        yield _line({"counting": True})
+        with suppress(OutOfTime, ProgramFailed):
+            total = problem.count(seconds=self._left() * 0.9)
+            if total < _MOST_COUNTED:
+                # A page's own numbers aren't that large.
+                yield _line({"count": str(total)})
+
+    def _one(self, problem: Problem[Any], record: Record) -> Iterator[str]:
+        """One of all solutions, each with the same chance."""
+        if not hasattr(problem, "random"):
+            raise ValueError("this version has no random solutions")
+        found = problem.random(seconds=self._left())
+        if found is None:
+            yield record.end(0, True, self._reasons(problem))
+            return
+        yield record.solution(1, found.steps)
+        yield record.end(1, False, [])
+        yield from self._count(problem)
 
     def _found(self, problem: Problem[Any]) -> Solutions[Any]:
         limit, seconds = self._request.limit, self._left()
         if self._request.way == "random":
-            return shuffle.solve(problem, random.SystemRandom().getrandbits(32), limit, seconds=seconds)
+            return shuffle.solve(problem, secrets.randbits(32), limit, seconds=seconds)
         if self._request.way == "symmetry":
             kind = KINDS.get(kind_of(problem.comments) or "")
             cell = self._request.cell or (kind.cell if kind else None)
@@ -204,6 +249,14 @@ class _Solving:
             if conflict is not None:
                 return list(conflict.lines(problem))
         return []
+
+
+_ANSWERS: dict[str, Callable[[Request], Iterator[str]]] = {
+    "lint": _lint,
+    "make": _make,
+    "solve": lambda request: _Solving(request).lines(),
+    "chances": lambda request: _Solving(request).chances(),
+}
 
 
 # ---- the process

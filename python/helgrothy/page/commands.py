@@ -53,12 +53,12 @@ def _server(port: int) -> Server:
     import json
 
     from .folders import sweep
-    from .forms import forms
     from .server import Server
+    from .start import start
 
     sweep()
     try:
-        return Server(port, json.dumps(forms()))
+        return Server(port, json.dumps(start()))
     except OSError as error:
         if port and error.errno in (errno.EADDRINUSE, errno.EACCES):
             reason = "it is in use" if error.errno == errno.EADDRINUSE else "this user may not use it"

@@ -27,17 +27,23 @@ def document(
 
     connects: whether it may ask the server that it came from.
     """
+    before, between, behind = frame(bodies, scripts, connects)
+    told = _in_script(f"[{','.join(data)}]")
+    return f"{before}{escape(shown(title))}{between}{told}{behind}"
+
+
+def frame(bodies: Iterable[str], scripts: Iterable[str], connects: bool = False) -> list[str]:
+    """Such a document without its title and its data: what stands before, between and behind these."""
     scripts = list(scripts)
     given = {
         "policy": escape(policy(scripts, connects)),
-        "title": escape(shown(title)),
         "style": _part(_STYLE),
         "body": "".join(map(_part, bodies)),
-        "data": _in_script(f"[{','.join(data)}]"),
         "script": _script(scripts),
     }
+    pieces = re.split(r"\{\{title\}\}|\{\{data\}\}", _part("frame.html"))
     # What is put in is never looked at for marks.
-    return _MARK.sub(lambda mark: given[mark.group(1)], _part("frame.html"))
+    return [_MARK.sub(lambda mark: given[mark.group(1)], piece) for piece in pieces]
 
 
 def policy(scripts: Iterable[str], connects: bool = False) -> str:

@@ -10,6 +10,7 @@ from ..problem import Problem
 from .document import document
 from .record import Draw, Record
 
+BODIES, SCRIPTS = ["viewer.html"], ["viewer.js", "file.js"]
 # A browser shows so many pictures, and so much text, without making anybody wait long.
 MOST_SOLUTIONS = 10_000
 _MOST_TEXT = 1 << 26
@@ -37,4 +38,4 @@ class File:
     def text(self, total: int, is_complete: bool, notes: Iterable[str] = ()) -> str:
         """The document: with how many solutions there were, whether these are all, and what else is to be said."""
         lines = [*self._lines, self._record.end(total, is_complete, notes)]
-        return document(["viewer.html"], self._record.title, ["viewer.js", "file.js"], lines)
+        return document(BODIES, self._record.title, SCRIPTS, lines)

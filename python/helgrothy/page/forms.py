@@ -1,4 +1,4 @@
-"""Kinds of problems as forms: a field for each word and option that a kind's command takes.
+"""Kinds of problems as forms: a field for each argument and option that a kind's command takes.
 
 What is typed into a field never names a file that is there: it is the text of a file in a folder of its own.
 """
@@ -13,39 +13,10 @@ from typing import Any, NoReturn
 from ..make import KINDS
 from ..make.kind import Kind
 from ..problem import Problem
+from .terms import FIELDS, TITLES
 
 # A longer text, or one that may not be a file's name, is a file of another name.
 _LONGEST_NAME = 100
-
-# What the forms of some kinds hold at first, by the names of their fields.
-EXAMPLES: dict[str, dict[str, str]] = {
-    "sudoku": {"clues": "53..7....6..195....98....6.8...6...34..8.3..17...2...6.6....28....419..5....8..79"},
-    "queens": {"board": "8"},
-    "langford": {"pairs": "7"},
-    "polyominoes": {"pieces": "pentominoes", "region": "6x10"},
-    "words": {
-        "grid": ".....\n.#.#.\n.....\n.#.#.\n.....",
-        "list": "actor ahead about arena dance dream enter event force heart honey house light ocean\n"
-        "order other river shelf smart stone storm sugar table three tower train water white",
-    },
-    "roster": {
-        "table": "-      mon tue wed\nearly  1   1   1\nlate   1   1   0:1\n\n"
-        "ann    2:3\nbob    2    -tue\ncat    1:2  -late"
-    },
-    "roundrobin": {"teams": "ann home:1\nbob\ncat\ndan\neve\nfay away:5"},
-    "polycubes": {"pieces": "soma", "box": "3x3x3"},
-    "nonogram": {"clues": "1 1\n5\n5\n3\n1\n\n2\n4\n4\n4\n2"},
-    "kakuro": {"grid": "#   4\\  16\\ #\n\\8  .   .   13\\\n\\17 .   .   .\n#   \\8  .   ."},
-    "tests": {
-        "factors": "system linux mac\nbrowser firefox chrome\ndatabase postgresql mysql\nnetwork v4 v6",
-        "tests": "5",
-    },
-    "timetable": {
-        "table": "day,mon,9 14\nday,tue,9 14\nroom,hall,,,30\nroom,lab,,-mon,2\nexam,maths\nexam,physics,,lab\n"
-        "exam,latin,,-14\nexam,music,,mon\nperson,ann,maths latin music\nperson,bob,maths physics\n"
-        "person,cat,latin physics,-tue-9\nperson,dan,maths music"
-    },
-}
 
 
 class _Parser(argparse.ArgumentParser):
@@ -57,15 +28,16 @@ class _Parser(argparse.ArgumentParser):
 
 @dataclass(frozen=True)
 class Field:
-    """A field: the name of its value, what it is called, its help, its option or "" for a word, whether it is only set
-    or not, and the words that it may be, if those are known."""
+    """A field: the name of its value, its label and its help, its option or "" for a word, and whether it is only set
+    or not. forbids: to set it forbids what the label says.
+    """
 
     name: str
     label: str
     help: str
     option: str
     is_flag: bool
-    words: tuple[str, ...]
+    forbids: bool
 
 
 def fields(kind: Kind) -> Iterator[Field]:
@@ -74,10 +46,16 @@ def fields(kind: Kind) -> Iterator[Field]:
     kind.add_arguments(parser)
     for action in sorted(parser._actions, key=lambda action: bool(action.option_strings)):
         option = action.option_strings[-1] if action.option_strings else ""
-        label = option or str(action.metavar or action.dest)
-        help = " ".join((action.help or "").split())
-        words = tuple(map(str, action.choices or ()))
-        yield Field(action.dest, label, help, option, action.nargs == 0, words)
+        known = FIELDS.get(kind.name, {}).get(action.dest)
+        label, help = known or (_sentence(action.dest.replace("_", " ")), _sentence(action.help or ""))
+        forbids = known is not None and option.startswith("--no-")
+        yield Field(action.dest, label, help, option, action.nargs == 0, forbids)
+
+
+def _sentence(text: str) -> str:
+    """A text of the command line as a sentence; of what has no words of its own."""
+    words = " ".join(text.split())
+    return words[:1].upper() + words[1:]
 
 
 def forms() -> list[dict[str, Any]]:
@@ -85,9 +63,9 @@ def forms() -> list[dict[str, Any]]:
     return [
         {
             "name": kind.name,
-            "help": kind.help,
+            "title": TITLES.get(kind.name, _sentence(kind.name)),
+            "help": _sentence(kind.help),
             "fields": [field.__dict__ for field in fields(kind)],
-            "example": EXAMPLES.get(kind.name, {}),
         }
         for kind in KINDS.values()
     ]

@@ -43,12 +43,12 @@ class Element:
 class Record:
     """A record of a problem's solutions. What it tells has no byte that steers a terminal, and no markup.
 
-    title: what the pictures show, once there is one.
+    draw: what draws them. title: what the pictures show, once there is one.
     """
 
     def __init__(self, problem: Problem[Any], draw: Draw | None) -> None:
         self._problem = problem
-        self._draw = draw
+        self.draw = draw
         self._elements: dict[Element, int] = {}
         self._options: set[int] = set()
         self.title = _NO_TITLE
@@ -85,7 +85,7 @@ class Record:
         lines = [self._problem.line(self._problem.options[place]) for place in chosen]
         fresh = {place + 1: shown(line) for place, line in zip(chosen, lines) if place not in self._options}
         self._options.update(chosen)
-        known = len(self._elements)
+        fresh_from = len(self._elements)
         picture = self._picture(lines)
         told: dict[str, Any] = {
             "number": number,
@@ -98,18 +98,32 @@ class Record:
             told["picture"] = picture
         if fresh:
             told["options"] = fresh
-        if len(self._elements) > known:
-            told["elements"] = [_told(element) for element in islice(self._elements, known, None)]
+        if len(self._elements) > fresh_from:
+            told["elements"] = self._told_from(fresh_from)
         return _line({"solution": told})
+
+    def chances(self, picture: Any, total: int) -> str:
+        """A picture of the shares of all solutions, of which there are so many."""
+        fresh_from = len(self._elements)
+        parts = self._parts(picture.svg())
+        return _line({"chances": {"picture": parts, "elements": self._told_from(fresh_from), "total": str(total)}})
+
+    def _told_from(self, number: int) -> list[list[Any]]:
+        """The elements from a number on, as the page is told them."""
+        return [_told(element) for element in islice(self._elements, number, None)]
 
     def _picture(self, lines: Sequence[str]) -> list[int]:
         """The numbers of a picture's elements, the first one that of the whole; none where there is no picture."""
-        if self._draw is None:
+        if self.draw is None:
             return []
         try:
-            root = ElementTree.fromstring(self._draw(lines).svg())
+            return self._parts(self.draw(lines).svg())
         except (NoPicture, ElementTree.ParseError):
             return []
+
+    def _parts(self, svg: str) -> list[int]:
+        """The numbers of the elements of a picture. Raises `ElementTree.ParseError`."""
+        root = ElementTree.fromstring(svg)
         title = root.find("{http://www.w3.org/2000/svg}title")
         if title is not None and title.text:
             self.title = title.text[:1].upper() + title.text[1:]

@@ -31,7 +31,8 @@ from .heads import Head, head, message
 from .lobby import BUSY, LATE, PATIENCE, Lobby
 
 HOST = "127.0.0.1"
-_BODIES, _SCRIPTS = ["ask.html", "viewer.html"], ["viewer.js", "ask.js"]
+_BODIES = ["ask.html", "viewer.html"]
+_SCRIPTS = ["viewer.js", "typed.js", "sheet.js", "kinds.js", "ask.js"]
 _REQUESTS = ("answer",)
 # Connections that the system keeps until they are let in.
 _BACKLOG = 128

@@ -1,12 +1,13 @@
-// The local page: what is typed is looked at as it is typed, and solved when that is asked for. An answer comes line by
-// line for as long as it is wanted: to let it go ends the search behind it.
+// The local page: what is filled in is solved when that is asked for. An answer comes line by line for as long as it is
+// wanted: to let it go ends the search behind it.
 
-const EXAMPLE = "ann bob cat | mon tue wed\nann mon\nann tue\nbob tue\nbob wed\ncat mon\ncat wed\n";
-const QUIET = 250;
-const SEEN_AT_MOST = 50;
 const GONE = "The page's server has ended: helgrothy page begins another.";
+const FIELDS = ["cell", "row", "column", "label", "limit", "order", "seconds"];
+const PATTERNS = ["cell", "row", "column", "label"];
 
 const viewer = new Viewer("Solutions come here as they are found.");
+const start = JSON.parse(get("data").textContent)[0];
+const isNarrow = matchMedia("(max-width: 56rem)");
 
 // The lines of an answer, as they come.
 async function* answered(request, signal) {
@@ -28,152 +29,196 @@ async function* answered(request, signal) {
   }
 }
 
-// ---- a text, and what is wrong with it
-
-class Sheet {
-  constructor() {
-    this.remarks = [];
-    this.asked = null;
-    this.text = get("text");
-    this.text.value = EXAMPLE;
-    this.text.addEventListener("input", () => this.change());
-    this.text.addEventListener("scroll", () => this.scroll());
-    this.text.addEventListener("keydown", (event) => event.key === "Escape" && get("solve").focus());
-    this.show();
-    this.lint();
-  }
-
-  change() {
-    this.remarks = [];
-    this.show();
-    clearTimeout(this.timer);
-    this.timer = setTimeout(() => this.lint(), QUIET);
-  }
-
-  async lint() {
-    if (this.asked) this.asked.abort();
-    const asked = (this.asked = new AbortController());
-    try {
-      for await (const lines of answered({ what: "lint", text: this.text.value }, asked.signal)) {
-        for (const told of lines) if (told.remarks) this.take(told.remarks);
-      }
-    } catch (error) {
-      if (!asked.signal.aborted) tell(told(error));
-    }
-  }
-
-  take(remarks) {
-    this.remarks = remarks;
-    this.show();
-  }
-
-  // Where a remark's token stands in its line: the last such word, since where one is repeated that one is wrong.
-  place({ line, token }) {
-    const text = this.text.value.split("\n")[line - 1] || "";
-    if (!token) return [0, text.length];
-    const words = [...text.matchAll(/[^ \t\v\f\r]+/g)];
-    const word = words.filter((found) => found[0] === token).pop();
-    const start = word ? word.index : text.indexOf(token);
-    return start < 0 ? [0, text.length] : [start, start + token.length];
-  }
-
-  show() {
-    const lines = this.text.value.split("\n");
-    get("numbers").textContent = lines.map((_, number) => number + 1).join("\n") + "\n ";
-    const byLine = new Map();
-    for (const remark of this.remarks) {
-      byLine.set(remark.line, [...(byLine.get(remark.line) || []), remark]);
-    }
-    const marked = lines.map((text, number) => this.marked(text, byLine.get(number + 1) || []));
-    get("marks").replaceChildren(...marked.flatMap((parts) => [...parts, "\n"]), " ");
-    const shown = this.remarks.slice(0, SEEN_AT_MOST).map((remark) => this.item(remark));
-    if (this.remarks.length > SEEN_AT_MOST) {
-      shown.push(made("li", { textContent: `and ${this.remarks.length - SEEN_AT_MOST} more` }));
-    }
-    get("remarks").replaceChildren(...shown);
-    this.scroll();
-  }
-
-  // A line with marks at the tokens of its remarks.
-  marked(text, remarks) {
-    const parts = [];
-    let at = 0;
-    const places = remarks.map((remark) => [...this.place(remark), remark]);
-    for (const [start, end, remark] of places.sort((a, b) => a[0] - b[0] || b[1] - a[1])) {
-      if (start < at || end === start) continue;
-      const className = remark.fault ? "wrong" : "odd";
-      parts.push(text.slice(at, start), made("mark", { className, textContent: text.slice(start, end) }));
-      at = end;
-    }
-    parts.push(text.slice(at));
-    return parts;
-  }
-
-  item(remark) {
-    const name = remark.name ? made("code", { textContent: remark.name }) : "";
-    const button = made("button", { type: "button", className: remark.fault ? "wrong" : "odd" });
-    button.append(made("span", { textContent: `line ${remark.line}` }), " ", name, name ? ": " : "", remark.text);
-    button.addEventListener("click", () => this.select(remark));
-    return made("li", {}, button);
-  }
-
-  // Puts the cursor onto a remark's token.
-  select(remark) {
-    const [start, end] = this.place(remark);
-    const before = this.text.value.split("\n").slice(0, remark.line - 1).join("\n").length + (remark.line > 1 ? 1 : 0);
-    this.text.focus();
-    this.text.setSelectionRange(before + start, before + end);
-  }
-
-  scroll() {
-    get("marks").style.transform = `translate(${-this.text.scrollLeft}px, ${-this.text.scrollTop}px)`;
-    get("numbers").style.transform = `translateY(${-this.text.scrollTop}px)`;
-  }
+function tell(text, isWrong = false) {
+  get("state").textContent = text;
+  get("state").classList.toggle("wrong", isWrong);
 }
 
-// ---- a kind, and a field for each of its words and options
+function told(error) {
+  return error instanceof TypeError ? GONE : error.message;
+}
 
-class Kinds {
-  constructor(kinds) {
-    this.kinds = kinds;
-    this.typed = new Map();
-    get("kind").append(...kinds.map(({ name }) => made("option", { value: name, textContent: name })));
-    get("kind").addEventListener("change", () => this.show());
-    this.show();
+// ---- what is filled in
+
+class Form {
+  constructor() {
+    this.kinds = new Kinds(start.kinds);
+    this.sheet = new Sheet();
+    this.typed = new Typed();
+    const first = start.examples.find(({ kind }) => !kind);
+    this.put((otherwise, ...path) => this.typed.value(path[0] === "text" ? first.text : otherwise, ...path));
+    this.offer();
+    this.bind();
+    this.suit();
   }
 
-  show() {
-    const kind = this.kinds.find(({ name }) => name === get("kind").value);
-    get("about").textContent = kind.help[0].toUpperCase() + kind.help.slice(1);
-    const values = this.typed.get(kind.name) || { ...kind.example };
-    this.typed.set(kind.name, values);
-    get("values").replaceChildren(...kind.fields.flatMap((field) => this.field(field, values)));
+  // All that is typed.
+  get values() {
+    const fields = Object.fromEntries(FIELDS.map((id) => [id, get(id).value]));
+    const { name: kind, typed } = this.kinds;
+    const values = Object.fromEntries([...typed].map(([name, its]) => [name, { ...its }]));
+    return { isKind: this.isKind, kind, values, text: get("text").value, fields };
   }
 
-  field(field, values) {
-    const id = `value-${field.name}`;
-    const label = made("label", { htmlFor: id, textContent: field.label.toLowerCase().replace(/^--/, "") });
-    const input = field.is_flag ? made("input", { type: "checkbox" }) : made("textarea", { rows: 1, wrap: "off" });
-    Object.assign(input, { id, spellcheck: false, autocomplete: "off" });
-    const suit = () => (input.rows = Math.min(Math.max(input.value.split("\n").length, 1), 12));
-    if (field.is_flag) {
-      input.checked = values[field.name] === true;
-    } else {
-      input.value = values[field.name] || "";
-      suit();
+  // Fills all in with what `value` gives for a path in such values, or else for what is there without it.
+  put(value) {
+    for (const id of FIELDS) fill(id, value(get(id).value, "fields", id));
+    for (const { name, example } of start.kinds) {
+      this.kinds.fill(name, (field, none) => value(example[field] ?? none, "values", name, field));
     }
-    input.addEventListener("input", () => {
-      values[field.name] = field.is_flag ? input.checked : input.value;
-      if (!field.is_flag) suit();
-    });
-    const help = made("small", { textContent: field.help });
-    return [label, made("div", {}, input, help)];
+    this.kinds.choose(value("", "kind"));
+    this.sheet.put(value("", "text"));
+    this.show(value(false, "isKind"));
+  }
+
+  get isKind() {
+    return !get("kinds").hidden;
+  }
+
+  show(isKind) {
+    get("as-kind").setAttribute("aria-pressed", isKind);
+    get("as-text").setAttribute("aria-pressed", !isKind);
+    get("kinds").hidden = !isKind;
+    get("texts").hidden = isKind;
+    if (isKind) this.kinds.show();
+    get("chosen").textContent = isKind ? get("kind").selectedOptions[0].textContent : "Your own problem";
   }
 
   request() {
-    const kind = get("kind").value;
-    return { kind, values: this.typed.get(kind) };
+    if (this.isKind) return this.kinds.request();
+    const patterns = Object.fromEntries(PATTERNS.map((name) => [name, get(name).value]));
+    return { text: get("text").value, ...patterns };
   }
+
+  // ---- examples and files, which can be undone
+
+  offer() {
+    const [plans, texts] = ["Puzzles and plans", "Problems as a text"].map((label) => made("optgroup", { label }));
+    for (const [place, { title, kind }] of start.examples.entries()) {
+      (kind ? plans : texts).append(made("option", { value: place, textContent: title }));
+    }
+    get("example").append(plans, texts);
+  }
+
+  exemplify(example) {
+    // Whoever goes through the examples gets back what was typed before.
+    if (this.isTyped || get("undo").hidden) this.remember();
+    if (example.kind) {
+      this.kinds.fill(example.kind, (name, none) => example.values[name] ?? none);
+      this.kinds.choose(example.kind);
+    } else {
+      for (const name of PATTERNS) fill(name, example[name]);
+      get("patterns").open = PATTERNS.some((name) => example[name]);
+      this.sheet.put(example.text);
+    }
+    this.show(Boolean(example.kind));
+    this.keep();
+  }
+
+  async open(file) {
+    try {
+      const text = await readFile(file);
+      this.remember();
+      get("example").value = "";
+      this.sheet.put(text);
+      this.show(false);
+      this.keep();
+      tell(`${file.name} was opened.`);
+    } catch (error) {
+      tell(error.message, true);
+    }
+  }
+
+  remember() {
+    this.before = this.values;
+    this.isTyped = false;
+    get("undo").hidden = false;
+  }
+
+  undo() {
+    const before = new Typed(this.before);
+    this.put((otherwise, ...path) => before.value(otherwise, ...path));
+    get("undo").hidden = true;
+    get("example").value = "";
+    get("example").focus();
+    this.keep();
+  }
+
+  async save() {
+    const name = this.isKind ? this.kinds.name : "problem";
+    try {
+      save(`${name}.dlx`, "text/plain", this.isKind ? await this.made() : get("text").value);
+    } catch (error) {
+      tell(told(error), true);
+    }
+  }
+
+  // The text of the problem that a kind makes.
+  async made() {
+    const asked = { what: "make", seconds: Number(get("seconds").value), ...this.request() };
+    for await (const lines of answered(asked)) {
+      for (const line of lines) {
+        if (line.error) throw new Error(line.error);
+        if (line.text) return line.text;
+      }
+    }
+    throw new TypeError(GONE);
+  }
+
+  // ---- what people do
+
+  bind() {
+    get("as-kind").addEventListener("click", () => this.show(true));
+    get("as-text").addEventListener("click", () => this.show(false));
+    get("kind").addEventListener("change", () => this.show(true));
+    get("example").addEventListener("change", () => {
+      if (get("example").value) this.exemplify(start.examples[get("example").value]);
+    });
+    get("undo").addEventListener("click", () => this.undo());
+    get("open").addEventListener("click", () => get("file").click());
+    get("file").addEventListener("change", () => {
+      if (get("file").files.length) this.open(get("file").files[0]);
+      get("file").value = "";
+    });
+    get("save-problem").addEventListener("click", () => this.save());
+    get("ask").addEventListener("input", (event) => {
+      if (event.target !== get("example")) this.isTyped = true;
+      this.keepSoon();
+    });
+    get("ask").addEventListener("click", () => this.keepSoon());
+    addEventListener("pagehide", () => this.keep());
+    isNarrow.addEventListener("change", () => this.suit());
+  }
+
+  keepSoon() {
+    clearTimeout(this.timer);
+    this.timer = setTimeout(() => this.keep(), QUIET);
+  }
+
+  keep() {
+    const isKept = this.typed.keep(this.values);
+    if (!isKept && !this.isWarned) tell("The browser doesn't keep what is typed: save it before the page is left.");
+    this.isWarned = !isKept;
+  }
+
+  // Where there is room, the form is always open.
+  suit() {
+    if (!isNarrow.matches) get("form").open = true;
+  }
+
+  // Makes room for solutions on a small screen, or shows what is to be mended.
+  fold(isFolded) {
+    if (!isNarrow.matches) return;
+    // What had the focus goes out of view.
+    if (isFolded && get("form").contains(document.activeElement)) get("form").querySelector("summary").focus();
+    get("form").open = !isFolded;
+    scrollTo(0, 0);
+  }
+}
+
+function fill(id, value) {
+  get(id).value = value;
+  if (get(id).selectedIndex < 0) get(id).selectedIndex = 0;
 }
 
 // ---- a search
@@ -181,45 +226,60 @@ class Kinds {
 class Search {
   constructor() {
     this.going = null;
+    get("random").hidden = !start.can.random;
     get("solve").addEventListener("click", () => this.solve());
+    get("chances").hidden = !start.can.chances;
+    get("random").addEventListener("click", () => this.solve({ way: "one" }));
+    get("chances").addEventListener("click", () => this.solve({ what: "chances" }));
     get("stop").addEventListener("click", () => this.stop());
   }
 
-  request() {
+  request(more) {
     const limit = Math.min(Math.max(parseInt(get("limit").value, 10) || 1, 1), 1000);
     get("limit").value = limit;
     const asked = { what: "solve", limit, way: get("order").value, seconds: Number(get("seconds").value) };
-    if (!get("kinds").hidden) return { ...asked, ...kinds.request() };
-    const patterns = Object.fromEntries(["cell", "row", "column", "label"].map((name) => [name, get(name).value]));
-    return { ...asked, text: get("text").value, ...patterns };
+    return { ...asked, ...form.request(), ...more };
   }
 
-  async solve() {
+  // more: what is asked besides what is filled in.
+  async solve(more = {}) {
     this.stop();
     const going = (this.going = new AbortController());
     viewer.clear();
     this.ready(false);
+    document.body.classList.add("asked");
+    form.fold(true);
+    this.isWrong = false;
     tell("Searching ..");
     try {
-      for await (const lines of answered(this.request(), going.signal)) {
+      for await (const lines of answered(this.request(more), going.signal)) {
         if (this.going !== going) return;
         viewer.take(lines);
-        for (const line of lines) {
-          if (line.remarks) sheet.take(line.remarks);
-          if (line.error) tell(line.error, true);
-        }
+        lines.forEach((line) => this.hear(line));
       }
-      // Each answer ends with an end or an error.
-      if (get("state").textContent === "Searching ..") tell(viewer.ended ? "" : GONE, !viewer.ended);
+      // Each answer has an end or an error.
+      const isEnded = viewer.ended || viewer.chances;
+      if (!this.isWrong) tell(isEnded ? "" : GONE, !isEnded);
     } catch (error) {
       if (this.going === going) tell(told(error), true);
     }
-    if (this.going === going) {
-      this.going = null;
-      this.ready(true);
-      // One that was broken off told none, and why it was stands in the state.
-      if (viewer.solutions.length) viewer.end();
-    }
+    if (this.going === going) this.finish();
+  }
+
+  hear(line) {
+    if (line.remarks) form.sheet.take(line.remarks);
+    if (line.counting) tell("Counting all solutions ..");
+    if (!line.error) return;
+    this.isWrong = true;
+    tell(line.error, true);
+    form.fold(viewer.solutions.length > 0);
+  }
+
+  finish() {
+    this.going = null;
+    this.ready(true);
+    // One that was broken off told none, and why it was stands in the state.
+    if (viewer.solutions.length) viewer.end();
   }
 
   stop() {
@@ -237,28 +297,19 @@ class Search {
   }
 }
 
-function tell(text, isWrong = false) {
-  get("state").textContent = text;
-  get("state").classList.toggle("wrong", isWrong);
-}
-
-function told(error) {
-  return error instanceof TypeError ? GONE : error.message;
-}
-
-function show(isKind) {
-  get("as-kind").setAttribute("aria-pressed", isKind);
-  get("as-text").setAttribute("aria-pressed", !isKind);
-  get("kinds").hidden = !isKind;
-  get("texts").hidden = isKind;
+// A file of the solutions that were found, which stands alone.
+function savePage([before, between, behind]) {
+  const data = JSON.stringify(viewer.lines).replace(/[<>&]/g, (sign) => `\\u00${sign.charCodeAt(0).toString(16)}`);
+  const title = get("title").textContent.replace(/[<>&"]/g, (sign) => `&#${sign.charCodeAt(0)};`);
+  save(`${viewer.slug}.html`, "text/html", before + title + between + data + behind);
 }
 
 document.body.classList.add("local");
-const kinds = new Kinds(JSON.parse(get("data").textContent)[0]);
-const sheet = new Sheet();
+for (const [id, level] of [["title", 2], ["went", 3]]) get(id).setAttribute("aria-level", level);
+get("save-page").hidden = false;
+get("save-page").addEventListener("click", () => savePage(start.file));
+const form = new Form();
 const search = new Search();
-get("as-kind").addEventListener("click", () => show(true));
-get("as-text").addEventListener("click", () => show(false));
 addEventListener("keydown", (event) => {
   if (!event.ctrlKey && !event.metaKey) return;
   if (event.key === "Enter") search.solve();
@@ -266,4 +317,4 @@ addEventListener("keydown", (event) => {
   else return;
   event.preventDefault();
 });
-get("text").focus();
+if (!form.isKind && !isNarrow.matches) get("text").focus();

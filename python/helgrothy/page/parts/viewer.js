@@ -7,21 +7,31 @@ const ELEMENTS = new Set("svg g rect path text tspan line circle ellipse polygon
 const ATTRIBUTES = new Set(
   ("width height viewBox x y x1 y1 x2 y2 dx dy cx cy r rx ry d points transform fill fill-opacity fill-rule opacity " +
     "stroke stroke-width stroke-linecap stroke-linejoin stroke-opacity stroke-dasharray font-family font-size " +
-    "font-weight font-style text-anchor dominant-baseline").split(" "));
+    "font-weight font-style text-anchor dominant-baseline paint-order").split(" "));
 const MOST_STEPS = 2000;
-const MOST_WORDS = 200;
+// Of a longer option so many items are shown at first, and of forced steps one behind another fewer than so many.
+const MOST_WORDS = 8;
+const FOLDED = 3;
 const MOST_NAMES = 40;
+const SAVED_WITHIN = 60_000;
 const MOST_LINES = 30;
 
 const sentence = (text) => `${text[0].toUpperCase()}${text.slice(1).replace(/\.$/, "")}.`;
 const get = (id) => document.getElementById(id);
-const counted = (count, one, more = `${one}s`) => `${count.toLocaleString("en")} ${count === 1 ? one : more}`;
+const counted = (count, one, more = `${one}s`) => `${count.toLocaleString("en")} ${Number(count) === 1 ? one : more}`;
 
 function made(name, words = {}, ...within) {
   const element = document.createElement(name);
   Object.assign(element, words);
   element.append(...within);
   return element;
+}
+
+// Has the browser save a text as a file.
+function save(name, type, text) {
+  const href = URL.createObjectURL(new Blob([text], { type }));
+  made("a", { href, download: name }).click();
+  setTimeout(() => URL.revokeObjectURL(href), SAVED_WITHIN);
 }
 
 class Viewer {
@@ -43,6 +53,11 @@ class Viewer {
     this.held = new Map();
     this.elements = [];
     this.ended = null;
+    // How many solutions there are, if that was counted.
+    this.total = null;
+    // A picture of the shares of all solutions, if that was asked for.
+    this.chances = null;
+    this.lines = [];
     this.found = [];
     this.at = 0;
     get("filter").value = "";
@@ -56,9 +71,12 @@ class Viewer {
   take(lines) {
     const had = this.found.length;
     for (const told of lines) {
+      this.lines.push(told);
       if (told.problem) this.takeProblem(told.problem);
       if (told.solution) this.takeSolution(told.solution);
       if (told.end) this.ended = told.end;
+      if (told.count) this.total = BigInt(told.count);
+      if (told.chances) this.takeChances(told.chances);
     }
     if (!had || this.ended) this.refresh();
     else if (this.isAll) this.addCards();
@@ -72,9 +90,9 @@ class Viewer {
 
   takeProblem(problem) {
     this.problem = problem;
-    const secondary = problem.secondary ? `, ${counted(problem.secondary, "secondary one")}` : "";
-    get("size").textContent =
-      `${counted(problem.primary, "primary item")}${secondary}, ${counted(problem.options, "option")}, for ${problem.program}`;
+    const secondary = problem.secondary ? [counted(problem.secondary, "secondary one")] : [];
+    const size = [counted(problem.primary, "primary item"), ...secondary, counted(problem.options, "option")];
+    get("size").textContent = `${size.join(", ")}, for ${problem.program}`;
     const more = problem.more ? "\n.. and more, which isn't shown here" : "";
     get("given").textContent = problem.text.join("\n") + more;
     get("problem").hidden = false;
@@ -92,6 +110,13 @@ class Viewer {
     this.solutions.push(solution);
     if (solution.picture && get("title").textContent === "Solutions") this.name(solution);
     if (this.matches(solution)) this.found.push(solution.place);
+  }
+
+  takeChances(chances) {
+    for (const element of chances.elements) this.elements.push(element);
+    this.chances = chances;
+    this.name(chances);
+    this.refresh();
   }
 
   name(solution) {
@@ -146,8 +171,8 @@ class Viewer {
         if (names.size > MOST_NAMES) break;
       }
     }
-    const offered = [...names].slice(0, MOST_NAMES).map((name) => made("option", { value: text.slice(0, start) + name }));
-    get("names").replaceChildren(...offered);
+    const offered = [...names].slice(0, MOST_NAMES).map((name) => text.slice(0, start) + name);
+    get("names").replaceChildren(...offered.map((value) => made("option", { value })));
   }
 
   // Adds an item or an option to the filter, or takes it away.
@@ -163,13 +188,18 @@ class Viewer {
   refresh() {
     const any = this.found.length > 0;
     this.isAll = get("all").getAttribute("aria-pressed") === "true";
-    get("single").hidden = !any || this.isAll;
+    get("single").hidden = !this.chances && (!any || this.isAll);
+    get("way").hidden = this.chances !== null;
     get("glance").hidden = !any || !this.isAll;
     get("bar").hidden = this.solutions.length === 0;
-    get("none").hidden = any;
+    get("bar").classList.toggle("few", this.solutions.length < 2);
+    get("save").hidden = !any && !this.chances;
+    get("save-solutions").disabled = !any;
+    get("none").hidden = any || this.chances !== null;
     get("none").textContent = any ? "" : this.reason();
     if (any && this.isAll) this.showAll();
     else if (any) this.showOne();
+    if (this.chances) this.showPicture(this.chances, true);
     this.refreshCount();
   }
 
@@ -189,16 +219,20 @@ class Viewer {
     get("place").value = this.found.length ? this.at + 1 : 0;
     get("back").disabled = this.at <= 0;
     get("on").disabled = this.at >= this.found.length - 1;
+    get("save-picture").disabled = !(this.chances ?? this.solutions[this.found[this.at]])?.picture;
     get("summary").textContent = this.summary();
   }
 
   summary() {
     const all = this.solutions.length;
+    if (this.chances) return `Of ${counted(BigInt(this.chances.total), "solution")}, in percent.`;
     if (!all) return "";
-    const told = [counted(this.ended ? this.ended.total : all, "solution")];
+    const total = this.total ?? (this.ended ? this.ended.total : all);
+    const told = [counted(total, "solution")];
     if (!this.ended) told.push("and it searches on");
-    else if (all < this.ended.total) told.push(`${all.toLocaleString("en")} of them here`);
-    if (this.ended) told.push(this.ended.complete ? "all that there are" : "there may be more");
+    else if (all < total) told.push(`${all.toLocaleString("en")} of them here`);
+    if (this.ended?.complete || Number(this.total) === all) told.push("all that there are");
+    else if (this.ended && this.total === null) told.push("there may be more");
     const wanted = this.wanted().map((words) => words.join(" ")).join(" and ");
     if (wanted) told.push(`${this.found.length.toLocaleString("en")} with ${wanted}`);
     return [told.join("; "), ...(this.ended ? this.ended.notes : [])].filter(Boolean).map(sentence).join(" ");
@@ -206,35 +240,71 @@ class Viewer {
 
   showOne() {
     const solution = this.solutions[this.found[this.at]];
+    this.showPicture(solution, false);
+    this.showSteps(solution);
+  }
+
+  // isPaper: whether it is in the colours that it has on paper.
+  showPicture(solution, isPaper) {
     const picture = this.picture(solution);
     get("single").classList.toggle("plain", !picture);
-    get("picture").replaceChildren(...(picture ? [picture] : []));
+    get("picture").replaceChildren(...(picture ? [shaded(picture, isPaper)] : []));
     if (picture) {
       const [wide, high] = this.sizeOf(solution);
       picture.style.width = `min(100%, ${2 * wide}px, ${Math.round((70 * wide) / high)}vh)`;
     }
-    this.showSteps(solution);
   }
 
   showSteps(solution) {
     const steps = solution.steps;
-    const before = solution.place ? this.solutions[solution.place - 1] : null;
-    let same = 0;
-    if (before && before.number === solution.number - 1) {
-      while (same < steps.length && before.steps[same] && String(steps[same]) === String(before.steps[same])) same++;
-    }
+    const same = this.same(solution);
     const wanted = new Set(this.wanted().map((words) => words.join(" ")));
     const rows = steps.slice(0, MOST_STEPS).map((step, place) => this.row(step, place, same, wanted));
+    const shown = this.folded(rows, steps);
     if (steps.length > MOST_STEPS) {
-      rows.push(made("tr", {}, made("td"), made("td", { colSpan: 3, textContent: `and ${counted(steps.length - MOST_STEPS, "step")} more` })));
+      shown.push(this.across(`and ${counted(steps.length - MOST_STEPS, "step")} more`));
     }
-    get("steps").replaceChildren(...rows);
+    get("steps").replaceChildren(...shown);
     const isKnown = steps.some(([, , , branches]) => branches);
     get("way").classList.toggle("unknown", !isKnown);
     get("went").textContent = isKnown ? "How the search went to it" : "Its options";
     get("items").textContent = isKnown ? "Items, from the one at which it chose" : "Items";
     const way = isKnown ? this.way(solution, same) : `${counted(steps.length, "option")}.`;
     get("told").textContent = `Solution ${solution.number.toLocaleString("en")}: ${way}`;
+  }
+
+  // How many of its first steps are those of the solution before.
+  same(solution) {
+    const before = solution.place ? this.solutions[solution.place - 1] : null;
+    if (!before || before.number !== solution.number - 1) return 0;
+    const other = solution.steps.findIndex((step, place) => String(step) !== String(before.steps[place]));
+    return other < 0 ? solution.steps.length : other;
+  }
+
+  // The rows of steps, with those that are forced one behind another in a fold.
+  folded(rows, steps) {
+    const shown = [];
+    for (let start = 0, end = 0; start < rows.length; start = end) {
+      const isForced = (place) => steps[place][1] && steps[place][3] === 1;
+      for (end = start; end < rows.length && isForced(end); ) end++;
+      if (end - start >= FOLDED) shown.push(this.fold(rows.slice(start, end), start));
+      else shown.push(...rows.slice(start, (end = Math.max(end, start + 1))));
+    }
+    return shown;
+  }
+
+  fold(rows, start) {
+    const columns = ["step", "branch", "option"].map((className) => made("col", { className }));
+    const table = made("table", {}, made("colgroup", {}, ...columns, made("col")), made("tbody", {}, ...rows));
+    const name = `Steps ${start + 1} to ${start + rows.length}, each one forced`;
+    const fold = made("details", {}, made("summary", { textContent: name }), table);
+    fold.open = rows.some((row) => row.querySelector(".held"));
+    return this.across(fold);
+  }
+
+  // A row of one cell.
+  across(...within) {
+    return made("tr", { className: "across" }, made("td", { colSpan: 4 }, ...within));
   }
 
   way(solution, same) {
@@ -247,7 +317,8 @@ class Viewer {
     const choices = solution.steps.filter(([, , , branches]) => branches > 1).length;
     const chosen = choices ? `${counted(choices, "choice")} among branches` : "each one forced";
     const told = [`${counted(solution.steps.length, "step")}, ${chosen}`];
-    if (before > 0) {
+    // Of less than a hundredth of a percent nothing is to be seen.
+    if (before > 0.0001) {
       told.push(`by its branches about ${(100 * before).toFixed(before < 0.1 ? 2 : 1)} % of the search lies before it`);
     }
     if (same) told.push(`the first ${counted(same, "step")} as in solution ${solution.number - 1}`);
@@ -263,21 +334,34 @@ class Viewer {
     }
     const line = this.options.get(option);
     const number = this.button(`${option}`, line, "number", wanted.has(line), "only solutions with this option");
-    const words = line.split(" ");
-    const start = Math.max(words.indexOf(item), 0);
-    const turned = [...words.slice(start), ...words.slice(0, start)];
+    const turned = this.turned(item, option);
     const items = made("td", { className: "items" });
-    for (const word of turned.slice(0, MOST_WORDS)) {
-      items.append(this.button(word, word, "", wanted.has(word), "only solutions with this item"), " ");
-    }
-    if (turned.length > MOST_WORDS) items.append(`and ${turned.length - MOST_WORDS} more`);
+    const title = "only solutions with this item";
+    const buttons = turned.map((word) => this.button(word, word, "", wanted.has(word), title));
+    // To say that one or two more are left out takes as much room as these.
+    const most = buttons.length > MOST_WORDS + 2 ? MOST_WORDS : buttons.length;
+    items.append(...buttons.slice(0, most).flatMap((each) => [each, " "]));
+    if (most < buttons.length) items.append(this.rest(buttons.slice(most)));
     row.append(made("td", {}, number), items);
     return row;
+  }
+
+  // A button in the place of others, which come when it is pressed.
+  rest(buttons) {
+    const rest = made("button", { type: "button", className: "rest", textContent: `and ${buttons.length} more` });
+    const open = () => {
+      rest.replaceWith(...buttons.flatMap((each) => [each, " "]));
+      buttons[0].focus();
+    };
+    rest.addEventListener("click", open);
+    rest.classList.toggle("held", buttons.some((each) => each.classList.contains("held")));
+    return rest;
   }
 
   button(text, line, className, isHeld, title) {
     const button = made("button", { type: "button", className, title, textContent: text });
     button.classList.toggle("held", isHeld);
+    button.setAttribute("aria-pressed", isHeld);
     button.addEventListener("click", () => this.want(line));
     return button;
   }
@@ -333,7 +417,7 @@ class Viewer {
     for (const { target, isIntersecting } of cards) {
       const room = target.querySelector(".room");
       if (!isIntersecting) room.replaceChildren();
-      else if (!room.hasChildNodes()) room.append(this.picture(this.solutions[target.dataset.place]));
+      else if (!room.hasChildNodes()) room.append(shaded(this.picture(this.solutions[target.dataset.place])));
     }
   }
 
@@ -353,7 +437,8 @@ class Viewer {
     const [whole, ...parts] = solution.picture.map((number) => this.elements[number]);
     const picture = this.drawn(whole);
     picture.setAttribute("role", "img");
-    picture.setAttribute("aria-label", `${this.titleOf(solution)}, solution ${solution.number}`);
+    const number = solution.number ? `, solution ${solution.number}` : "";
+    picture.setAttribute("aria-label", `${this.titleOf(solution)}${number}`);
     for (const part of parts) {
       const element = this.drawn(part);
       if (element) picture.append(element);
@@ -370,6 +455,41 @@ class Viewer {
     if (typeof within === "string") element.textContent = within;
     else element.append(...within.map((part) => this.drawn(part)).filter(Boolean));
     return element;
+  }
+
+  // ---- what is saved
+
+  get slug() {
+    return get("title").textContent.toLowerCase().replace(/[^a-z0-9]+/g, "-").replace(/^(an?-)|-$/g, "");
+  }
+
+  savePicture() {
+    const solution = this.chances ?? this.solutions[this.found[this.at]];
+    const picture = this.picture(solution);
+    const title = document.createElementNS(picture.namespaceURI, "title");
+    title.textContent = picture.getAttribute("aria-label");
+    picture.prepend(title);
+    const number = solution.number ? `-${solution.number}` : "";
+    save(`${this.slug}${number}.svg`, "image/svg+xml", new XMLSerializer().serializeToString(picture));
+  }
+
+  // The solutions that are shown, as the programs list them.
+  saveSolutions() {
+    const lines = this.found.map((place) => this.solutions[place]).flatMap((solution) =>
+      [`${solution.number}:`, ...solution.steps.map((step) => this.listed(step))]);
+    save(`${this.slug}-solutions.txt`, "text/plain", lines.map((line) => `${line}\n`).join(""));
+  }
+
+  listed([item, option, branch, branches]) {
+    const words = option ? this.turned(item, option).join(" ") : `null ${item}`;
+    return ` ${words}${branches ? ` (${branch} of ${branches})` : ""}`;
+  }
+
+  // The words of an option from an item on.
+  turned(item, option) {
+    const words = this.options.get(option).split(" ");
+    const start = Math.max(words.indexOf(item), 0);
+    return [...words.slice(start), ...words.slice(0, start)];
   }
 
   // ---- what people do
@@ -401,6 +521,8 @@ class Viewer {
     get("place").addEventListener("change", () => this.go((parseInt(get("place").value, 10) || 1) - 1));
     get("place").addEventListener("focus", () => get("place").select());
     get("filter").addEventListener("input", () => this.filter());
+    get("save-picture").addEventListener("click", () => this.savePicture());
+    get("save-solutions").addEventListener("click", () => this.saveSolutions());
     get("help").addEventListener("click", () => get("keys").showModal());
     get("theme").addEventListener("click", turnTheme);
     addEventListener("keydown", (event) => this.press(event));
@@ -446,6 +568,44 @@ class Viewer {
 }
 
 // ---- light and dark
+
+// The colours of a picture on a dark page: lines and letters are light, and fills dark, each of its own hue and lighter
+// where it was lighter. Where a fill is grey or black, white and black mean something: such a picture stays as it is.
+const INK = /^#([0-9a-f]{3}|[0-9a-f]{6})$/i;
+const WHITE = "#fff";
+
+function channels(colour) {
+  const digits = colour.length === 4 ? colour.replace(/[^#]/g, "$&$&") : colour;
+  return [1, 3, 5].map((start) => parseInt(digits.slice(start, start + 2), 16) / 255);
+}
+
+const isGrey = (colour) => INK.test(colour) && Math.max(...channels(colour)) - Math.min(...channels(colour)) < 0.1;
+
+function dimmed(colour) {
+  if (!INK.test(colour)) return colour;
+  const [red, green, blue] = channels(colour);
+  const [most, least] = [Math.max(red, green, blue), Math.min(red, green, blue)];
+  const light = (most + least) / 2;
+  if (isGrey(colour)) return `hsl(0 0% ${Math.round(93 - 75 * light)}%)`;
+  const part = (one, other) => (60 * (one - other)) / (most - least);
+  const hue = most === red ? part(green, blue) : most === green ? 120 + part(blue, red) : 240 + part(red, green);
+  return `hsl(${Math.round(hue)} 45% ${Math.round(36 * light)}%)`;
+}
+
+// A picture with both its colours, of which the style shows one; its ground is that of the page.
+function shaded(picture, isPaper = false) {
+  const fills = [...picture.querySelectorAll("rect")].filter((part) => part.getAttribute("fill") !== WHITE);
+  picture.classList.toggle("paper", isPaper || fills.some((part) => isGrey(part.getAttribute("fill") ?? "")));
+  for (const part of picture.querySelectorAll("[fill], [stroke]")) {
+    for (const name of ["fill", "stroke"]) {
+      if (part.hasAttribute(name)) part.style.setProperty(`--${name}`, dimmed(part.getAttribute(name)));
+    }
+  }
+  const ground = picture.querySelector("rect");
+  const isAll = ground && ["width", "height"].every((side) => ground.getAttribute(side) === picture.getAttribute(side));
+  if (isAll && ground.getAttribute("fill") === WHITE) ground.classList.add("ground");
+  return picture;
+}
 
 const isSystemDark = matchMedia("(prefers-color-scheme: dark)");
 

@@ -1,0 +1,22 @@
+"""What the local page is told before anything is asked: its forms and examples, and what it can have."""
+
+from __future__ import annotations
+
+from typing import Any
+
+from ..problem import Problem
+from . import shares
+from .document import frame
+from .examples import examples, first_of
+from .file import BODIES, SCRIPTS
+from .forms import forms
+
+
+def start() -> dict[str, Any]:
+    """The kinds with their fields and examples, the parts of a file of solutions, and what the package can do."""
+    return {
+        "kinds": [{**form, "example": first_of(form["name"])} for form in forms()],
+        "examples": list(examples()),
+        "file": frame(BODIES, SCRIPTS),
+        "can": {"random": hasattr(Problem, "random"), "chances": shares.can_tell()},
+    }
