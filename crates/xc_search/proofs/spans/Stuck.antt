@@ -1,7 +1,7 @@
 -- Where each item that is left has branches, early choices were the branch items.
-use Rattle.std.proofs.Common.{ℕ, ◌≡◌, ◌≢◌, ◌≤◌, ◌-◌, true, false, List, [], ◌∷◌, Some, refl, sym, ap, ◌∙◌, arith}
+use Rattle.std.proofs.Common.{ℕ, ◌≡◌, ◌≢◌, ◌-◌, false, List, [], ◌∷◌, Some, refl, sym, ap, ◌∙◌, arith}
 use Rattle.std.proofs.Common.{inl, inr}
-use Rattle.std.specs.Prelude.{option_map, Contains}
+use Rattle.std.specs.Prelude.{option_map}
 use Rattle.xc_input.specs.Problem.{Puzzle, holds}
 use Rattle.xc_input.proofs.lists.Members.{IsIn, in-contains, contains-in, filter-in, in-map, in-slice_get}
 use Rattle.xc_dance.specs.declared.dance.Move.{Move}
