@@ -11,7 +11,7 @@ from pathlib import Path
 sys.path.insert(0, str(Path(__file__).resolve().parents[2] / "python"))
 
 from helgrothy import programs  # noqa: E402
-from helgrothy.counter import number  # noqa: E402
+from helgrothy.counter import read_number  # noqa: E402
 
 LAST_LINE = re.compile(r"Altogether (\d+) solutions?\.\n\Z")
 # What doesn't end in so many seconds never ends, whatever else the machine does.
@@ -28,7 +28,7 @@ class Said:
     @property
     def count(self) -> int | None:
         found = LAST_LINE.search(self.messages)
-        return number(found.group(1)) if found and self.status == 0 else None
+        return read_number(found.group(1)) if found and self.status == 0 else None
 
     def __str__(self) -> str:
         return f"status {self.status}, {self.messages.strip()[:80]!r}"
