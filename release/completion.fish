@@ -51,6 +51,7 @@ set -g __helgrothy_commands \
     'helgrothy make polyominoes' \
     'helgrothy make polycubes' \
     'helgrothy make words' \
+    'helgrothy make wordsearch' \
     'helgrothy make nonogram' \
     'helgrothy make kakuro' \
     'helgrothy make roster' \
@@ -76,6 +77,7 @@ set -g __helgrothy_commands \
     'helgrothy hint polyominoes' \
     'helgrothy hint polycubes' \
     'helgrothy hint words' \
+    'helgrothy hint wordsearch' \
     'helgrothy hint nonogram' \
     'helgrothy hint kakuro' \
     'helgrothy hint roster' \
@@ -91,6 +93,7 @@ set -g __helgrothy_commands \
     'helgrothy polyominoes' \
     'helgrothy polycubes' \
     'helgrothy words' \
+    'helgrothy wordsearch' \
     'helgrothy nonogram' \
     'helgrothy kakuro' \
     'helgrothy roster' \
@@ -101,11 +104,15 @@ set -g __helgrothy_commands \
 set -g __helgrothy_valued \
     'helgrothy make sudoku --regions' \
     'helgrothy make sudoku --cages' \
+    'helgrothy make wordsearch --fill' \
+    'helgrothy make roster --in-a-row' \
+    'helgrothy make roster --days-off' \
     'helgrothy make tests --tests' \
     'helgrothy make tests --strength' \
     'helgrothy make timetable --daily' \
     'helgrothy solve --number' \
     'helgrothy solve --limit' \
+    'helgrothy solve --seed' \
     'helgrothy solve --seconds' \
     'helgrothy solve --with' \
     'helgrothy solve --without' \
@@ -155,12 +162,18 @@ set -g __helgrothy_valued \
     'helgrothy hint words --with' \
     'helgrothy hint words --without' \
     'helgrothy hint words --seconds' \
+    'helgrothy hint wordsearch --fill' \
+    'helgrothy hint wordsearch --with' \
+    'helgrothy hint wordsearch --without' \
+    'helgrothy hint wordsearch --seconds' \
     'helgrothy hint nonogram --with' \
     'helgrothy hint nonogram --without' \
     'helgrothy hint nonogram --seconds' \
     'helgrothy hint kakuro --with' \
     'helgrothy hint kakuro --without' \
     'helgrothy hint kakuro --seconds' \
+    'helgrothy hint roster --in-a-row' \
+    'helgrothy hint roster --days-off' \
     'helgrothy hint roster --with' \
     'helgrothy hint roster --without' \
     'helgrothy hint roster --seconds' \
@@ -191,6 +204,7 @@ set -g __helgrothy_valued \
     'helgrothy sudoku --cages' \
     'helgrothy sudoku --number' \
     'helgrothy sudoku --limit' \
+    'helgrothy sudoku --seed' \
     'helgrothy sudoku --seconds' \
     'helgrothy sudoku --with' \
     'helgrothy sudoku --without' \
@@ -198,6 +212,7 @@ set -g __helgrothy_valued \
     'helgrothy sudoku --cost' \
     'helgrothy queens --number' \
     'helgrothy queens --limit' \
+    'helgrothy queens --seed' \
     'helgrothy queens --seconds' \
     'helgrothy queens --with' \
     'helgrothy queens --without' \
@@ -205,6 +220,7 @@ set -g __helgrothy_valued \
     'helgrothy queens --cost' \
     'helgrothy langford --number' \
     'helgrothy langford --limit' \
+    'helgrothy langford --seed' \
     'helgrothy langford --seconds' \
     'helgrothy langford --with' \
     'helgrothy langford --without' \
@@ -212,6 +228,7 @@ set -g __helgrothy_valued \
     'helgrothy langford --cost' \
     'helgrothy polyominoes --number' \
     'helgrothy polyominoes --limit' \
+    'helgrothy polyominoes --seed' \
     'helgrothy polyominoes --seconds' \
     'helgrothy polyominoes --with' \
     'helgrothy polyominoes --without' \
@@ -219,6 +236,7 @@ set -g __helgrothy_valued \
     'helgrothy polyominoes --cost' \
     'helgrothy polycubes --number' \
     'helgrothy polycubes --limit' \
+    'helgrothy polycubes --seed' \
     'helgrothy polycubes --seconds' \
     'helgrothy polycubes --with' \
     'helgrothy polycubes --without' \
@@ -226,13 +244,24 @@ set -g __helgrothy_valued \
     'helgrothy polycubes --cost' \
     'helgrothy words --number' \
     'helgrothy words --limit' \
+    'helgrothy words --seed' \
     'helgrothy words --seconds' \
     'helgrothy words --with' \
     'helgrothy words --without' \
     'helgrothy words --shuffle' \
     'helgrothy words --cost' \
+    'helgrothy wordsearch --fill' \
+    'helgrothy wordsearch --number' \
+    'helgrothy wordsearch --limit' \
+    'helgrothy wordsearch --seed' \
+    'helgrothy wordsearch --seconds' \
+    'helgrothy wordsearch --with' \
+    'helgrothy wordsearch --without' \
+    'helgrothy wordsearch --shuffle' \
+    'helgrothy wordsearch --cost' \
     'helgrothy nonogram --number' \
     'helgrothy nonogram --limit' \
+    'helgrothy nonogram --seed' \
     'helgrothy nonogram --seconds' \
     'helgrothy nonogram --with' \
     'helgrothy nonogram --without' \
@@ -240,13 +269,17 @@ set -g __helgrothy_valued \
     'helgrothy nonogram --cost' \
     'helgrothy kakuro --number' \
     'helgrothy kakuro --limit' \
+    'helgrothy kakuro --seed' \
     'helgrothy kakuro --seconds' \
     'helgrothy kakuro --with' \
     'helgrothy kakuro --without' \
     'helgrothy kakuro --shuffle' \
     'helgrothy kakuro --cost' \
+    'helgrothy roster --in-a-row' \
+    'helgrothy roster --days-off' \
     'helgrothy roster --number' \
     'helgrothy roster --limit' \
+    'helgrothy roster --seed' \
     'helgrothy roster --seconds' \
     'helgrothy roster --with' \
     'helgrothy roster --without' \
@@ -254,6 +287,7 @@ set -g __helgrothy_valued \
     'helgrothy roster --cost' \
     'helgrothy roundrobin --number' \
     'helgrothy roundrobin --limit' \
+    'helgrothy roundrobin --seed' \
     'helgrothy roundrobin --seconds' \
     'helgrothy roundrobin --with' \
     'helgrothy roundrobin --without' \
@@ -263,6 +297,7 @@ set -g __helgrothy_valued \
     'helgrothy tests --strength' \
     'helgrothy tests --number' \
     'helgrothy tests --limit' \
+    'helgrothy tests --seed' \
     'helgrothy tests --seconds' \
     'helgrothy tests --with' \
     'helgrothy tests --without' \
@@ -271,6 +306,7 @@ set -g __helgrothy_valued \
     'helgrothy timetable --daily' \
     'helgrothy timetable --number' \
     'helgrothy timetable --limit' \
+    'helgrothy timetable --seed' \
     'helgrothy timetable --seconds' \
     'helgrothy timetable --with' \
     'helgrothy timetable --without' \
@@ -311,6 +347,7 @@ complete -c helgrothy -n '__helgrothy_is \'helgrothy\' 1' -a langford -d 'make a
 complete -c helgrothy -n '__helgrothy_is \'helgrothy\' 1' -a polyominoes -d 'make and solve pieces of squares that fill a region'
 complete -c helgrothy -n '__helgrothy_is \'helgrothy\' 1' -a polycubes -d 'make and solve pieces of cubes that fill a box'
 complete -c helgrothy -n '__helgrothy_is \'helgrothy\' 1' -a words -d 'make and solve words across and down in a grid'
+complete -c helgrothy -n '__helgrothy_is \'helgrothy\' 1' -a wordsearch -d 'make and solve words of a list hidden in a grid of letters'
 complete -c helgrothy -n '__helgrothy_is \'helgrothy\' 1' -a nonogram -d 'make and solve a nonogram from its clues'
 complete -c helgrothy -n '__helgrothy_is \'helgrothy\' 1' -a kakuro -d 'make and solve a Kakuro from its grid'
 complete -c helgrothy -n '__helgrothy_is \'helgrothy\' 1' -a roster -d 'make and solve shifts of people on days'
@@ -324,6 +361,7 @@ complete -c helgrothy -n '__helgrothy_is \'helgrothy make\' 1' -a langford -d 'L
 complete -c helgrothy -n '__helgrothy_is \'helgrothy make\' 1' -a polyominoes -d 'pieces of squares that fill a region'
 complete -c helgrothy -n '__helgrothy_is \'helgrothy make\' 1' -a polycubes -d 'pieces of cubes that fill a box'
 complete -c helgrothy -n '__helgrothy_is \'helgrothy make\' 1' -a words -d 'words across and down in a grid'
+complete -c helgrothy -n '__helgrothy_is \'helgrothy make\' 1' -a wordsearch -d 'words of a list hidden in a grid of letters'
 complete -c helgrothy -n '__helgrothy_is \'helgrothy make\' 1' -a nonogram -d 'a nonogram from its clues'
 complete -c helgrothy -n '__helgrothy_is \'helgrothy make\' 1' -a kakuro -d 'a Kakuro from its grid'
 complete -c helgrothy -n '__helgrothy_is \'helgrothy make\' 1' -a roster -d 'shifts of people on days'
@@ -333,19 +371,26 @@ complete -c helgrothy -n '__helgrothy_is \'helgrothy make\' 1' -a timetable -d '
 complete -c helgrothy -n '__helgrothy_is \'helgrothy make sudoku\'' -s h -l help -d 'show this help message and exit'
 complete -c helgrothy -n '__helgrothy_is \'helgrothy make sudoku\'' -l regions -r -F -d 'a file with a picture of the regions, a letter for each place'
 complete -c helgrothy -n '__helgrothy_is \'helgrothy make sudoku\'' -l cages -r -F -d 'a file with a line for each cage, its sum and its places (12 r1c1 r1c2); or with a picture, a letter for each place, and after a blank line the sums (a=12 b=7)'
+complete -c helgrothy -n '__helgrothy_is \'helgrothy make sudoku\'' -l diagonals -d 'each of the two long diagonals has each digit too'
 complete -c helgrothy -n '__helgrothy_is \'helgrothy make queens\'' -s h -l help -d 'show this help message and exit'
 complete -c helgrothy -n '__helgrothy_is \'helgrothy make langford\'' -s h -l help -d 'show this help message and exit'
 complete -c helgrothy -n '__helgrothy_is \'helgrothy make polyominoes\'' -s h -l help -d 'show this help message and exit'
 complete -c helgrothy -n '__helgrothy_is \'helgrothy make polyominoes\'' -l no-turns -d 'pieces may not be turned'
 complete -c helgrothy -n '__helgrothy_is \'helgrothy make polyominoes\'' -l no-mirrors -d 'pieces may not be mirrored'
+complete -c helgrothy -n '__helgrothy_is \'helgrothy make polyominoes\'' -l some -d 'pieces may be left over'
 complete -c helgrothy -n '__helgrothy_is \'helgrothy make polycubes\'' -s h -l help -d 'show this help message and exit'
 complete -c helgrothy -n '__helgrothy_is \'helgrothy make polycubes\'' -l mirrors -d 'mirror images of pieces may be used too'
 complete -c helgrothy -n '__helgrothy_is \'helgrothy make polycubes\'' -l some -d 'pieces may be left over'
 complete -c helgrothy -n '__helgrothy_is \'helgrothy make words\'' -s h -l help -d 'show this help message and exit'
+complete -c helgrothy -n '__helgrothy_is \'helgrothy make wordsearch\'' -s h -l help -d 'show this help message and exit'
+complete -c helgrothy -n '__helgrothy_is \'helgrothy make wordsearch\'' -l forwards -d 'no word is written to the left or straight up'
+complete -c helgrothy -n '__helgrothy_is \'helgrothy make wordsearch\'' -l fill -r -f -d 'letters in the free squares too, the same for the same number'
 complete -c helgrothy -n '__helgrothy_is \'helgrothy make nonogram\'' -s h -l help -d 'show this help message and exit'
 complete -c helgrothy -n '__helgrothy_is \'helgrothy make kakuro\'' -s h -l help -d 'show this help message and exit'
 complete -c helgrothy -n '__helgrothy_is \'helgrothy make roster\'' -s h -l help -d 'show this help message and exit'
 complete -c helgrothy -n '__helgrothy_is \'helgrothy make roster\'' -l rest -d 'no shift on the next day that stands higher in the table'
+complete -c helgrothy -n '__helgrothy_is \'helgrothy make roster\'' -l in-a-row -r -f -d 'nobody works more than N days in a row'
+complete -c helgrothy -n '__helgrothy_is \'helgrothy make roster\'' -l days-off -r -f -d 'everybody has N days off together, once at least'
 complete -c helgrothy -n '__helgrothy_is \'helgrothy make roundrobin\'' -s h -l help -d 'show this help message and exit'
 complete -c helgrothy -n '__helgrothy_is \'helgrothy make roundrobin\'' -l double -d 'each two teams meet twice, once at each one\'s home'
 complete -c helgrothy -n '__helgrothy_is \'helgrothy make tests\'' -s h -l help -d 'show this help message and exit'
@@ -355,14 +400,17 @@ complete -c helgrothy -n '__helgrothy_is \'helgrothy make timetable\'' -s h -l h
 complete -c helgrothy -n '__helgrothy_is \'helgrothy make timetable\'' -l daily -r -f -d 'nobody has more than N lessons a day'
 complete -c helgrothy -n '__helgrothy_is \'helgrothy solve\'' -s h -l help -d 'show this help message and exit'
 complete -c helgrothy -n '__helgrothy_is \'helgrothy solve\'' -l number -r -f -d 'the K-th solution instead of the first'
+complete -c helgrothy -n '__helgrothy_is \'helgrothy solve\'' -l random -d 'one of all solutions, each as likely as any other'
 complete -c helgrothy -n '__helgrothy_is \'helgrothy solve\'' -l limit -r -f -d 'the first N solutions'
 complete -c helgrothy -n '__helgrothy_is \'helgrothy solve\'' -l all -d 'all solutions'
 complete -c helgrothy -n '__helgrothy_is \'helgrothy solve\'' -l count -d 'only how many solutions there are'
+complete -c helgrothy -n '__helgrothy_is \'helgrothy solve\'' -l chances -d 'in how many percent of all solutions each cell has what, or, without a picture, each option is chosen'
 complete -c helgrothy -n '__helgrothy_is \'helgrothy solve\'' -l unique -d 'whether there is exactly one solution; if not, two'
 complete -c helgrothy -n '__helgrothy_is \'helgrothy solve\'' -l svg -d 'a picture as SVG, of one solution'
 complete -c helgrothy -n '__helgrothy_is \'helgrothy solve\'' -l html -d 'a page for a browser: the solutions, their pictures, and the search\'s way'
 complete -c helgrothy -n '__helgrothy_is \'helgrothy solve\'' -l json -d 'a line of JSON for each solution: its number, the numbers of its options, their items, and the colours'
 complete -c helgrothy -n '__helgrothy_is \'helgrothy solve\'' -l csv -d 'a table as CSV, with a line for each choice'
+complete -c helgrothy -n '__helgrothy_is \'helgrothy solve\'' -l seed -r -f -d 'of --random: the same solution for the same number'
 complete -c helgrothy -n '__helgrothy_is \'helgrothy solve\'' -l seconds -r -f -d 'give up after S seconds'
 complete -c helgrothy -n '__helgrothy_is \'helgrothy solve\'' -l with -r -f -d 'only solutions with the option that has these items, as many as it takes to be clear; may be repeated'
 complete -c helgrothy -n '__helgrothy_is \'helgrothy solve\'' -l without -r -f -d 'only solutions without the options that have all of these items, or patterns of them; may be repeated'
@@ -418,6 +466,7 @@ complete -c helgrothy -n '__helgrothy_is \'helgrothy hint\' 1' -a langford -d 'L
 complete -c helgrothy -n '__helgrothy_is \'helgrothy hint\' 1' -a polyominoes -d 'pieces of squares that fill a region'
 complete -c helgrothy -n '__helgrothy_is \'helgrothy hint\' 1' -a polycubes -d 'pieces of cubes that fill a box'
 complete -c helgrothy -n '__helgrothy_is \'helgrothy hint\' 1' -a words -d 'words across and down in a grid'
+complete -c helgrothy -n '__helgrothy_is \'helgrothy hint\' 1' -a wordsearch -d 'words of a list hidden in a grid of letters'
 complete -c helgrothy -n '__helgrothy_is \'helgrothy hint\' 1' -a nonogram -d 'a nonogram from its clues'
 complete -c helgrothy -n '__helgrothy_is \'helgrothy hint\' 1' -a kakuro -d 'a Kakuro from its grid'
 complete -c helgrothy -n '__helgrothy_is \'helgrothy hint\' 1' -a roster -d 'shifts of people on days'
@@ -427,6 +476,7 @@ complete -c helgrothy -n '__helgrothy_is \'helgrothy hint\' 1' -a timetable -d '
 complete -c helgrothy -n '__helgrothy_is \'helgrothy hint sudoku\'' -s h -l help -d 'show this help message and exit'
 complete -c helgrothy -n '__helgrothy_is \'helgrothy hint sudoku\'' -l regions -r -F -d 'a file with a picture of the regions, a letter for each place'
 complete -c helgrothy -n '__helgrothy_is \'helgrothy hint sudoku\'' -l cages -r -F -d 'a file with a line for each cage, its sum and its places (12 r1c1 r1c2); or with a picture, a letter for each place, and after a blank line the sums (a=12 b=7)'
+complete -c helgrothy -n '__helgrothy_is \'helgrothy hint sudoku\'' -l diagonals -d 'each of the two long diagonals has each digit too'
 complete -c helgrothy -n '__helgrothy_is \'helgrothy hint sudoku\'' -l with -r -f -d 'only solutions with the option that has these items, as many as it takes to be clear; may be repeated'
 complete -c helgrothy -n '__helgrothy_is \'helgrothy hint sudoku\'' -l without -r -f -d 'only solutions without the options that have all of these items, or patterns of them; may be repeated'
 complete -c helgrothy -n '__helgrothy_is \'helgrothy hint sudoku\'' -l seconds -r -f -d 'the time (default: 5)'
@@ -441,6 +491,7 @@ complete -c helgrothy -n '__helgrothy_is \'helgrothy hint langford\'' -l seconds
 complete -c helgrothy -n '__helgrothy_is \'helgrothy hint polyominoes\'' -s h -l help -d 'show this help message and exit'
 complete -c helgrothy -n '__helgrothy_is \'helgrothy hint polyominoes\'' -l no-turns -d 'pieces may not be turned'
 complete -c helgrothy -n '__helgrothy_is \'helgrothy hint polyominoes\'' -l no-mirrors -d 'pieces may not be mirrored'
+complete -c helgrothy -n '__helgrothy_is \'helgrothy hint polyominoes\'' -l some -d 'pieces may be left over'
 complete -c helgrothy -n '__helgrothy_is \'helgrothy hint polyominoes\'' -l with -r -f -d 'only solutions with the option that has these items, as many as it takes to be clear; may be repeated'
 complete -c helgrothy -n '__helgrothy_is \'helgrothy hint polyominoes\'' -l without -r -f -d 'only solutions without the options that have all of these items, or patterns of them; may be repeated'
 complete -c helgrothy -n '__helgrothy_is \'helgrothy hint polyominoes\'' -l seconds -r -f -d 'the time (default: 5)'
@@ -454,6 +505,12 @@ complete -c helgrothy -n '__helgrothy_is \'helgrothy hint words\'' -s h -l help 
 complete -c helgrothy -n '__helgrothy_is \'helgrothy hint words\'' -l with -r -f -d 'only solutions with the option that has these items, as many as it takes to be clear; may be repeated'
 complete -c helgrothy -n '__helgrothy_is \'helgrothy hint words\'' -l without -r -f -d 'only solutions without the options that have all of these items, or patterns of them; may be repeated'
 complete -c helgrothy -n '__helgrothy_is \'helgrothy hint words\'' -l seconds -r -f -d 'the time (default: 5)'
+complete -c helgrothy -n '__helgrothy_is \'helgrothy hint wordsearch\'' -s h -l help -d 'show this help message and exit'
+complete -c helgrothy -n '__helgrothy_is \'helgrothy hint wordsearch\'' -l forwards -d 'no word is written to the left or straight up'
+complete -c helgrothy -n '__helgrothy_is \'helgrothy hint wordsearch\'' -l fill -r -f -d 'letters in the free squares too, the same for the same number'
+complete -c helgrothy -n '__helgrothy_is \'helgrothy hint wordsearch\'' -l with -r -f -d 'only solutions with the option that has these items, as many as it takes to be clear; may be repeated'
+complete -c helgrothy -n '__helgrothy_is \'helgrothy hint wordsearch\'' -l without -r -f -d 'only solutions without the options that have all of these items, or patterns of them; may be repeated'
+complete -c helgrothy -n '__helgrothy_is \'helgrothy hint wordsearch\'' -l seconds -r -f -d 'the time (default: 5)'
 complete -c helgrothy -n '__helgrothy_is \'helgrothy hint nonogram\'' -s h -l help -d 'show this help message and exit'
 complete -c helgrothy -n '__helgrothy_is \'helgrothy hint nonogram\'' -l with -r -f -d 'only solutions with the option that has these items, as many as it takes to be clear; may be repeated'
 complete -c helgrothy -n '__helgrothy_is \'helgrothy hint nonogram\'' -l without -r -f -d 'only solutions without the options that have all of these items, or patterns of them; may be repeated'
@@ -464,6 +521,8 @@ complete -c helgrothy -n '__helgrothy_is \'helgrothy hint kakuro\'' -l without -
 complete -c helgrothy -n '__helgrothy_is \'helgrothy hint kakuro\'' -l seconds -r -f -d 'the time (default: 5)'
 complete -c helgrothy -n '__helgrothy_is \'helgrothy hint roster\'' -s h -l help -d 'show this help message and exit'
 complete -c helgrothy -n '__helgrothy_is \'helgrothy hint roster\'' -l rest -d 'no shift on the next day that stands higher in the table'
+complete -c helgrothy -n '__helgrothy_is \'helgrothy hint roster\'' -l in-a-row -r -f -d 'nobody works more than N days in a row'
+complete -c helgrothy -n '__helgrothy_is \'helgrothy hint roster\'' -l days-off -r -f -d 'everybody has N days off together, once at least'
 complete -c helgrothy -n '__helgrothy_is \'helgrothy hint roster\'' -l with -r -f -d 'only solutions with the option that has these items, as many as it takes to be clear; may be repeated'
 complete -c helgrothy -n '__helgrothy_is \'helgrothy hint roster\'' -l without -r -f -d 'only solutions without the options that have all of these items, or patterns of them; may be repeated'
 complete -c helgrothy -n '__helgrothy_is \'helgrothy hint roster\'' -l seconds -r -f -d 'the time (default: 5)'
@@ -492,6 +551,7 @@ complete -c helgrothy -n '__helgrothy_is \'helgrothy minimal\' 1' -a kakuro -d '
 complete -c helgrothy -n '__helgrothy_is \'helgrothy minimal sudoku\'' -s h -l help -d 'show this help message and exit'
 complete -c helgrothy -n '__helgrothy_is \'helgrothy minimal sudoku\'' -l regions -r -F -d 'a file with a picture of the regions, a letter for each place'
 complete -c helgrothy -n '__helgrothy_is \'helgrothy minimal sudoku\'' -l cages -r -F -d 'a file with a line for each cage, its sum and its places (12 r1c1 r1c2); or with a picture, a letter for each place, and after a blank line the sums (a=12 b=7)'
+complete -c helgrothy -n '__helgrothy_is \'helgrothy minimal sudoku\'' -l diagonals -d 'each of the two long diagonals has each digit too'
 complete -c helgrothy -n '__helgrothy_is \'helgrothy minimal sudoku\'' -l with -r -f -d 'of a problem: the option with these items is given; may be repeated (default: all of a random solution)'
 complete -c helgrothy -n '__helgrothy_is \'helgrothy minimal sudoku\'' -l seed -r -f -d 'the random order (default: 0)'
 complete -c helgrothy -n '__helgrothy_is \'helgrothy minimal sudoku\'' -l seconds -r -f -d 'the time (default: 30)'
@@ -502,15 +562,19 @@ complete -c helgrothy -n '__helgrothy_is \'helgrothy minimal kakuro\'' -l second
 complete -c helgrothy -n '__helgrothy_is \'helgrothy sudoku\'' -s h -l help -d 'show this help message and exit'
 complete -c helgrothy -n '__helgrothy_is \'helgrothy sudoku\'' -l regions -r -F -d 'a file with a picture of the regions, a letter for each place'
 complete -c helgrothy -n '__helgrothy_is \'helgrothy sudoku\'' -l cages -r -F -d 'a file with a line for each cage, its sum and its places (12 r1c1 r1c2); or with a picture, a letter for each place, and after a blank line the sums (a=12 b=7)'
+complete -c helgrothy -n '__helgrothy_is \'helgrothy sudoku\'' -l diagonals -d 'each of the two long diagonals has each digit too'
 complete -c helgrothy -n '__helgrothy_is \'helgrothy sudoku\'' -l number -r -f -d 'the K-th solution instead of the first'
+complete -c helgrothy -n '__helgrothy_is \'helgrothy sudoku\'' -l random -d 'one of all solutions, each as likely as any other'
 complete -c helgrothy -n '__helgrothy_is \'helgrothy sudoku\'' -l limit -r -f -d 'the first N solutions'
 complete -c helgrothy -n '__helgrothy_is \'helgrothy sudoku\'' -l all -d 'all solutions'
 complete -c helgrothy -n '__helgrothy_is \'helgrothy sudoku\'' -l count -d 'only how many solutions there are'
+complete -c helgrothy -n '__helgrothy_is \'helgrothy sudoku\'' -l chances -d 'in how many percent of all solutions each cell has what, or, without a picture, each option is chosen'
 complete -c helgrothy -n '__helgrothy_is \'helgrothy sudoku\'' -l unique -d 'whether there is exactly one solution; if not, two'
 complete -c helgrothy -n '__helgrothy_is \'helgrothy sudoku\'' -l svg -d 'a picture as SVG, of one solution'
 complete -c helgrothy -n '__helgrothy_is \'helgrothy sudoku\'' -l html -d 'a page for a browser: the solutions, their pictures, and the search\'s way'
 complete -c helgrothy -n '__helgrothy_is \'helgrothy sudoku\'' -l json -d 'a line of JSON for each solution: its number, the numbers of its options, their items, and the colours'
 complete -c helgrothy -n '__helgrothy_is \'helgrothy sudoku\'' -l csv -d 'a table as CSV, with a line for each choice'
+complete -c helgrothy -n '__helgrothy_is \'helgrothy sudoku\'' -l seed -r -f -d 'of --random: the same solution for the same number'
 complete -c helgrothy -n '__helgrothy_is \'helgrothy sudoku\'' -l seconds -r -f -d 'give up after S seconds'
 complete -c helgrothy -n '__helgrothy_is \'helgrothy sudoku\'' -l with -r -f -d 'only solutions with the option that has these items, as many as it takes to be clear; may be repeated'
 complete -c helgrothy -n '__helgrothy_is \'helgrothy sudoku\'' -l without -r -f -d 'only solutions without the options that have all of these items, or patterns of them; may be repeated'
@@ -519,14 +583,17 @@ complete -c helgrothy -n '__helgrothy_is \'helgrothy sudoku\'' -l up-to-symmetry
 complete -c helgrothy -n '__helgrothy_is \'helgrothy sudoku\'' -l cost -r -F -d 'the solution of least cost, from a file: lines of names of items (or patterns) and a number, which each option that has them costs, or a number for each option; by clasp where the path has it, else by dlx3'
 complete -c helgrothy -n '__helgrothy_is \'helgrothy queens\'' -s h -l help -d 'show this help message and exit'
 complete -c helgrothy -n '__helgrothy_is \'helgrothy queens\'' -l number -r -f -d 'the K-th solution instead of the first'
+complete -c helgrothy -n '__helgrothy_is \'helgrothy queens\'' -l random -d 'one of all solutions, each as likely as any other'
 complete -c helgrothy -n '__helgrothy_is \'helgrothy queens\'' -l limit -r -f -d 'the first N solutions'
 complete -c helgrothy -n '__helgrothy_is \'helgrothy queens\'' -l all -d 'all solutions'
 complete -c helgrothy -n '__helgrothy_is \'helgrothy queens\'' -l count -d 'only how many solutions there are'
+complete -c helgrothy -n '__helgrothy_is \'helgrothy queens\'' -l chances -d 'in how many percent of all solutions each cell has what, or, without a picture, each option is chosen'
 complete -c helgrothy -n '__helgrothy_is \'helgrothy queens\'' -l unique -d 'whether there is exactly one solution; if not, two'
 complete -c helgrothy -n '__helgrothy_is \'helgrothy queens\'' -l svg -d 'a picture as SVG, of one solution'
 complete -c helgrothy -n '__helgrothy_is \'helgrothy queens\'' -l html -d 'a page for a browser: the solutions, their pictures, and the search\'s way'
 complete -c helgrothy -n '__helgrothy_is \'helgrothy queens\'' -l json -d 'a line of JSON for each solution: its number, the numbers of its options, their items, and the colours'
 complete -c helgrothy -n '__helgrothy_is \'helgrothy queens\'' -l csv -d 'a table as CSV, with a line for each choice'
+complete -c helgrothy -n '__helgrothy_is \'helgrothy queens\'' -l seed -r -f -d 'of --random: the same solution for the same number'
 complete -c helgrothy -n '__helgrothy_is \'helgrothy queens\'' -l seconds -r -f -d 'give up after S seconds'
 complete -c helgrothy -n '__helgrothy_is \'helgrothy queens\'' -l with -r -f -d 'only solutions with the option that has these items, as many as it takes to be clear; may be repeated'
 complete -c helgrothy -n '__helgrothy_is \'helgrothy queens\'' -l without -r -f -d 'only solutions without the options that have all of these items, or patterns of them; may be repeated'
@@ -535,14 +602,17 @@ complete -c helgrothy -n '__helgrothy_is \'helgrothy queens\'' -l up-to-symmetry
 complete -c helgrothy -n '__helgrothy_is \'helgrothy queens\'' -l cost -r -F -d 'the solution of least cost, from a file: lines of names of items (or patterns) and a number, which each option that has them costs, or a number for each option; by clasp where the path has it, else by dlx3'
 complete -c helgrothy -n '__helgrothy_is \'helgrothy langford\'' -s h -l help -d 'show this help message and exit'
 complete -c helgrothy -n '__helgrothy_is \'helgrothy langford\'' -l number -r -f -d 'the K-th solution instead of the first'
+complete -c helgrothy -n '__helgrothy_is \'helgrothy langford\'' -l random -d 'one of all solutions, each as likely as any other'
 complete -c helgrothy -n '__helgrothy_is \'helgrothy langford\'' -l limit -r -f -d 'the first N solutions'
 complete -c helgrothy -n '__helgrothy_is \'helgrothy langford\'' -l all -d 'all solutions'
 complete -c helgrothy -n '__helgrothy_is \'helgrothy langford\'' -l count -d 'only how many solutions there are'
+complete -c helgrothy -n '__helgrothy_is \'helgrothy langford\'' -l chances -d 'in how many percent of all solutions each cell has what, or, without a picture, each option is chosen'
 complete -c helgrothy -n '__helgrothy_is \'helgrothy langford\'' -l unique -d 'whether there is exactly one solution; if not, two'
 complete -c helgrothy -n '__helgrothy_is \'helgrothy langford\'' -l svg -d 'a picture as SVG, of one solution'
 complete -c helgrothy -n '__helgrothy_is \'helgrothy langford\'' -l html -d 'a page for a browser: the solutions, their pictures, and the search\'s way'
 complete -c helgrothy -n '__helgrothy_is \'helgrothy langford\'' -l json -d 'a line of JSON for each solution: its number, the numbers of its options, their items, and the colours'
 complete -c helgrothy -n '__helgrothy_is \'helgrothy langford\'' -l csv -d 'a table as CSV, with a line for each choice'
+complete -c helgrothy -n '__helgrothy_is \'helgrothy langford\'' -l seed -r -f -d 'of --random: the same solution for the same number'
 complete -c helgrothy -n '__helgrothy_is \'helgrothy langford\'' -l seconds -r -f -d 'give up after S seconds'
 complete -c helgrothy -n '__helgrothy_is \'helgrothy langford\'' -l with -r -f -d 'only solutions with the option that has these items, as many as it takes to be clear; may be repeated'
 complete -c helgrothy -n '__helgrothy_is \'helgrothy langford\'' -l without -r -f -d 'only solutions without the options that have all of these items, or patterns of them; may be repeated'
@@ -552,15 +622,19 @@ complete -c helgrothy -n '__helgrothy_is \'helgrothy langford\'' -l cost -r -F -
 complete -c helgrothy -n '__helgrothy_is \'helgrothy polyominoes\'' -s h -l help -d 'show this help message and exit'
 complete -c helgrothy -n '__helgrothy_is \'helgrothy polyominoes\'' -l no-turns -d 'pieces may not be turned'
 complete -c helgrothy -n '__helgrothy_is \'helgrothy polyominoes\'' -l no-mirrors -d 'pieces may not be mirrored'
+complete -c helgrothy -n '__helgrothy_is \'helgrothy polyominoes\'' -l some -d 'pieces may be left over'
 complete -c helgrothy -n '__helgrothy_is \'helgrothy polyominoes\'' -l number -r -f -d 'the K-th solution instead of the first'
+complete -c helgrothy -n '__helgrothy_is \'helgrothy polyominoes\'' -l random -d 'one of all solutions, each as likely as any other'
 complete -c helgrothy -n '__helgrothy_is \'helgrothy polyominoes\'' -l limit -r -f -d 'the first N solutions'
 complete -c helgrothy -n '__helgrothy_is \'helgrothy polyominoes\'' -l all -d 'all solutions'
 complete -c helgrothy -n '__helgrothy_is \'helgrothy polyominoes\'' -l count -d 'only how many solutions there are'
+complete -c helgrothy -n '__helgrothy_is \'helgrothy polyominoes\'' -l chances -d 'in how many percent of all solutions each cell has what, or, without a picture, each option is chosen'
 complete -c helgrothy -n '__helgrothy_is \'helgrothy polyominoes\'' -l unique -d 'whether there is exactly one solution; if not, two'
 complete -c helgrothy -n '__helgrothy_is \'helgrothy polyominoes\'' -l svg -d 'a picture as SVG, of one solution'
 complete -c helgrothy -n '__helgrothy_is \'helgrothy polyominoes\'' -l html -d 'a page for a browser: the solutions, their pictures, and the search\'s way'
 complete -c helgrothy -n '__helgrothy_is \'helgrothy polyominoes\'' -l json -d 'a line of JSON for each solution: its number, the numbers of its options, their items, and the colours'
 complete -c helgrothy -n '__helgrothy_is \'helgrothy polyominoes\'' -l csv -d 'a table as CSV, with a line for each choice'
+complete -c helgrothy -n '__helgrothy_is \'helgrothy polyominoes\'' -l seed -r -f -d 'of --random: the same solution for the same number'
 complete -c helgrothy -n '__helgrothy_is \'helgrothy polyominoes\'' -l seconds -r -f -d 'give up after S seconds'
 complete -c helgrothy -n '__helgrothy_is \'helgrothy polyominoes\'' -l with -r -f -d 'only solutions with the option that has these items, as many as it takes to be clear; may be repeated'
 complete -c helgrothy -n '__helgrothy_is \'helgrothy polyominoes\'' -l without -r -f -d 'only solutions without the options that have all of these items, or patterns of them; may be repeated'
@@ -571,14 +645,17 @@ complete -c helgrothy -n '__helgrothy_is \'helgrothy polycubes\'' -s h -l help -
 complete -c helgrothy -n '__helgrothy_is \'helgrothy polycubes\'' -l mirrors -d 'mirror images of pieces may be used too'
 complete -c helgrothy -n '__helgrothy_is \'helgrothy polycubes\'' -l some -d 'pieces may be left over'
 complete -c helgrothy -n '__helgrothy_is \'helgrothy polycubes\'' -l number -r -f -d 'the K-th solution instead of the first'
+complete -c helgrothy -n '__helgrothy_is \'helgrothy polycubes\'' -l random -d 'one of all solutions, each as likely as any other'
 complete -c helgrothy -n '__helgrothy_is \'helgrothy polycubes\'' -l limit -r -f -d 'the first N solutions'
 complete -c helgrothy -n '__helgrothy_is \'helgrothy polycubes\'' -l all -d 'all solutions'
 complete -c helgrothy -n '__helgrothy_is \'helgrothy polycubes\'' -l count -d 'only how many solutions there are'
+complete -c helgrothy -n '__helgrothy_is \'helgrothy polycubes\'' -l chances -d 'in how many percent of all solutions each cell has what, or, without a picture, each option is chosen'
 complete -c helgrothy -n '__helgrothy_is \'helgrothy polycubes\'' -l unique -d 'whether there is exactly one solution; if not, two'
 complete -c helgrothy -n '__helgrothy_is \'helgrothy polycubes\'' -l svg -d 'a picture as SVG, of one solution'
 complete -c helgrothy -n '__helgrothy_is \'helgrothy polycubes\'' -l html -d 'a page for a browser: the solutions, their pictures, and the search\'s way'
 complete -c helgrothy -n '__helgrothy_is \'helgrothy polycubes\'' -l json -d 'a line of JSON for each solution: its number, the numbers of its options, their items, and the colours'
 complete -c helgrothy -n '__helgrothy_is \'helgrothy polycubes\'' -l csv -d 'a table as CSV, with a line for each choice'
+complete -c helgrothy -n '__helgrothy_is \'helgrothy polycubes\'' -l seed -r -f -d 'of --random: the same solution for the same number'
 complete -c helgrothy -n '__helgrothy_is \'helgrothy polycubes\'' -l seconds -r -f -d 'give up after S seconds'
 complete -c helgrothy -n '__helgrothy_is \'helgrothy polycubes\'' -l with -r -f -d 'only solutions with the option that has these items, as many as it takes to be clear; may be repeated'
 complete -c helgrothy -n '__helgrothy_is \'helgrothy polycubes\'' -l without -r -f -d 'only solutions without the options that have all of these items, or patterns of them; may be repeated'
@@ -587,30 +664,57 @@ complete -c helgrothy -n '__helgrothy_is \'helgrothy polycubes\'' -l up-to-symme
 complete -c helgrothy -n '__helgrothy_is \'helgrothy polycubes\'' -l cost -r -F -d 'the solution of least cost, from a file: lines of names of items (or patterns) and a number, which each option that has them costs, or a number for each option; by clasp where the path has it, else by dlx3'
 complete -c helgrothy -n '__helgrothy_is \'helgrothy words\'' -s h -l help -d 'show this help message and exit'
 complete -c helgrothy -n '__helgrothy_is \'helgrothy words\'' -l number -r -f -d 'the K-th solution instead of the first'
+complete -c helgrothy -n '__helgrothy_is \'helgrothy words\'' -l random -d 'one of all solutions, each as likely as any other'
 complete -c helgrothy -n '__helgrothy_is \'helgrothy words\'' -l limit -r -f -d 'the first N solutions'
 complete -c helgrothy -n '__helgrothy_is \'helgrothy words\'' -l all -d 'all solutions'
 complete -c helgrothy -n '__helgrothy_is \'helgrothy words\'' -l count -d 'only how many solutions there are'
+complete -c helgrothy -n '__helgrothy_is \'helgrothy words\'' -l chances -d 'in how many percent of all solutions each cell has what, or, without a picture, each option is chosen'
 complete -c helgrothy -n '__helgrothy_is \'helgrothy words\'' -l unique -d 'whether there is exactly one solution; if not, two'
 complete -c helgrothy -n '__helgrothy_is \'helgrothy words\'' -l svg -d 'a picture as SVG, of one solution'
 complete -c helgrothy -n '__helgrothy_is \'helgrothy words\'' -l html -d 'a page for a browser: the solutions, their pictures, and the search\'s way'
 complete -c helgrothy -n '__helgrothy_is \'helgrothy words\'' -l json -d 'a line of JSON for each solution: its number, the numbers of its options, their items, and the colours'
 complete -c helgrothy -n '__helgrothy_is \'helgrothy words\'' -l csv -d 'a table as CSV, with a line for each choice'
+complete -c helgrothy -n '__helgrothy_is \'helgrothy words\'' -l seed -r -f -d 'of --random: the same solution for the same number'
 complete -c helgrothy -n '__helgrothy_is \'helgrothy words\'' -l seconds -r -f -d 'give up after S seconds'
 complete -c helgrothy -n '__helgrothy_is \'helgrothy words\'' -l with -r -f -d 'only solutions with the option that has these items, as many as it takes to be clear; may be repeated'
 complete -c helgrothy -n '__helgrothy_is \'helgrothy words\'' -l without -r -f -d 'only solutions without the options that have all of these items, or patterns of them; may be repeated'
 complete -c helgrothy -n '__helgrothy_is \'helgrothy words\'' -l shuffle -r -f -d 'solutions in a random order of the options, the same for the same number'
 complete -c helgrothy -n '__helgrothy_is \'helgrothy words\'' -l up-to-symmetry -d 'one solution of those that are images of each other by turns and mirrors of the board or box'
 complete -c helgrothy -n '__helgrothy_is \'helgrothy words\'' -l cost -r -F -d 'the solution of least cost, from a file: lines of names of items (or patterns) and a number, which each option that has them costs, or a number for each option; by clasp where the path has it, else by dlx3'
+complete -c helgrothy -n '__helgrothy_is \'helgrothy wordsearch\'' -s h -l help -d 'show this help message and exit'
+complete -c helgrothy -n '__helgrothy_is \'helgrothy wordsearch\'' -l forwards -d 'no word is written to the left or straight up'
+complete -c helgrothy -n '__helgrothy_is \'helgrothy wordsearch\'' -l fill -r -f -d 'letters in the free squares too, the same for the same number'
+complete -c helgrothy -n '__helgrothy_is \'helgrothy wordsearch\'' -l number -r -f -d 'the K-th solution instead of the first'
+complete -c helgrothy -n '__helgrothy_is \'helgrothy wordsearch\'' -l random -d 'one of all solutions, each as likely as any other'
+complete -c helgrothy -n '__helgrothy_is \'helgrothy wordsearch\'' -l limit -r -f -d 'the first N solutions'
+complete -c helgrothy -n '__helgrothy_is \'helgrothy wordsearch\'' -l all -d 'all solutions'
+complete -c helgrothy -n '__helgrothy_is \'helgrothy wordsearch\'' -l count -d 'only how many solutions there are'
+complete -c helgrothy -n '__helgrothy_is \'helgrothy wordsearch\'' -l chances -d 'in how many percent of all solutions each cell has what, or, without a picture, each option is chosen'
+complete -c helgrothy -n '__helgrothy_is \'helgrothy wordsearch\'' -l unique -d 'whether there is exactly one solution; if not, two'
+complete -c helgrothy -n '__helgrothy_is \'helgrothy wordsearch\'' -l svg -d 'a picture as SVG, of one solution'
+complete -c helgrothy -n '__helgrothy_is \'helgrothy wordsearch\'' -l html -d 'a page for a browser: the solutions, their pictures, and the search\'s way'
+complete -c helgrothy -n '__helgrothy_is \'helgrothy wordsearch\'' -l json -d 'a line of JSON for each solution: its number, the numbers of its options, their items, and the colours'
+complete -c helgrothy -n '__helgrothy_is \'helgrothy wordsearch\'' -l csv -d 'a table as CSV, with a line for each choice'
+complete -c helgrothy -n '__helgrothy_is \'helgrothy wordsearch\'' -l seed -r -f -d 'of --random: the same solution for the same number'
+complete -c helgrothy -n '__helgrothy_is \'helgrothy wordsearch\'' -l seconds -r -f -d 'give up after S seconds'
+complete -c helgrothy -n '__helgrothy_is \'helgrothy wordsearch\'' -l with -r -f -d 'only solutions with the option that has these items, as many as it takes to be clear; may be repeated'
+complete -c helgrothy -n '__helgrothy_is \'helgrothy wordsearch\'' -l without -r -f -d 'only solutions without the options that have all of these items, or patterns of them; may be repeated'
+complete -c helgrothy -n '__helgrothy_is \'helgrothy wordsearch\'' -l shuffle -r -f -d 'solutions in a random order of the options, the same for the same number'
+complete -c helgrothy -n '__helgrothy_is \'helgrothy wordsearch\'' -l up-to-symmetry -d 'one solution of those that are images of each other by turns and mirrors of the board or box'
+complete -c helgrothy -n '__helgrothy_is \'helgrothy wordsearch\'' -l cost -r -F -d 'the solution of least cost, from a file: lines of names of items (or patterns) and a number, which each option that has them costs, or a number for each option; by clasp where the path has it, else by dlx3'
 complete -c helgrothy -n '__helgrothy_is \'helgrothy nonogram\'' -s h -l help -d 'show this help message and exit'
 complete -c helgrothy -n '__helgrothy_is \'helgrothy nonogram\'' -l number -r -f -d 'the K-th solution instead of the first'
+complete -c helgrothy -n '__helgrothy_is \'helgrothy nonogram\'' -l random -d 'one of all solutions, each as likely as any other'
 complete -c helgrothy -n '__helgrothy_is \'helgrothy nonogram\'' -l limit -r -f -d 'the first N solutions'
 complete -c helgrothy -n '__helgrothy_is \'helgrothy nonogram\'' -l all -d 'all solutions'
 complete -c helgrothy -n '__helgrothy_is \'helgrothy nonogram\'' -l count -d 'only how many solutions there are'
+complete -c helgrothy -n '__helgrothy_is \'helgrothy nonogram\'' -l chances -d 'in how many percent of all solutions each cell has what, or, without a picture, each option is chosen'
 complete -c helgrothy -n '__helgrothy_is \'helgrothy nonogram\'' -l unique -d 'whether there is exactly one solution; if not, two'
 complete -c helgrothy -n '__helgrothy_is \'helgrothy nonogram\'' -l svg -d 'a picture as SVG, of one solution'
 complete -c helgrothy -n '__helgrothy_is \'helgrothy nonogram\'' -l html -d 'a page for a browser: the solutions, their pictures, and the search\'s way'
 complete -c helgrothy -n '__helgrothy_is \'helgrothy nonogram\'' -l json -d 'a line of JSON for each solution: its number, the numbers of its options, their items, and the colours'
 complete -c helgrothy -n '__helgrothy_is \'helgrothy nonogram\'' -l csv -d 'a table as CSV, with a line for each choice'
+complete -c helgrothy -n '__helgrothy_is \'helgrothy nonogram\'' -l seed -r -f -d 'of --random: the same solution for the same number'
 complete -c helgrothy -n '__helgrothy_is \'helgrothy nonogram\'' -l seconds -r -f -d 'give up after S seconds'
 complete -c helgrothy -n '__helgrothy_is \'helgrothy nonogram\'' -l with -r -f -d 'only solutions with the option that has these items, as many as it takes to be clear; may be repeated'
 complete -c helgrothy -n '__helgrothy_is \'helgrothy nonogram\'' -l without -r -f -d 'only solutions without the options that have all of these items, or patterns of them; may be repeated'
@@ -619,14 +723,17 @@ complete -c helgrothy -n '__helgrothy_is \'helgrothy nonogram\'' -l up-to-symmet
 complete -c helgrothy -n '__helgrothy_is \'helgrothy nonogram\'' -l cost -r -F -d 'the solution of least cost, from a file: lines of names of items (or patterns) and a number, which each option that has them costs, or a number for each option; by clasp where the path has it, else by dlx3'
 complete -c helgrothy -n '__helgrothy_is \'helgrothy kakuro\'' -s h -l help -d 'show this help message and exit'
 complete -c helgrothy -n '__helgrothy_is \'helgrothy kakuro\'' -l number -r -f -d 'the K-th solution instead of the first'
+complete -c helgrothy -n '__helgrothy_is \'helgrothy kakuro\'' -l random -d 'one of all solutions, each as likely as any other'
 complete -c helgrothy -n '__helgrothy_is \'helgrothy kakuro\'' -l limit -r -f -d 'the first N solutions'
 complete -c helgrothy -n '__helgrothy_is \'helgrothy kakuro\'' -l all -d 'all solutions'
 complete -c helgrothy -n '__helgrothy_is \'helgrothy kakuro\'' -l count -d 'only how many solutions there are'
+complete -c helgrothy -n '__helgrothy_is \'helgrothy kakuro\'' -l chances -d 'in how many percent of all solutions each cell has what, or, without a picture, each option is chosen'
 complete -c helgrothy -n '__helgrothy_is \'helgrothy kakuro\'' -l unique -d 'whether there is exactly one solution; if not, two'
 complete -c helgrothy -n '__helgrothy_is \'helgrothy kakuro\'' -l svg -d 'a picture as SVG, of one solution'
 complete -c helgrothy -n '__helgrothy_is \'helgrothy kakuro\'' -l html -d 'a page for a browser: the solutions, their pictures, and the search\'s way'
 complete -c helgrothy -n '__helgrothy_is \'helgrothy kakuro\'' -l json -d 'a line of JSON for each solution: its number, the numbers of its options, their items, and the colours'
 complete -c helgrothy -n '__helgrothy_is \'helgrothy kakuro\'' -l csv -d 'a table as CSV, with a line for each choice'
+complete -c helgrothy -n '__helgrothy_is \'helgrothy kakuro\'' -l seed -r -f -d 'of --random: the same solution for the same number'
 complete -c helgrothy -n '__helgrothy_is \'helgrothy kakuro\'' -l seconds -r -f -d 'give up after S seconds'
 complete -c helgrothy -n '__helgrothy_is \'helgrothy kakuro\'' -l with -r -f -d 'only solutions with the option that has these items, as many as it takes to be clear; may be repeated'
 complete -c helgrothy -n '__helgrothy_is \'helgrothy kakuro\'' -l without -r -f -d 'only solutions without the options that have all of these items, or patterns of them; may be repeated'
@@ -635,15 +742,20 @@ complete -c helgrothy -n '__helgrothy_is \'helgrothy kakuro\'' -l up-to-symmetry
 complete -c helgrothy -n '__helgrothy_is \'helgrothy kakuro\'' -l cost -r -F -d 'the solution of least cost, from a file: lines of names of items (or patterns) and a number, which each option that has them costs, or a number for each option; by clasp where the path has it, else by dlx3'
 complete -c helgrothy -n '__helgrothy_is \'helgrothy roster\'' -s h -l help -d 'show this help message and exit'
 complete -c helgrothy -n '__helgrothy_is \'helgrothy roster\'' -l rest -d 'no shift on the next day that stands higher in the table'
+complete -c helgrothy -n '__helgrothy_is \'helgrothy roster\'' -l in-a-row -r -f -d 'nobody works more than N days in a row'
+complete -c helgrothy -n '__helgrothy_is \'helgrothy roster\'' -l days-off -r -f -d 'everybody has N days off together, once at least'
 complete -c helgrothy -n '__helgrothy_is \'helgrothy roster\'' -l number -r -f -d 'the K-th solution instead of the first'
+complete -c helgrothy -n '__helgrothy_is \'helgrothy roster\'' -l random -d 'one of all solutions, each as likely as any other'
 complete -c helgrothy -n '__helgrothy_is \'helgrothy roster\'' -l limit -r -f -d 'the first N solutions'
 complete -c helgrothy -n '__helgrothy_is \'helgrothy roster\'' -l all -d 'all solutions'
 complete -c helgrothy -n '__helgrothy_is \'helgrothy roster\'' -l count -d 'only how many solutions there are'
+complete -c helgrothy -n '__helgrothy_is \'helgrothy roster\'' -l chances -d 'in how many percent of all solutions each cell has what, or, without a picture, each option is chosen'
 complete -c helgrothy -n '__helgrothy_is \'helgrothy roster\'' -l unique -d 'whether there is exactly one solution; if not, two'
 complete -c helgrothy -n '__helgrothy_is \'helgrothy roster\'' -l svg -d 'a picture as SVG, of one solution'
 complete -c helgrothy -n '__helgrothy_is \'helgrothy roster\'' -l html -d 'a page for a browser: the solutions, their pictures, and the search\'s way'
 complete -c helgrothy -n '__helgrothy_is \'helgrothy roster\'' -l json -d 'a line of JSON for each solution: its number, the numbers of its options, their items, and the colours'
 complete -c helgrothy -n '__helgrothy_is \'helgrothy roster\'' -l csv -d 'a table as CSV, with a line for each choice'
+complete -c helgrothy -n '__helgrothy_is \'helgrothy roster\'' -l seed -r -f -d 'of --random: the same solution for the same number'
 complete -c helgrothy -n '__helgrothy_is \'helgrothy roster\'' -l seconds -r -f -d 'give up after S seconds'
 complete -c helgrothy -n '__helgrothy_is \'helgrothy roster\'' -l with -r -f -d 'only solutions with the option that has these items, as many as it takes to be clear; may be repeated'
 complete -c helgrothy -n '__helgrothy_is \'helgrothy roster\'' -l without -r -f -d 'only solutions without the options that have all of these items, or patterns of them; may be repeated'
@@ -653,14 +765,17 @@ complete -c helgrothy -n '__helgrothy_is \'helgrothy roster\'' -l cost -r -F -d 
 complete -c helgrothy -n '__helgrothy_is \'helgrothy roundrobin\'' -s h -l help -d 'show this help message and exit'
 complete -c helgrothy -n '__helgrothy_is \'helgrothy roundrobin\'' -l double -d 'each two teams meet twice, once at each one\'s home'
 complete -c helgrothy -n '__helgrothy_is \'helgrothy roundrobin\'' -l number -r -f -d 'the K-th solution instead of the first'
+complete -c helgrothy -n '__helgrothy_is \'helgrothy roundrobin\'' -l random -d 'one of all solutions, each as likely as any other'
 complete -c helgrothy -n '__helgrothy_is \'helgrothy roundrobin\'' -l limit -r -f -d 'the first N solutions'
 complete -c helgrothy -n '__helgrothy_is \'helgrothy roundrobin\'' -l all -d 'all solutions'
 complete -c helgrothy -n '__helgrothy_is \'helgrothy roundrobin\'' -l count -d 'only how many solutions there are'
+complete -c helgrothy -n '__helgrothy_is \'helgrothy roundrobin\'' -l chances -d 'in how many percent of all solutions each cell has what, or, without a picture, each option is chosen'
 complete -c helgrothy -n '__helgrothy_is \'helgrothy roundrobin\'' -l unique -d 'whether there is exactly one solution; if not, two'
 complete -c helgrothy -n '__helgrothy_is \'helgrothy roundrobin\'' -l svg -d 'a picture as SVG, of one solution'
 complete -c helgrothy -n '__helgrothy_is \'helgrothy roundrobin\'' -l html -d 'a page for a browser: the solutions, their pictures, and the search\'s way'
 complete -c helgrothy -n '__helgrothy_is \'helgrothy roundrobin\'' -l json -d 'a line of JSON for each solution: its number, the numbers of its options, their items, and the colours'
 complete -c helgrothy -n '__helgrothy_is \'helgrothy roundrobin\'' -l csv -d 'a table as CSV, with a line for each choice'
+complete -c helgrothy -n '__helgrothy_is \'helgrothy roundrobin\'' -l seed -r -f -d 'of --random: the same solution for the same number'
 complete -c helgrothy -n '__helgrothy_is \'helgrothy roundrobin\'' -l seconds -r -f -d 'give up after S seconds'
 complete -c helgrothy -n '__helgrothy_is \'helgrothy roundrobin\'' -l with -r -f -d 'only solutions with the option that has these items, as many as it takes to be clear; may be repeated'
 complete -c helgrothy -n '__helgrothy_is \'helgrothy roundrobin\'' -l without -r -f -d 'only solutions without the options that have all of these items, or patterns of them; may be repeated'
@@ -672,14 +787,17 @@ complete -c helgrothy -n '__helgrothy_is \'helgrothy tests\'' -l tests -r -f -d 
 complete -c helgrothy -n '__helgrothy_is \'helgrothy tests\'' -l strength -r -f -d 'the values of any T factors come together (default: 2)'
 complete -c helgrothy -n '__helgrothy_is \'helgrothy tests\'' -l least -d 'as few tests as are found, in some ten seconds of a processor or else in the time of --seconds'
 complete -c helgrothy -n '__helgrothy_is \'helgrothy tests\'' -l number -r -f -d 'the K-th solution instead of the first'
+complete -c helgrothy -n '__helgrothy_is \'helgrothy tests\'' -l random -d 'one of all solutions, each as likely as any other'
 complete -c helgrothy -n '__helgrothy_is \'helgrothy tests\'' -l limit -r -f -d 'the first N solutions'
 complete -c helgrothy -n '__helgrothy_is \'helgrothy tests\'' -l all -d 'all solutions'
 complete -c helgrothy -n '__helgrothy_is \'helgrothy tests\'' -l count -d 'only how many solutions there are'
+complete -c helgrothy -n '__helgrothy_is \'helgrothy tests\'' -l chances -d 'in how many percent of all solutions each cell has what, or, without a picture, each option is chosen'
 complete -c helgrothy -n '__helgrothy_is \'helgrothy tests\'' -l unique -d 'whether there is exactly one solution; if not, two'
 complete -c helgrothy -n '__helgrothy_is \'helgrothy tests\'' -l svg -d 'a picture as SVG, of one solution'
 complete -c helgrothy -n '__helgrothy_is \'helgrothy tests\'' -l html -d 'a page for a browser: the solutions, their pictures, and the search\'s way'
 complete -c helgrothy -n '__helgrothy_is \'helgrothy tests\'' -l json -d 'a line of JSON for each solution: its number, the numbers of its options, their items, and the colours'
 complete -c helgrothy -n '__helgrothy_is \'helgrothy tests\'' -l csv -d 'a table as CSV, with a line for each choice'
+complete -c helgrothy -n '__helgrothy_is \'helgrothy tests\'' -l seed -r -f -d 'of --random: the same solution for the same number'
 complete -c helgrothy -n '__helgrothy_is \'helgrothy tests\'' -l seconds -r -f -d 'give up after S seconds'
 complete -c helgrothy -n '__helgrothy_is \'helgrothy tests\'' -l with -r -f -d 'only solutions with the option that has these items, as many as it takes to be clear; may be repeated'
 complete -c helgrothy -n '__helgrothy_is \'helgrothy tests\'' -l without -r -f -d 'only solutions without the options that have all of these items, or patterns of them; may be repeated'
@@ -689,14 +807,17 @@ complete -c helgrothy -n '__helgrothy_is \'helgrothy tests\'' -l cost -r -F -d '
 complete -c helgrothy -n '__helgrothy_is \'helgrothy timetable\'' -s h -l help -d 'show this help message and exit'
 complete -c helgrothy -n '__helgrothy_is \'helgrothy timetable\'' -l daily -r -f -d 'nobody has more than N lessons a day'
 complete -c helgrothy -n '__helgrothy_is \'helgrothy timetable\'' -l number -r -f -d 'the K-th solution instead of the first'
+complete -c helgrothy -n '__helgrothy_is \'helgrothy timetable\'' -l random -d 'one of all solutions, each as likely as any other'
 complete -c helgrothy -n '__helgrothy_is \'helgrothy timetable\'' -l limit -r -f -d 'the first N solutions'
 complete -c helgrothy -n '__helgrothy_is \'helgrothy timetable\'' -l all -d 'all solutions'
 complete -c helgrothy -n '__helgrothy_is \'helgrothy timetable\'' -l count -d 'only how many solutions there are'
+complete -c helgrothy -n '__helgrothy_is \'helgrothy timetable\'' -l chances -d 'in how many percent of all solutions each cell has what, or, without a picture, each option is chosen'
 complete -c helgrothy -n '__helgrothy_is \'helgrothy timetable\'' -l unique -d 'whether there is exactly one solution; if not, two'
 complete -c helgrothy -n '__helgrothy_is \'helgrothy timetable\'' -l svg -d 'a picture as SVG, of one solution'
 complete -c helgrothy -n '__helgrothy_is \'helgrothy timetable\'' -l html -d 'a page for a browser: the solutions, their pictures, and the search\'s way'
 complete -c helgrothy -n '__helgrothy_is \'helgrothy timetable\'' -l json -d 'a line of JSON for each solution: its number, the numbers of its options, their items, and the colours'
 complete -c helgrothy -n '__helgrothy_is \'helgrothy timetable\'' -l csv -d 'a table as CSV, with a line for each choice'
+complete -c helgrothy -n '__helgrothy_is \'helgrothy timetable\'' -l seed -r -f -d 'of --random: the same solution for the same number'
 complete -c helgrothy -n '__helgrothy_is \'helgrothy timetable\'' -l seconds -r -f -d 'give up after S seconds'
 complete -c helgrothy -n '__helgrothy_is \'helgrothy timetable\'' -l with -r -f -d 'only solutions with the option that has these items, as many as it takes to be clear; may be repeated'
 complete -c helgrothy -n '__helgrothy_is \'helgrothy timetable\'' -l without -r -f -d 'only solutions without the options that have all of these items, or patterns of them; may be repeated'
@@ -722,6 +843,8 @@ complete -c helgrothy -n '__helgrothy_is \'helgrothy make polycubes\' 1' -F -a '
 complete -c helgrothy -n '__helgrothy_is \'helgrothy make polycubes\' 2' -F
 complete -c helgrothy -n '__helgrothy_is \'helgrothy make words\' 1' -F
 complete -c helgrothy -n '__helgrothy_is \'helgrothy make words\' 2' -F
+complete -c helgrothy -n '__helgrothy_is \'helgrothy make wordsearch\' 1' -F
+complete -c helgrothy -n '__helgrothy_is \'helgrothy make wordsearch\' 2' -F
 complete -c helgrothy -n '__helgrothy_is \'helgrothy make nonogram\' 1' -F
 complete -c helgrothy -n '__helgrothy_is \'helgrothy make kakuro\' 1' -F
 complete -c helgrothy -n '__helgrothy_is \'helgrothy make roster\' 1' -F
@@ -749,6 +872,8 @@ complete -c helgrothy -n '__helgrothy_is \'helgrothy hint polycubes\' 1' -F -a '
 complete -c helgrothy -n '__helgrothy_is \'helgrothy hint polycubes\' 2' -F
 complete -c helgrothy -n '__helgrothy_is \'helgrothy hint words\' 1' -F
 complete -c helgrothy -n '__helgrothy_is \'helgrothy hint words\' 2' -F
+complete -c helgrothy -n '__helgrothy_is \'helgrothy hint wordsearch\' 1' -F
+complete -c helgrothy -n '__helgrothy_is \'helgrothy hint wordsearch\' 2' -F
 complete -c helgrothy -n '__helgrothy_is \'helgrothy hint nonogram\' 1' -F
 complete -c helgrothy -n '__helgrothy_is \'helgrothy hint kakuro\' 1' -F
 complete -c helgrothy -n '__helgrothy_is \'helgrothy hint roster\' 1' -F
@@ -765,6 +890,8 @@ complete -c helgrothy -n '__helgrothy_is \'helgrothy polycubes\' 1' -F -a 'penta
 complete -c helgrothy -n '__helgrothy_is \'helgrothy polycubes\' 2' -F
 complete -c helgrothy -n '__helgrothy_is \'helgrothy words\' 1' -F
 complete -c helgrothy -n '__helgrothy_is \'helgrothy words\' 2' -F
+complete -c helgrothy -n '__helgrothy_is \'helgrothy wordsearch\' 1' -F
+complete -c helgrothy -n '__helgrothy_is \'helgrothy wordsearch\' 2' -F
 complete -c helgrothy -n '__helgrothy_is \'helgrothy nonogram\' 1' -F
 complete -c helgrothy -n '__helgrothy_is \'helgrothy kakuro\' 1' -F
 complete -c helgrothy -n '__helgrothy_is \'helgrothy roster\' 1' -F

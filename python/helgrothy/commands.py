@@ -163,7 +163,7 @@ def _add_which(parser: argparse.ArgumentParser) -> None:
     which.add_argument(
         "--chances",
         action="store_true",
-        help="the share of all solutions in which a cell of the picture has what it has, or an option is",
+        help="in how many percent of all solutions each cell has what, or, without a picture, each option is chosen",
     )
     which.add_argument("--unique", action="store_true", help="whether there is exactly one solution; if not, two")
 
