@@ -4,8 +4,8 @@ use fixtures::{ALONE, COLOURED, SEVEN, SMALL, THREE_ALIKE, TWICE, on_problem};
 use natural::{Natural, parse};
 use std::alloc::Global;
 use std::test::Fail;
-use xc_count::{CountError, nth};
-use xc_dance::Links;
+use xc_count::nth;
+use xc_dance::{Links, Memory};
 use xc_input::{Kind, Problem};
 use xc_search::{Choice, Search, Step};
 
@@ -30,7 +30,7 @@ const PROBLEMS: [(Kind, &[u8]); 9] = [
 ];
 
 /// Whether a solution is this one.
-fn is_same(found: Result<Option<Vec<Choice>>, CountError>, wanted: Option<&[Choice]>) -> bool {
+fn is_same(found: Result<Option<Vec<Choice>>, Memory>, wanted: Option<&[Choice]>) -> bool {
     match found {
         Ok(Some(found)) => wanted.is_some_and(|wanted| found.as_slice() == wanted),
         Ok(None) => wanted.is_none(),
