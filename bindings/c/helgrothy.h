@@ -30,7 +30,7 @@ enum {
     HELGROTHY_DONE = 0,      /* all solutions were counted or listed; the text has no fault */
     HELGROTHY_NO_KIND = 1,   /* `kind` is not 1, 2 or 3 */
     HELGROTHY_FAULT = 2,     /* the text has a fault */
-    HELGROTHY_NO_ROOM = 3,   /* the listing is longer than the buffer, which holds its beginning */
+    HELGROTHY_NO_ROOM = 3,   /* the listing or the number is longer than the buffer, which holds its beginning */
     HELGROTHY_NO_MEMORY = 4, /* malloc gave no memory */
     HELGROTHY_LIMIT = 5      /* there are as many solutions as the limit, and perhaps more */
 };
@@ -70,6 +70,12 @@ static inline const char *helgrothy_fault_text(uint32_t fault) {
 /* How many solutions there are, up to the limit; 0 where nothing was searched. */
 uint32_t helgrothy_count(uint32_t kind, const void *text, size_t length, uint64_t seed, uint64_t limit,
                          uint64_t *count);
+
+/* How many solutions there are, whatever their number, in decimal and without a NUL at its end: by a count of states
+   that take at most about so many bytes, beside a search of all solutions, as `dlx-count` does. Its first digits stand
+   in the buffer, as many as `used` says; the rest of the buffer is as it was. */
+uint32_t helgrothy_total(uint32_t kind, const void *text, size_t length, uint64_t seed, size_t bytes, void *buffer,
+                         size_t room, size_t *used);
 
 /* The listing, as the programs print it: each solution whose number `spacing` divides, none for 0, up to the limit. Its
    first bytes stand in the buffer, as many as `used` says; the rest of the buffer is as it was. It takes as much memory

@@ -25,6 +25,9 @@ TEXT = (c_uint32, c_char_p, c_size_t, c_uint64)
 helgrothy_version = CFUNCTYPE(c_uint32)(("helgrothy_version", library))
 helgrothy_fault = CFUNCTYPE(c_uint32, *TEXT, POINTER(c_uint64), POINTER(c_uint32))(("helgrothy_fault", library))
 helgrothy_count = CFUNCTYPE(c_uint32, *TEXT, c_uint64, POINTER(c_uint64))(("helgrothy_count", library))
+helgrothy_total = CFUNCTYPE(c_uint32, *TEXT, c_size_t, c_void_p, c_size_t, POINTER(c_size_t))(
+    ("helgrothy_total", library)
+)
 helgrothy_list = CFUNCTYPE(c_uint32, *TEXT, c_uint64, c_uint64, c_void_p, c_size_t, POINTER(c_size_t))(
     ("helgrothy_list", library)
 )
@@ -34,6 +37,13 @@ def counted(kind: int, text: bytes, limit: int) -> tuple[int, int]:
     number = c_uint64()
     status = helgrothy_count(kind, text, len(text), secrets.randbits(64), limit, byref(number))
     return status, number.value
+
+
+def total(kind: int, text: bytes, room: int) -> tuple[int, bytes]:
+    buffer = ctypes.create_string_buffer(room)
+    used = c_size_t()
+    status = helgrothy_total(kind, text, len(text), secrets.randbits(64), 1_000_000, buffer, room, byref(used))
+    return status, buffer.raw[: used.value]
 
 
 def listed(kind: int, text: bytes, room: int) -> tuple[int, bytes]:
@@ -64,6 +74,8 @@ assert helgrothy_version() == 10000 * major + 100 * minor + patch
 assert counted(PLAIN, SEVEN, 10) == (DONE, 1)
 assert counted(BOUNDS, b"2:3|a\n" + b"a\n" * 20, 1000000) == (DONE, 190 + 1140)
 assert counted(BOUNDS, b"2:3|a\n" + b"a\n" * 20, 1000) == (LIMIT, 1000)
+assert total(PLAIN, b"a b c\n" + b"a\na\nb\nb\nc\nc\n", 1) == (DONE, b"8")
+assert total(BOUNDS, b"2:3|a\n" + b"a\n" * 20, 3) == (NO_ROOM, b"133")
 assert listed(PLAIN, SEVEN, 1000) == (DONE, LISTING)
 assert listed(PLAIN, SEVEN, 10) == (NO_ROOM, LISTING[:10])
 assert first_fault(PLAIN, SEVEN, secrets.randbits(64)) == (DONE, 0, 0)

@@ -16,6 +16,16 @@ unsafe extern "C" {
         fault: &mut u32,
     ) -> u32;
     fn helgrothy_count(kind: u32, text: *const c_void, length: usize, seed: u64, limit: u64, count: &mut u64) -> u32;
+    fn helgrothy_total(
+        kind: u32,
+        text: *const c_void,
+        length: usize,
+        seed: u64,
+        bytes: usize,
+        buffer: *mut c_void,
+        room: usize,
+        used: &mut usize,
+    ) -> u32;
     fn helgrothy_list(
         kind: u32,
         text: *const c_void,
@@ -123,6 +133,23 @@ pub fn count(kind: Kind, text: &[u8], limit: u64) -> Result<(u64, End), Error> {
     let mut count = 0;
     let status = unsafe { helgrothy_count(kind as u32, text.as_ptr().cast(), text.len(), seed(), limit, &mut count) };
     Ok((count, ended(kind, text, status)?))
+}
+
+/// How many solutions there are, whatever their number, in decimal. The states of the count take at most about so many
+/// bytes.
+pub fn total(kind: Kind, text: &[u8], bytes: usize) -> Result<String, Error> {
+    let mut buffer = vec![0; 64];
+    loop {
+        let (start, room) = (buffer.as_mut_ptr().cast(), buffer.len());
+        let mut used = 0;
+        let status = unsafe {
+            helgrothy_total(kind as u32, text.as_ptr().cast(), text.len(), seed(), bytes, start, room, &mut used)
+        };
+        match ended(kind, text, status)? {
+            End::NoRoom => buffer.resize(2 * room, 0),
+            _ => return Ok(String::from_utf8_lossy(&buffer[..used]).into_owned()),
+        }
+    }
 }
 
 /// Lists solutions into a buffer, and says how many bytes that is.

@@ -1,6 +1,6 @@
 //! The calls through the library, and the words of faults beside those of the header for C.
 
-use helgrothy::{End, Error, Kind, count, fault, fault_text, list};
+use helgrothy::{End, Error, Kind, count, fault, fault_text, list, total};
 
 const SEVEN: &[u8] = b"a b c d e f g\nc e\na d g\nb c f\na d f\nb g\nd e g\n";
 const LISTING: &[u8] = b"1:\n a d f (2 of 2)\n b g (1 of 1)\n c e (1 of 1)\n";
@@ -9,6 +9,16 @@ const LISTING: &[u8] = b"1:\n a d f (2 of 2)\n b g (1 of 1)\n c e (1 of 1)\n";
 fn counts_up_to_a_limit() {
     assert_eq!(count(Kind::Plain, SEVEN, 2), Ok((1, End::Done)));
     assert_eq!(count(Kind::Plain, SEVEN, 1), Ok((1, End::Limit)));
+}
+
+#[test]
+fn totals_have_any_length() {
+    assert_eq!(total(Kind::Plain, SEVEN, 1_000_000), Ok("1".to_string()));
+    let items: Vec<String> = (0..300).map(|i| format!("i{i}")).collect();
+    let options: String = items.iter().map(|item| format!("{item}\n{item}\n")).collect();
+    let text = format!("{}\n{options}", items.join(" "));
+    let digits = total(Kind::Plain, text.as_bytes(), 1_000_000).unwrap();
+    assert_eq!((digits.len(), &digits[..10]), (91, "2037035976"));
 }
 
 #[test]

@@ -1,6 +1,7 @@
 -- What the calls answer.
 use Rattle.std.specs.Prelude.{◌≡◌, ◌≢◌, ◌⊎◌, ℕ, List, [], ◌++◌, length, take, drop, min, nat_lt, Option, None, Some}
 use Rattle.std.specs.Prelude.{MatchOption, if◌then◌else◌}
+use Rattle.natural.specs.Numerals.{numeral}
 use Rattle.xc_input.specs.declared.kind.Kind.{Kind}
 use Rattle.xc_input.specs.declared.fault.FaultKind.{FaultKind}
 use Rattle.xc_input.specs.Problem.{numbered_get}
@@ -63,3 +64,9 @@ abbrev pub Lists : ℕ → ℕ → List ℕ → List ℕ → ℕ → ℕ → Nam
 Lists spacing limit old new status used a =
     let text = output a spacing limit in
     IsFilled text old new used × (status ≡ (if nat_lt (length old) (length text) then 3 else end_status a limit))
+
+-- the digits of how many solutions there are were put into a buffer; at status 3 they are more than it has room for
+abbrev pub Totals : List ℕ → List ℕ → ℕ → ℕ → Named → Type 0
+Totals old new status used a =
+    let digits = numeral (length (members a.puzzle)) in
+    IsFilled digits old new used × (status ≡ (if nat_lt (length old) (length digits) then 3 else 0))

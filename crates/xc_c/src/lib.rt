@@ -1,6 +1,6 @@
 //! Exact cover problems for C, and for all that calls C: calls on numbers and bytes, whose header is
 //! `bindings/c/helgrothy.h`. Each returns a status: 0 where all was done, 1 for a number of no kind, 2 for a text
-//! with a fault, 3 where a listing is longer than its buffer, 4 for lack of memory, 5 where a search met its limit.
+//! with a fault, 3 where a listing or a number is longer than its buffer, 4 for lack of memory, 5 where a search met its limit.
 //! Names and colours are hashed by the seed, and the answer is the same by each.
 //!
 //! A call keeps nothing: no handle to a search and the problem that it borrows can be both exported and proved
@@ -8,7 +8,7 @@
 #![tactic(auto)]
 
 ghost use Rattle.std.specs.Prelude.{◌≡◌};
-ghost use Rattle.xc_c.specs.Answers.{Counts, Lists, Searches, TellsFault};
+ghost use Rattle.xc_c.specs.Answers.{Counts, Lists, Searches, TellsFault, Totals};
 ghost use Rattle.xc_c.specs.Numbers.{version_number};
 
 mod numbers;
@@ -21,7 +21,7 @@ use crate::numbers::{
     DONE, FAULT, LIMIT, NO_KIND, NO_MEMORY, error_status, fault_number, kind_by_number,
 };
 use crate::seeds::seed_by_number;
-use crate::texts::{count_solutions, first_fault, list_solutions};
+use crate::texts::{count_solutions, first_fault, list_solutions, put_total};
 use std::alloc::Global;
 use xc_list::Words;
 
@@ -81,6 +81,35 @@ pub extern "C" fn helgrothy_count(
         Ok(found) => {
             *count = found;
             if found < limit { DONE } else { LIMIT }
+        }
+        Err(error) => error_status(&error),
+    }
+}
+
+/// How many solutions the problem of a text has, in decimal, whatever their number: by a count of states beside a search
+/// (`xc_count::count`), whose states take about so many bytes at most. The first digits are put into the buffer, as many
+/// as there is room for, and counted; what is left of the buffer stays as it was.
+#[unsafe(no_mangle)]
+pub extern "C" fn helgrothy_total(
+    alloc: Global,
+    kind: u32,
+    text: &[u8],
+    seed: u64,
+    bytes: usize,
+    buffer: &mut [u8],
+    used: &mut usize,
+) -> u32
+    ensures { Searches kind text.now result ((buffer.new ≡ buffer.old) × (used.new ≡ 0))
+        (Totals buffer.old buffer.new result used.new) }
+{
+    *used = 0;
+    let Some(kind) = kind_by_number(kind) else {
+        return NO_KIND;
+    };
+    match put_total(alloc, kind, text, seed_by_number(seed), bytes, buffer) {
+        Ok((status, digits)) => {
+            *used = digits;
+            status
         }
         Err(error) => error_status(&error),
     }

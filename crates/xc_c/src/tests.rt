@@ -1,5 +1,5 @@
 //! Tests of the calls for C. They are here, since no crate may depend on a static library.
-use crate::{helgrothy_count, helgrothy_fault, helgrothy_list, helgrothy_version};
+use crate::{helgrothy_count, helgrothy_fault, helgrothy_list, helgrothy_total, helgrothy_version};
 use std::alloc::Global;
 
 /// A seed; 0 is the fixed one.
@@ -12,7 +12,8 @@ const SEVEN_LISTING: &[u8] = b"1:\n a d f (2 of 2)\n b g (1 of 1)\n c e (1 of 1)
 const THREE_ALIKE: &[u8] = b"A\nA\nA\nA\n";
 
 /// Forty items with two equal options each: 2^40 solutions.
-const FORTY: &[u8] = b"a b c d e f g h i j k l m n o p q r s t u v w x y z A B C D E F G H I J K L M N\n\
+const FORTY: &[u8] =
+    b"a b c d e f g h i j k l m n o p q r s t u v w x y z A B C D E F G H I J K L M N\n\
     a\na\nb\nb\nc\nc\nd\nd\ne\ne\nf\nf\ng\ng\nh\nh\ni\ni\nj\nj\nk\nk\nl\nl\nm\nm\nn\nn\no\no\np\np\nq\nq\
     \nr\nr\ns\ns\nt\nt\nu\nu\nv\nv\nw\nw\nx\nx\ny\ny\nz\nz\nA\nA\nB\nB\nC\nC\nD\nD\nE\nE\nF\nF\nG\nG\nH\
     \nH\nI\nI\nJ\nJ\nK\nK\nL\nL\nM\nM\nN\nN\n";
@@ -104,4 +105,36 @@ fn listings(rt: HostRuntime) {
     assert!(rt; lists(alloc, SEVEN, all, 0, 3, b""));
     assert!(rt; lists(alloc, SEVEN, 0, 0, 5, b""));
     assert!(rt; lists(alloc, b"a\nb\n", all, 10, 2, b""));
+}
+
+/// Whether the digits of a total put into a buffer of zeros of this length have this status, and leave the rest.
+fn totals(alloc: Global, kind: u32, text: &[u8], room: usize, status: u32, digits: &[u8]) -> bool {
+    let Ok(mut buffer) = vec![in alloc; 0u8; room] else {
+        return false;
+    };
+    let mut used = 9;
+    let told = helgrothy_total(
+        alloc,
+        kind,
+        text,
+        SEED,
+        1_000_000,
+        buffer.as_mut_slice(),
+        &mut used,
+    );
+    told == status
+        && used == digits.len()
+        && buffer.starts_with(digits)
+        && buffer.iter().skip(used).all(|b| *b == 0)
+}
+
+#[test]
+fn numbers_of_solutions(rt: HostRuntime) {
+    let alloc = rt.alloc();
+    assert!(rt; totals(alloc, 1, FORTY, 20, 0, b"1099511627776"));
+    assert!(rt; totals(alloc, 1, FORTY, 13, 0, b"1099511627776"));
+    assert!(rt; totals(alloc, 1, FORTY, 4, 3, b"1099"));
+    assert!(rt; totals(alloc, 3, b"0:1|a\na\n", 9, 0, b"2"));
+    assert!(rt; totals(alloc, 1, b"a b\nc\n", 9, 2, b""));
+    assert!(rt; totals(alloc, 4, SEVEN, 9, 1, b""));
 }

@@ -1,17 +1,20 @@
 //! Problems out of texts in memory.
 ghost use Rattle.std.specs.Prelude.{◌≡◌, ◌≢◌, ◌<◌, [], ◌∷◌, false, None, IfOk, IfErr, OnErr, OnOk, length, min};
+ghost use Rattle.std.specs.Prelude.{nat_lt, if◌then◌else◌};
 ghost use Rattle.xc_input.specs.Words.{has};
 ghost use Rattle.xc_input.specs.Readings.{IsErrorFor};
 ghost use Rattle.xc_input.specs.Lines.{lines_of};
 ghost use Rattle.xc_input.specs.FirstFault.{content, first_fault};
 ghost use Rattle.xc_input.specs.Text.{StandsFor};
 ghost use Rattle.xc_search.specs.Cover.{members, EachMemberCovers, EachCoverIsListedOnce};
-ghost use Rattle.xc_c.specs.Answers.{IsFilled, IsSearched, Lists};
+ghost use Rattle.natural.specs.Numerals.{numeral};
+ghost use Rattle.xc_c.specs.Answers.{IsFilled, IsSearched, Lists, Totals};
 ghost use Rattle.xc_c.specs.inner.Statuses.{listing_status};
 
 use crate::numbers::{DONE, LIMIT, NO_ROOM};
 use bstr::ByteSlice;
 use std::alloc::Global;
+use xc_count::count;
 use xc_dance::{Links, Memory};
 use xc_input::{FaultKind, InputError, Kind, Problem, Read, Reader, Seed};
 use xc_list::{End, Tray, Words, run};
@@ -113,6 +116,57 @@ pub(crate) fn count_solutions(
     let read = read_text(alloc, kind, text, seed)?;
     match count_members(alloc, &read.problem, limit) {
         Ok(count) => Ok(count),
+        Err(_) => Err(InputError::Memory),
+    }
+}
+
+/// The digits of how many solutions a problem has, by a count whose states take about so many bytes at most.
+fn total_digits(alloc: Global, problem: &Problem, bound: usize) -> Result<Vec<u8>, Memory>
+    ensures { IfOk result (λ ds. ds.items ≡ numeral (length (members problem.now.puzzle))) }
+{
+    Ok(count(alloc, problem, bound)?.to_decimal(alloc)?)
+}
+
+/// The status where so many bytes are put into a buffer with this room.
+fn room_status(length: usize, room: usize) -> u32
+    ensures { result ≡ (if nat_lt room length then 3 else 0) }
+{
+    if room < length { NO_ROOM } else { DONE }
+}
+
+/// Puts the digits of how many solutions a problem has into a buffer, and returns the status and how many it put there.
+/// Without memory the buffer stays as it was.
+fn total_problem(
+    alloc: Global,
+    problem: &Problem,
+    bound: usize,
+    buffer: &mut [u8],
+) -> Result<(u32, usize), Memory>
+    ensures total { IfOk result (λ r. Totals buffer.old buffer.new r.0 r.1 problem.now) }
+    ensures kept { OnErr result (buffer.new ≡ buffer.old) }
+{
+    let digits = total_digits(alloc, problem, bound)?;
+    let status = room_status(digits.len(), buffer.len());
+    Ok((status, fill(buffer, digits.as_slice())))
+}
+
+/// Puts the digits of how many solutions the problem of a text has into a buffer, as `total_problem` does.
+pub(crate) fn put_total(
+    alloc: Global,
+    kind: Kind,
+    text: &[u8],
+    seed: Seed,
+    bound: usize,
+    buffer: &mut [u8],
+) -> Result<(u32, usize), InputError>
+    ensures total { IfOk result (λ r. IsSearched kind text.now (Totals buffer.old buffer.new r.0 r.1)) }
+    ensures error { IfErr result (IsErrorFor (first_fault kind (lines_of text.now))) }
+    ensures memory { IfErr result (λ e. e ≡ InputError.Memory → content (lines_of text.now) ≢ []) }
+    ensures kept { OnErr result (buffer.new ≡ buffer.old) }
+{
+    let problem = read_text(alloc, kind, text, seed)?.problem;
+    match total_problem(alloc, &problem, bound, buffer) {
+        Ok(put) => Ok(put),
         Err(_) => Err(InputError::Memory),
     }
 }
