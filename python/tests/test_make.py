@@ -42,6 +42,9 @@ class Makers(unittest.TestCase):
         for clues in ("1234", "x" + SUDOKU[1:]):
             with self.assertRaises(TableFault):
                 make.sudoku.problem(clues)
+        for clues in ("", " \n\n"):
+            with self.assertRaisesRegex(TableFault, "^line 1: the clues are missing; only with regions or cages"):
+                make.sudoku.problem(clues)
 
     def test_queens(self):
         # OEIS A000170.
