@@ -10,7 +10,7 @@ import signal
 import sys
 import threading
 import time
-from collections.abc import Callable, Iterable, Iterator
+from collections.abc import Callable, Iterable, Iterator, Sequence
 from contextlib import contextmanager, suppress
 from typing import Any, NoReturn
 
@@ -55,8 +55,17 @@ class Parser(argparse.ArgumentParser):
         found, rest = super().parse_known_args(args, namespace)
         if rest:
             # The commands of a parser look at their own words first.
-            self.error(self._surplus(rest[0]))
+            self.error(self._for_kind(getattr(found, "problem", ""), rest) or self._surplus(rest[0]))
         return found, rest
+
+    def _for_kind(self, problem: str, rest: Sequence[str]) -> str:
+        """What to do where a kind of problems and its words stand for a problem, or nothing."""
+        from .make import KINDS
+
+        if problem not in KINDS or os.path.exists(problem):
+            return ""
+        made = " ".join(["helgrothy make", problem, *rest])
+        return f"{problem}: a problem stands here, and this makes one: {made} | {self.prog}"
 
     def _surplus(self, word: str) -> str:
         """What is wrong with a word that no place or option takes."""

@@ -50,7 +50,7 @@ class Named:
         for word in words:
             item, colon, _ = word.partition(":")
             if not any(self._items(item)):
-                hint = self._nearest.question(item, self._held)
+                hint = self._hint(item)
                 return f"{item}: no such item{f' ({hint})' if hint else ''}"
             if colon and not self._places(word):
                 return f"{word}: no option gives {item} this colour"
@@ -58,6 +58,13 @@ class Named:
         nearest = sorted(times, key=lambda place: (-times[place], place))
         those = f"; the nearest are {told(self._problem, nearest)}" if nearest else ""
         return f"no option has all of these{those}"
+
+    def _hint(self, item: str) -> str:
+        """What may have been meant by the name of no item, or nothing."""
+        begun = [name for name in self._held if len(item) > 1 and name.startswith(item)]
+        if len(begun) > 1:
+            return f"{len(begun)} begin so; {item}* is any of them"
+        return self._nearest.question(item, begun or self._held)
 
     def _items(self, word: str) -> Iterator[str]:
         if word in self._held:

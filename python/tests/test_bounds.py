@@ -356,7 +356,7 @@ class Words(unittest.TestCase):
         with tempfile.NamedTemporaryFile(suffix=".txt") as file:
             file.write(b"ab\xff\n")
             file.flush()
-            self.assertEqual(run("roster", file.name)[2], f"helgrothy: {file.name}: byte 3 isn't UTF-8\n")
+            self.assertEqual(run("roster", file.name)[2], f"helgrothy: {file.name}: byte 3 isn't UTF-8 (save the file as UTF-8)\n")
 
     def test_of_a_program_that_lies(self):
         with tempfile.TemporaryDirectory() as folder:

@@ -27,6 +27,11 @@ MISTAKES = (
     ),
     (["queens", "8", "--limt=3"], "helgrothy queens: --limt: no such option (is it --limit?); see helgrothy queens --help"),
     (["queens", "8", "--al"], "helgrothy queens: --al: no such option (is it --all?); see helgrothy queens --help"),
+    (
+        ["count", "queens", "8"],
+        "helgrothy count: queens: a problem stands here, and this makes one: helgrothy make queens 8 | helgrothy count; "
+        "see helgrothy count --help",
+    ),
     (["queens", "8", "9"], "helgrothy queens: 9: one word too many; see helgrothy queens --help"),
     (["queens"], "helgrothy queens: the following arguments are required: N|REGIONS; see helgrothy queens --help"),
     (["search", "x.dlx", "--lis"], "helgrothy search: --lis: no such option (is it --list?); see helgrothy search --help"),

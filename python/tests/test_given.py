@@ -73,6 +73,7 @@ class Choices(InFolder):
         for words, wanted in (
             (["--with", "mon"], "--with mon: 2 options have this, name more items of one: mon ann; mon bob"),
             (["--with", "mon bbo"], "--with mon bbo: bbo: no such item (is it bob?)"),
+            (["--with", "bo"], "--with bo: bo: no such item (is it bob?)"),
             (["--with", "mon tue"], "--with mon tue: no option has all of these; the nearest are mon ann; mon bob; tue ann; and 1 more"),
             (["--with", "mon bob", "--without", "bob"], "--with mon bob: a --without forbids this option"),
             (["--without", "x:r"], "--without x:r: x: no such item"),
@@ -80,6 +81,11 @@ class Choices(InFolder):
             self.assertEqual(run("solve", *words, given=DAYS), (2, "", f"helgrothy: {wanted}\n"))
         told = run("tests", "2,2", "--least", "--with", "x")
         self.assertEqual(told[2], "helgrothy: this search has a problem of its own: without --cost, --with and --without\n")
+
+    def test_a_beginning_of_names(self):
+        problem = Problem.parse("mon/hall mon/lab tue\nmon/hall\nmon/lab\ntue\n")
+        with self.assertRaisesRegex(ValueError, r"^--with mon: mon: no such item \(2 begin so; mon\* is any of them\)$"):
+            given(problem, ["mon"])
 
     def test_other_ways(self):
         board = make.queens.problem(6)

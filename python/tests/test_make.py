@@ -42,6 +42,9 @@ class Makers(unittest.TestCase):
         for clues in ("1234", "x" + SUDOKU[1:]):
             with self.assertRaises(TableFault):
                 make.sudoku.problem(clues)
+        for clues in ("", " \n\n"):
+            with self.assertRaisesRegex(TableFault, "^line 1: the clues are missing; only with regions or cages"):
+                make.sudoku.problem(clues)
 
     def test_queens(self):
         # OEIS A000170.
@@ -107,6 +110,24 @@ class Makers(unittest.TestCase):
             with self.assertRaises(TableFault):
                 make.roster.problem(table)
 
+    def test_names_of_a_roster(self):
+        for days, shift, people, told in (
+            ("mon tue", "s 1 1", "ann 2\nann 1", "line 5: ann: this name is in line 4 already"),
+            ("mon mon", "s 1 1", "ann 2", "line 1: mon: this name is in line 1 already"),
+            ("mon tue", "s 1 1\ns 1 1", "ann 2", "line 3: s: this name is in line 2 already"),
+            ("mon tue", "s 1 1", "a/b 2", "line 4: a/b: a name in a table has no /, which is for a shift on a day"),
+            ("mon tue", "s 1 1", "a-mon 2\na 1", "line 5: a: a-mon would be two things; take another name"),
+            ("mon off", "s 1 1", "a 1", "line 4: a: a-off would be two things; take another name"),
+            ("mon tue", "s 1 2:1", "a 1", "line 2: 2:1: the least comes first"),
+            ("mon tue", "s 1 1", "a 2:0", "line 4: 2:0: the least comes first"),
+        ):
+            with self.subTest(told=told), self.assertRaises(TableFault) as raised:
+                make.roster.problem(f"- {days}\n{shift}\n\n{people}\n", days_off=1)
+            self.assertEqual(str(raised.exception), told)
+        self.assertEqual(
+            self.shown(make.roster.problem("- mon tue\ns 1 1\n\nann 0\nbob 2\n")), "    mon tue\nann .   .\nbob s   s\n"
+        )
+
     def assert_rests(self, cells):
         for (row, column), cell in cells.items():
             after = cells.get((row, column + 1))
@@ -128,6 +149,8 @@ class Makers(unittest.TestCase):
         for teams in (["one"], ["one", "two upstairs:1"]):
             with self.assertRaises(TableFault):
                 make.roundrobin.problem(teams)
+        with self.assertRaisesRegex(TableFault, "^line 3: ann: the team of line 1 has this name$"):
+            make.roundrobin.problem(["ann home:1", "bob", "ann"])
 
     def is_round_robin(self, lines, teams):
         played = [word for line in lines for word in line.split()[1:3]]

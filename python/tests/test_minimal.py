@@ -138,6 +138,10 @@ class Minimal(InFolder):
         with self.assertRaises(OutOfTime):
             minimal.find(make.sudoku.problem(CLUES), [], seconds=0)
 
+    def test_a_new_sudoku(self):
+        status, text, _ = run("minimal", "sudoku", "--seed", "3", "--seconds", "1")
+        self.assertEqual((status, len(text), make.sudoku.problem(text).count(limit=2)), (0, 82, 1))
+
     def test_mistakes(self):
         told = run("minimal", "nonogram", "x")
         self.assertEqual((told[0], told[2].partition(";")[0]), (2, "helgrothy minimal: nonogram: neither a problem nor sudoku or kakuro"))

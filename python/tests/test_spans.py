@@ -1150,6 +1150,13 @@ class Commands(unittest.TestCase):
             with self.assertRaisesRegex(SearchFault, told):
                 workers.Dask("tcp://first:8786")
 
+    def test_a_listing_that_cannot_be_written(self):
+        package = os.path.dirname(os.path.dirname(os.path.abspath(__file__)))
+        words = [sys.executable, "-m", "helgrothy", "search", self.path, "--list", "--folder", f"{self.path}.full"]
+        with open("/dev/full", "w") as full:
+            ended = subprocess.run(words, stdout=full, stderr=subprocess.PIPE, text=True, cwd=package)
+        self.assertEqual((ended.returncode, ended.stderr), (3, "Write failed.\n"))
+
     def test_nobody_sees_the_progress(self):
         with open("/dev/full", "w") as full, mock.patch.object(sys, "stderr", full):
             shown = show.Shown(False)

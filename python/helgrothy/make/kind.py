@@ -84,7 +84,7 @@ def read_text(path: str, otherwise: str = "", words: Iterable[str] = ()) -> str:
         raise ValueError(f"{cut(path)}: neither {otherwise} nor a file{did_you_mean(path, words)}") from None
     except UnicodeDecodeError as error:
         name = "standard input" if path == "-" else path
-        raise ValueError(f"{name}: byte {error.start + 1} isn't UTF-8") from None
+        raise ValueError(f"{name}: byte {error.start + 1} isn't UTF-8 (save the file as UTF-8)") from None
 
 
 class Counted(list[T]):

@@ -4,7 +4,7 @@ from __future__ import annotations
 
 import argparse
 import re
-from collections.abc import Iterator, Sequence
+from collections.abc import Iterable, Iterator, Sequence
 from dataclasses import dataclass, field
 from typing import Any
 
@@ -75,9 +75,11 @@ def problem(
         check_items(len(bounds))
     primary = {
         **{f"{day}/{shift}": need for (day, shift), need in needs.items() if need[1]},
-        **{person.name: person.bounds for person in people},
+        # Who has no shift has no option either.
+        **{person.name: (person.bounds[0], max(person.bounds[1], 1)) for person in people},
         **bounds,
     }
+    _check_days(days, people, bounds)
     secondary = dict.fromkeys(item for option in options for item in option if item not in primary)
     limits = {"--in-a-row": in_a_row, "--days-off": days_off}
     words = ["--rest"] * rest + [f"{word} {limit}" for word, limit in limits.items() if limit is not None]
@@ -140,7 +142,7 @@ def wishes(problem: Problem[Any]) -> list[Wish]:
 def _free(person: _Person, needs: Needs) -> Iterator[tuple[str, str]]:
     """The shifts of days that a person may take."""
     for (day, shift), (_, most) in needs.items():
-        if most and person.off.isdisjoint((day, shift, f"{day}/{shift}")):
+        if most and person.bounds[1] and person.off.isdisjoint((day, shift, f"{day}/{shift}")):
             yield day, shift
 
 
@@ -152,6 +154,9 @@ def _read(table: str) -> tuple[list[str], Needs, list[_Person]]:
     if end < 2:
         raise TableFault(1, "", "a table begins with a line of days and lines of shifts")
     days = lines[0][1][1:]
+    _check_names((lines[0][0], day) for day in days)
+    _check_names((number, words[0]) for number, words in lines[1:end])
+    _check_names((number, words[0]) for number, words in lines[end:] if words)
     needs: Needs = {}
     for number, (shift, *counts) in lines[1:end]:
         if len(counts) != len(days):
@@ -163,6 +168,29 @@ def _read(table: str) -> tuple[list[str], Needs, list[_Person]]:
     if not people:
         raise TableFault(lines[-1][0], "", "no people behind a blank line")
     return days, needs, people
+
+
+def _check_names(names: Iterable[tuple[int, str]]) -> None:
+    """Days, shifts or people with their lines. Raises `TableFault` for one that is there twice, or that reads as a
+    shift on a day."""
+    lines: dict[str, int] = {}
+    for number, name in names:
+        if "/" in name:
+            raise TableFault(number, name, "a name in a table has no /, which is for a shift on a day")
+        if name in lines:
+            raise TableFault(number, name, f"this name is in line {lines[name]} already")
+        lines[name] = number
+
+
+def _check_days(days: Sequence[str], people: Sequence[_Person], others: Iterable[str]) -> None:
+    """Raises `TableFault` for a day of a person, `PERSON-DAY`, that has the name of anything else."""
+    taken = {*others, *(person.name for person in people)}
+    for person in people:
+        for day in days:
+            name = f"{person.name}-{day}"
+            if name in taken:
+                raise TableFault(person.line, person.name, f"{name} would be two things; take another name")
+            taken.add(name)
 
 
 def _person(number: int, words: Sequence[str], days: Sequence[str], known: set[str]) -> _Person:
@@ -187,7 +215,10 @@ def _numbers(number: int, word: str) -> tuple[int, int]:
     if found is None:
         raise TableFault(number, word, "neither a number nor two with a colon between")
     low = int(found.group(1))
-    return low, low if found.group(2) is None else int(found.group(2))
+    high = low if found.group(2) is None else int(found.group(2))
+    if high < low:
+        raise TableFault(number, word, "the least comes first")
+    return low, high
 
 
 def drawing(problem: Problem[Any]) -> Drawing:

@@ -25,8 +25,13 @@ def problem(teams: Iterable[str], *, double: bool = False) -> Problem[list[str]]
 
     An option is a game in a round, `A-B A@1 B@1 home=A`, with A at home. Raises `TableFault`.
     """
-    wishes = [_wishes(number, line.split()) for number, line in enumerate(teams, 1) if line.split()]
+    lines = [(number, line.split()) for number, line in enumerate(teams, 1) if line.split()]
+    wishes = [_wishes(number, words) for number, words in lines]
     names = [name for name, _ in wishes]
+    first: dict[str, int] = {}
+    for (number, _), name in zip(lines, names):
+        if first.setdefault(name, number) != number:
+            raise TableFault(number, name, f"the team of line {first[name]} has this name")
     if len(names) < 2:
         raise TableFault(len(names) + 1, "", "a round robin has at least two teams")
     wished = dict(wishes)
@@ -58,8 +63,7 @@ def problem(teams: Iterable[str], *, double: bool = False) -> Problem[list[str]]
 
 def _games(names: Sequence[str], double: bool) -> dict[tuple[str, str], str]:
     """The games by who is at home and who away, and the name of each: that of both unless they meet twice."""
-    # Of equal names the first one counts.
-    place = {name: number for number, name in reversed(list(enumerate(names)))}
+    place = {name: number for number, name in enumerate(names)}
     return {
         (home, away): f"{home}-{away}" if double or place[home] < place[away] else f"{away}-{home}"
         for home in names

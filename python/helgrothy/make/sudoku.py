@@ -27,6 +27,9 @@ _DIGIT = re.compile(r"r\d+=(.)\Z")
 _CAGE = re.compile(r"(k\d+)(?:=(.))?\Z")
 _CROSSED = re.compile(r"x[12]=")
 _ON_DIAGONAL = "#eceadf"
+_NO_CLUES = "the clues are missing; only with regions or cages there may be none"
+# A new puzzle has 9 rows, unless it is said otherwise.
+_NEW = "." * 81
 
 
 @dataclass(frozen=True)
@@ -92,7 +95,7 @@ def _board(clues: str, regions: str | None, cages: str | None, diagonals: bool) 
     marks = _marks(clues)
     _check_rows(clues)
     region = None if regions is None else areas.regions(regions)
-    size = _size(marks, region)
+    size = _size(marks, region, has_cages=cages is not None)
     own_cages: list[Cage] = []
     if cages is not None:
         own_cages, size = areas.cages(cages, size)
@@ -157,12 +160,14 @@ def _marks(clues: str) -> str:
     return "".join(clues.split())
 
 
-def _size(marks: str, regions: dict[Square, str] | None) -> int:
-    """How many rows there are, or 0 where neither clues nor regions say so. Raises `TableFault`."""
+def _size(marks: str, regions: dict[Square, str] | None, has_cages: bool) -> int:
+    """How many rows there are, or 0 where only cages may say so. Raises `TableFault`."""
     if regions is not None:
         return max(r for r, _ in regions) + 1
     if not marks:
-        return 0
+        if has_cages:
+            return 0
+        raise TableFault(1, "", _NO_CLUES)
     size = math.isqrt(len(marks))
     if size * size != len(marks) or not areas.LEAST_SIZE <= size <= areas.MOST_SIZE:
         known = "a Sudoku of 9 rows has 81, one of 4 to 25 rows as many as its square"
@@ -322,12 +327,13 @@ def _add_arguments(parser: argparse.ArgumentParser) -> None:
     parser.add_argument("--diagonals", action="store_true", help="each of the two long diagonals has each digit too")
 
 
-def _texts(arguments: argparse.Namespace) -> tuple[str, str | None, str | None]:
-    """Clues, regions and cages. Raises `ValueError` and `OSError`."""
-    given = arguments.clues
+def _texts(arguments: argparse.Namespace, new: str = "") -> tuple[str, str | None, str | None]:
+    """Clues, regions and cages; without any of them those of a new puzzle. Raises `ValueError` and `OSError`."""
+    is_new = not arguments.clues and arguments.regions is None and arguments.cages is None
+    given = new if is_new else arguments.clues
+    if is_new and not new:
+        raise ValueError(_NO_CLUES)
     is_file = given == "-" or os.path.exists(given) or any(c not in _EMPTY and c.upper() not in _DIGITS for c in given)
-    if not given and arguments.regions is None and arguments.cages is None:
-        raise ValueError("the clues are missing; only with --regions or --cages there may be none")
     regions, cages = (None if path is None else read_text(path) for path in (arguments.regions, arguments.cages))
     return read_text(given, "clues") if is_file else given, regions, cages
 
@@ -338,7 +344,7 @@ def _make(arguments: argparse.Namespace) -> Problem[list[str]]:
 
 
 def _clues(arguments: argparse.Namespace) -> Clues:
-    text, regions, cages = _texts(arguments)
+    text, regions, cages = _texts(arguments, _NEW)
     marks = _marks(text)
     problem(text, regions=regions, cages=cages, diagonals=arguments.diagonals)
     empty = problem("." * len(marks), regions=regions, cages=cages, diagonals=arguments.diagonals)

@@ -70,13 +70,13 @@ class Join:
     def end(self) -> Ending:
         """Waits for the end of all texts. Raises what `check` raises, but for an end with a status of its own."""
         self._texts.put(None)
-        assert self._process.stderr
-        told = self._process.stderr.read().decode("utf-8", "replace")
         for thread in self._threads:
             thread.join()
-        status = self._process.wait()
-        if isinstance(self._error, ProgramFailed) or self._error is None:
-            return Ending(status, told)
+        if self._error is None:
+            told = self._told()
+            return Ending(self._process.wait(), told)
+        if isinstance(self._error, ProgramFailed):
+            return Ending(self._error.status, self._error.message)
         raise self._error
 
     def __enter__(self) -> Join:
@@ -117,7 +117,13 @@ class Join:
                         return
                     into.write(text())
         except BrokenPipeError:
-            self._error = self._error or ProgramFailed(PROGRAM, self._process.wait(), "")
+            told = self._told().strip()
+            self._error = self._error or ProgramFailed(PROGRAM, self._process.wait(), told)
+
+    def _told(self) -> str:
+        """What the program says on standard error until its end: a line at most."""
+        assert self._process.stderr
+        return self._process.stderr.read().decode("utf-8", "replace")
 
     def _print(self) -> None:
         assert self._process.stdout
