@@ -11,7 +11,7 @@ from problems import problem_of
 from test_commands import run
 from test_counter import dominoes
 
-from helgrothy import OutOfTime, Problem, ProgramFailed, ProgramNotFound, chances, occurrences, programs
+from helgrothy import OutOfTime, Problem, ProgramNotFound, chances, occurrences, programs
 from helgrothy.draw import Pattern
 
 
@@ -71,8 +71,8 @@ class Occurrences(InFolder):
             with mock.patch.object(occurrences, "_FEW", 1), self.assertRaises(ProgramNotFound):
                 dominoes(4).occurrences()
         with mock.patch.object(occurrences, "_FEW", 1), mock.patch.object(occurrences, "MOST_MEGABYTES", 0):
-            with self.assertRaisesRegex(ProgramFailed, "No count within 0 megabytes"):
-                dominoes(4).occurrences()
+            # By the search alone.
+            self.assertEqual(sum(dominoes(4).occurrences()), 36 * 8)
 
 
 class Pictures(InFolder):
