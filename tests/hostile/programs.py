@@ -172,7 +172,7 @@ def each_read_fails(shim, folder):
     file = f"{folder}/reads.dlx"
     with open(file, "wb") as it:
         it.write(text)
-    for words, given in ((["dlx1"], b"A\n" * 100000), (["dlx2", "t1"], text), (["dlx3", "t1"], text), (["dlx-count", "2", "b0"], text), (["dlxcheck", file, "2"], b"1:\n" * 100000)):
+    for words, given in ((["dlx1"], b"A\n" * 100000), (["dlx2", "t1"], text), (["dlx3", "t1"], text), (["dlx-count", "2", "b0", "n1"], text), (["dlxcheck", file, "2"], b"1:\n" * 100000)):
         reads = len(calls_of(shim, "read", 0, 0, words, given, stdout=subprocess.PIPE)[3])
         for n in range(1, reads + 1):
             status, out, err, calls = calls_of(shim, "read", n, ERRORS[n % len(ERRORS)], words, given, stdout=subprocess.PIPE)
