@@ -359,6 +359,26 @@ pub struct Ran {
     pub steps: u64,
 }
 
+/// The same task. Off the way to a row it chooses early and leaves no branch out.
+// So the loop knows both before it takes in what it calls, and not only once a search takes in the loop: 0.6 % of the
+// instructions.
+#[inline(always)]
+fn fixed<'u, const WAY: bool>(task: Task<'u>) -> Task<'u>
+    requires { WAY ≡ false → (task.early ≡ true) × (task.first ≡ 1) }
+    ensures { result ≡ task.entry }
+{
+    if WAY {
+        return task;
+    }
+    Task {
+        until: task.until,
+        early: true,
+        first: 1,
+        over: task.over,
+        steps: task.steps,
+    }
+}
+
 /// Does what a task says. A search that is at a solution finds that one again, as the first.
 // One loop for all searches, which at each turn first looks at what is below, so that no flag says whether that was
 // searched.
@@ -375,6 +395,7 @@ pub fn run<'u, D: Dance, const BOUND: bool, const WAY: bool>(
         ≡ true }
     requires all { IsSome task.until → task.first ≡ 1 }
     requires free { BOUND ≡ false → task.until ≡ None }
+    requires fixed { WAY ≡ false → (task.early ≡ true) × (task.first ≡ 1) }
     ensures ran { (u : Option (List ℕ)) → IsSeenBy BOUND u (option_map (λ u. u.now) task.entry.until) task.entry.first
         task.entry.steps position.old.puzzle stack.old.levels →
         RunsTo BOUND (not task.entry.early) task.entry.first u (option_map (λ u. u.now) task.entry.until)
@@ -389,11 +410,9 @@ pub fn run<'u, D: Dance, const BOUND: bool, const WAY: bool>(
         until,
         early,
         first,
-        over,
-        steps,
-    } = task;
-    let mut more = over;
-    let mut steps = steps;
+        over: mut more,
+        mut steps,
+    } = fixed::<WAY>(task);
     let mut last = usize::MAX;
     // A turn looks at its row and its steps where fewer than these are left: at each with a row, else at the last.
     let watch = if until.is_some() { u64::MAX } else { 1 };

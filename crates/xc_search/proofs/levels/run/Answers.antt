@@ -18,10 +18,10 @@ pub loop-entered-init : goal.loop-entered-init
 loop-entered-init g c = record {
   begun = 0;
   count = λ _. omega arith;
-  stands = λ u _. stands_first (not c.args.task.early) c.args.task.first u _ _ _ c.requires.standing;
-  rest = by_option c.args.task.until
+  stands = λ u _. stands_first (not c.fixed-early.result.early) c.fixed-early.result.first u _ _ _ c.requires.standing;
+  rest = rw c.fixed-early.ensures (by_option c.args.task.until
       (λ e. rw e (rest_of_all c.args.position.now.puzzle c.args.stack.now.levels _ _))
-      (λ v e. first_rest _ _ _ _ _ c.requires.before (omega arith) (c.requires.all (rw e refl)));
+      (λ v e. first_rest _ _ _ _ _ c.requires.before (omega arith) (c.requires.all (rw e refl))));
   far = λ _. omega arith;
   same = refl;
   some = λ is. elim c.else-this-ne0.either [
@@ -32,7 +32,7 @@ loop-entered-init g c = record {
     | then-is_some w ↦ (omega (arith, w.watch-is), λ h. absurd (omega (arith, h, w.watch-is)))
     | else-is_some w ↦ (
       omega (arith, w.watch-is),
-      λ _. by_option c.args.task.until (λ e. e)
+      λ _. by_option c.fixed-early.result.until (λ e. e)
           (λ v e. absurd (cc (sym (ap is_some e) ∙ sym c.is_some.ensures ∙ w.if-is_some.false))),
     )
   ];
@@ -45,17 +45,17 @@ module _ (g : _) (c : After-enter_branch g) where
   going = c.loop-entered.invariant.some
 
   -- what is known of each end
-  rest : (u : Option (List ℕ)) → IsSeenBy (not (nat_eq g.row.BOUND 0)) u (option_map (λ u. u.now) c.args.task.until)
-      c.args.task.first c.args.task.steps c.args.position.now.puzzle c.args.stack.now.levels
-      → IsRest u c.loop-entered.position.puzzle c.loop-entered.stack.levels c.loop-entered.last c.args.task.first
+  rest : (u : Option (List ℕ)) → IsSeenBy (not (nat_eq g.row.BOUND 0)) u (option_map (λ u. u.now) c.fixed-early.result.until)
+      c.fixed-early.result.first c.fixed-early.result.steps c.args.position.now.puzzle c.args.stack.now.levels
+      → IsRest u c.loop-entered.position.puzzle c.loop-entered.stack.levels c.loop-entered.last c.fixed-early.result.first
   rest u is =
       let s = c.loop-entered.invariant in
       seen_rest is (s.stands u is) s.count going s.far s.rest
 
 -- a branch was begun
 begins : (g : _) (c : After-commit_branch g) (u : Option (List ℕ))
-    → IsRest u c.loop-entered.position.puzzle c.loop-entered.stack.levels c.loop-entered.last c.args.task.first
-    → BeginsBranch (not c.args.task.early) c.args.task.first u
+    → IsRest u c.loop-entered.position.puzzle c.loop-entered.stack.levels c.loop-entered.last c.fixed-early.result.first
+    → BeginsBranch (not c.fixed-early.result.early) c.fixed-early.result.first u
     c.loop-entered.position c.loop-entered.stack c.loop-entered.more
     c.commit_branch.new.self c.enter_branch.new.stack c.enter_branch.new.more
 begins g c u is =
@@ -77,32 +77,32 @@ enter_branch-requires-clause-levels_fit g c =
     let still = (c.loop-entered.invariant.stands _ (inl refl)).still in grind (arith, still, c.requires.levels_fit)
 
 pub returns-in-Solution-clause-ran : goal.returns-in-Solution-clause-ran
-returns-in-Solution-clause-ran g c u is =
+returns-in-Solution-clause-ran g c = rw (← c.fixed-early.ensures) (λ u is.
     let s = c.loop-entered.invariant in
     let same = c.enter_branch.ensures.same c.in-Solution.is in
     rw c.halted-in-Solution.ensures (runs_to_member (s.stands u is) s.count same.0 same.1 same.2 same.3
-    (c.enter_branch.ensures.solved c.in-Solution.is) s.rest.before)
+    (c.enter_branch.ensures.solved c.in-Solution.is) s.rest.before))
 
 pub returns-in-Solution-clause-stands_pays : goal.returns-in-Solution-clause-stands_pays
-returns-in-Solution-clause-stands_pays g c _ one =
+returns-in-Solution-clause-stands_pays g c = rw (← c.fixed-early.ensures) (λ _ one.
     let same = c.enter_branch.ensures.same c.in-Solution.is in
     let more : c.enter_branch.new.more ≡ c.loop-entered.more = same.3 ∙ sym same.2 in
-    rw (c.halted-in-Solution.ensures, same.0, same.1, more) (c.loop-entered.invariant.pays one)
+    rw (c.halted-in-Solution.ensures, same.0, same.1, more) (c.loop-entered.invariant.pays one))
 
 pub returns-in-Nothing-clause-ran : goal.returns-in-Nothing-clause-ran
-returns-in-Nothing-clause-ran g c u is =
+returns-in-Nothing-clause-ran g c = rw (← c.fixed-early.ensures) (λ u is.
     let s = c.loop-entered.invariant in
     rw c.halted-in-Nothing.ensures (runs_to_end (s.stands u is) s.count (c.enter_branch.ensures.done c.in-Nothing.is u
     (rest g (goal.at.returns-in-Nothing-clause-ran g c).After-enter_branch u is))
-    (c.enter_branch.ensures.done_made c.in-Nothing.is))
+    (c.enter_branch.ensures.done_made c.in-Nothing.is)))
 
 pub returns-in-Nothing-clause-ended_pays : goal.returns-in-Nothing-clause-ended_pays
-returns-in-Nothing-clause-ended_pays g c _ one =
+returns-in-Nothing-clause-ended_pays g c = rw (← c.fixed-early.ensures) (λ _ one.
     rw c.halted-in-Nothing.ensures
-    (Pays-trans (c.loop-entered.invariant.pays one) (c.enter_branch.ensures.done_pays c.in-Nothing.is one))
+    (Pays-trans (c.loop-entered.invariant.pays one) (c.enter_branch.ensures.done_pays c.in-Nothing.is one)))
 
 pub returns-in-Reached-clause-ran : goal.returns-in-Reached-clause-ran
-returns-in-Reached-clause-ran g c u is =
+returns-in-Reached-clause-ran g c = rw (← c.fixed-early.ensures) (λ u is.
     let on = (goal.at.returns-in-Reached-clause-ran g c).After-commit_branch in
     let at = (goal.at.returns-in-Reached-clause-ran g c).After-enter_branch in
     let row = row_levels c.commit_branch.new.self.puzzle c.levels.result.now c.enter_branch.new.stack.levels
@@ -110,7 +110,7 @@ returns-in-Reached-clause-ran g c u is =
     let s = c.loop-entered.invariant in
     let bound : not (nat_eq g.row.BOUND 0) ≡ true = grind (arith, nat_tests, c.if-this-ne0-2.true) in
     rw c.halted-in-Reached.ensures (runs_to_row (s.stands u is) s.count bound (going g at bound)
-    (begins g on u (rest g at u is)) (rw (← s.same, c.in-Some.is, ← row) (c.place_apart.ensures.reached c.in-Reached.is)))
+    (begins g on u (rest g at u is)) (rw (← s.same, c.in-Some.is, ← row) (c.place_apart.ensures.reached c.in-Reached.is))))
 
 pub loop-entered-smaller-else-steps-eq0-2 : goal.loop-entered-smaller-else-steps-eq0-2
 loop-entered-smaller-else-steps-eq0-2 g c =
@@ -140,9 +140,9 @@ loop-entered-preserved-else-steps-eq0-2 g c =
         | in-Some+in-Begins w ↦ rest_about c.commit_branch.new.self.puzzle w.levels.result.now
             c.enter_branch.new.stack.levels w.in-Some.until.now _ _ _ w.levels.ensures.levels
             (ap (option_map (λ u. u.now)) (sym s.same ∙ w.in-Some.is)) (w.place_apart.ensures.begins w.in-Begins.is)
-            (omega (arith, w.last-is)) (none_left_out (option_map (λ u. u.now) c.args.task.until)
-            c.commit_branch.new.self.puzzle c.enter_branch.new.stack.levels c.args.task.first
-            (c.requires.all (rw (← s.same, w.in-Some.is) refl)))
+            (omega (arith, w.last-is)) (none_left_out (option_map (λ u. u.now) c.fixed-early.result.until)
+            c.commit_branch.new.self.puzzle c.enter_branch.new.stack.levels c.fixed-early.result.first
+            ((rw (← c.fixed-early.ensures) at c.requires.all) (rw (← s.same, w.in-Some.is) refl)))
         | in_default w ↦ rw (← s.same, w.in_default.is)
             (rest_of_all c.commit_branch.new.self.puzzle c.enter_branch.new.stack.levels _ _)
       ];
@@ -185,7 +185,7 @@ loop-entered-preserved g c =
       begun = s.begun + 1;
       count = λ is. absurd (cc (is, free));
       stands = λ u is. stands_more (s.stands u is) (begins g on u (rest g at u is));
-      rest = rw (c.requires.free free)
+      rest = rw (rw (← c.fixed-early.ensures) at c.requires.free free)
           (rest_of_all c.commit_branch.new.self.puzzle c.enter_branch.new.stack.levels _ _);
       far = λ h. absurd (omega (arith, h));
       same = s.same;
@@ -196,31 +196,32 @@ loop-entered-preserved g c =
     }
 
 pub returns-then-steps-eq0-clause-ran : goal.returns-then-steps-eq0-clause-ran
-returns-then-steps-eq0-clause-ran g c u is =
+returns-then-steps-eq0-clause-ran g c = rw (← c.fixed-early.ensures) (λ u is.
     let bound : not (nat_eq g.row.BOUND 0) ≡ true = grind (arith, nat_tests, c.if-this-ne0.true) in
     rw c.halted.ensures (runs_to_steps
-    (stands_first (not c.args.task.early) c.args.task.first u _ _ _ c.requires.standing)
-    (λ _. omega arith) bound c.if-steps-eq0.true c.requires.before)
+    (stands_first (not c.fixed-early.result.early) c.fixed-early.result.first u _ _ _ c.requires.standing)
+    (λ _. omega arith) bound c.if-steps-eq0.true (rw c.fixed-early.ensures c.requires.before)))
 
 pub returns-then-steps-eq0-2-clause-ran : goal.returns-then-steps-eq0-2-clause-ran
-returns-then-steps-eq0-2-clause-ran g c u is =
+returns-then-steps-eq0-2-clause-ran g c = rw (← c.fixed-early.ensures) (λ u is.
     let on = (goal.at.returns-then-steps-eq0-2-clause-ran g c).After-commit_branch in
     let at = (goal.at.returns-then-steps-eq0-2-clause-ran g c).After-enter_branch in
     let s = c.loop-entered.invariant in
     let bound : not (nat_eq g.row.BOUND 0) ≡ true = grind (arith, nat_tests, c.if-this-ne0-2.true) in
-    let seen : IsRest (option_map (λ u. u.now) c.args.task.until) c.commit_branch.new.self.puzzle
-    c.enter_branch.new.stack.levels c.match-until.last c.args.task.first = elim c.match-until.branch [
+    let seen : IsRest (option_map (λ u. u.now) c.fixed-early.result.until) c.commit_branch.new.self.puzzle
+    c.enter_branch.new.stack.levels c.match-until.last c.fixed-early.result.first = elim c.match-until.branch [
       | in-Some+in-Before w ↦ rest_before c.commit_branch.new.self.puzzle w.levels.result.now
           c.enter_branch.new.stack.levels w.in-Some.until.now _ _ _ w.levels.ensures.levels
           (ap (option_map (λ u. u.now)) (sym s.same ∙ w.in-Some.is)) (w.place_apart.ensures.before w.in-Before.is)
       | in-Some+in-Begins w ↦ rest_about c.commit_branch.new.self.puzzle w.levels.result.now
           c.enter_branch.new.stack.levels w.in-Some.until.now _ _ _ w.levels.ensures.levels
           (ap (option_map (λ u. u.now)) (sym s.same ∙ w.in-Some.is)) (w.place_apart.ensures.begins w.in-Begins.is)
-          (omega (arith, w.last-is)) (none_left_out (option_map (λ u. u.now) c.args.task.until)
-          c.commit_branch.new.self.puzzle c.enter_branch.new.stack.levels c.args.task.first
-          (c.requires.all (rw (← s.same, w.in-Some.is) refl)))
+          (omega (arith, w.last-is)) (none_left_out (option_map (λ u. u.now) c.fixed-early.result.until)
+          c.commit_branch.new.self.puzzle c.enter_branch.new.stack.levels c.fixed-early.result.first
+          ((rw (← c.fixed-early.ensures) at c.requires.all) (rw (← s.same, w.in-Some.is) refl)))
       | in_default w ↦ rw (← s.same, w.in_default.is)
           (rest_of_all c.commit_branch.new.self.puzzle c.enter_branch.new.stack.levels _ _)
     ] in
     rw c.halted-then-steps-eq0-2.ensures (runs_to_steps (stands_more (s.stands u is) (begins g on u (rest g at u is)))
     (λ h. omega (arith, s.count h, going g at h)) bound c.if-steps-eq0-2.true seen.before)
+    )
