@@ -6,6 +6,7 @@ pub mod Led
 pub mod LessWork
 pub mod LevelsLeft
 pub mod LoopSteps
+pub mod Moved
 pub mod NextBranch
 pub mod NextLevel
 pub mod NextOption

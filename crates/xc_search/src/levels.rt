@@ -89,6 +89,7 @@ fn deepen<D: Dance, const WAY: bool>(
         Falls exact first until position.old stack.old m position.new stack.new m }
     ensures nothing_pays { result ≡ Below.Nothing → first ≡ 1 → (m : ℕ) →
         Pays position.old stack.old true m position.new stack.new false m }
+    ensures moved { result ≡ Below.Nothing → 0 < moves_made position.new }
 {
     let Some((item, count)) = next else {
         return Below::Solution;
@@ -265,6 +266,8 @@ fn go_below<D: Dance, const WAY: bool>(
         Pays position.old stack.old true more.old (branched position.new b.item b.place) stack.new true more.new }
     ensures back_pays { result ≡ Below.Nothing → first ≡ 1 →
         Pays position.old stack.old true more.old position.new stack.new false more.new }
+    ensures moved { result ≡ Below.Nothing → (stack.old.levels ≡ [] → 2 ^ 64 - 1 ≤ last.old) →
+        0 < moves_made position.new }
 {
     if stack.levels().len() == *last && skip_rest(position, more) {
         return Below::Nothing;
@@ -313,6 +316,8 @@ fn enter_branch<D: Dance, const WAY: bool>(
         Pays position.old stack.old true more.old (branched position.new b.item b.place) stack.new true more.new }
     ensures done_pays { result ≡ Next.Nothing → first ≡ 1 →
         Pays position.old stack.old true more.old position.new stack.new false more.new }
+    ensures moved { result ≡ Next.Nothing → (stack.old.levels ≡ [] → 2 ^ 64 - 1 ≤ last.old) →
+        0 < moves_made position.new }
 {
     match go_below::<D, WAY>(position, stack, early, first, more, last) {
         Below::Branch(entered) => return Next::Branch(entered),
@@ -405,6 +410,7 @@ pub fn run<'u, D: Dance, const BOUND: bool, const WAY: bool>(
         Pays position.old stack.old true task.entry.over position.new stack.new true result.more }
     ensures ended_pays { result.stop ≡ Stop.Nothing → task.entry.first ≡ 1 →
         Pays position.old stack.old true task.entry.over position.new stack.new false result.more }
+    ensures moved { result.stop ≡ Stop.Nothing → 0 < moves_made position.new }
 {
     let Task {
         until,

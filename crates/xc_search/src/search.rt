@@ -2,7 +2,7 @@
 //!
 //! All memory is taken before the first move, so `next` returns `Solution` or `Done` and nothing else, and lack of
 //! memory means that nothing was written.
-ghost use Rattle.std.specs.Prelude.{◌≡◌, ◌≤◌, [], ◌∷◌, drop, length, min};
+ghost use Rattle.std.specs.Prelude.{◌≡◌, ◌<◌, ◌≤◌, [], ◌∷◌, drop, length, min};
 ghost use Rattle.std.specs.Prelude.{IfOk, IfErr};
 ghost use Rattle.xc_dance.specs.Dancing.{moves_made};
 ghost use Rattle.xc_search.specs.Outlook.{shown_after, MakesFew};
@@ -94,6 +94,7 @@ impl<'a, D: Dance> Search<'a, D> {
           made = self.new.made;
         } }
         ensures moves { MakesFew self.old self.new }
+        ensures moved { 0 < self.new.made }
         ensures solution { result ≡ Step.Solution → self.old.to_come ≡ self.new.shown ∷ self.new.to_come }
         ensures done { result ≡ Step.Done → (self.old.to_come ≡ []) × (self.new ≡ record self.old
             { shown = []; ahead = self.new.ahead; made = self.new.made }) }
@@ -114,6 +115,7 @@ impl<'a, D: Dance> Search<'a, D> {
           made = self.new.made;
         } }
         ensures moves { MakesFew self.old self.new }
+        ensures moved { 0 < many → 0 < self.new.made }
         ensures count { result ≡ min many (length self.old.to_come) }
     {
         let passed = self.walk.pass(many);

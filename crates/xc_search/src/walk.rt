@@ -57,7 +57,7 @@ struct Standing<'a, D: Dance> {
 }
 
 impl<'a, D: Dance> Model for Walk<'a, D> {
-    ghost use Rattle.std.specs.Prelude.{◌≡◌, ◌≢◌, [], false};
+    ghost use Rattle.std.specs.Prelude.{◌≡◌, ◌≢◌, ◌<◌, [], false};
     ghost use Rattle.xc_search.specs.Outlook.{Outlook};
     ghost use Rattle.xc_dance.specs.Dancing.{moves_made};
     ghost use Rattle.xc_search.specs.inner.Ahead.{IsSolved};
@@ -81,6 +81,7 @@ impl<'a, D: Dance> Model for Walk<'a, D> {
       solved : at.unsearched ≡ false → at.stack.levels ≢ [] →
           IsSolved at.position.puzzle at.position.trail at.stack.levels;
       levels_fit : at.stack.room ≡ most_levels at.position.puzzle;
+      moved : at.unsearched ≡ false → 0 < moves_made at.position;
     } };
 }
 
@@ -166,6 +167,7 @@ impl<'a, D: Dance> Walk<'a, D> {
           made = self.new.made;
         } }
         ensures moves { MakesFew self.old self.new }
+        ensures moved { 0 < many → 0 < self.new.made }
         ensures count { result ≡ min many (length self.old.to_come) }
     {
         // Tested here, and not in the loop's function.
@@ -268,6 +270,7 @@ impl<'a, D: Dance> Standing<'a, D> {
             result.0.position result.0.stack result.0.unsearched }
         ensures pays { PaysFor self.entry.position self.entry.stack self.entry.unsearched many
             result.0.position result.0.stack }
+        ensures moved { 0 < moves_made result.0.position }
     {
         let Standing {
             mut position,

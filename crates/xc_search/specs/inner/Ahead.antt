@@ -77,7 +77,7 @@ pub record IsDone (d : Dancing) (ls : Levels) (down : Bool) (e : Dancing) (ks : 
   pub ended : ks.levels ≡ []
   pub members : coming d.puzzle d.trail ls.levels down ≡ []
   pub counted : ks.begun ≡ ls.begun
-  pub made : moves_made e ≤ moves_made d
+  pub made : moves_made e ≡ moves_made d
 
 -- a solution is left: the choices of the levels are a member
 pub record IsSolved (p : Puzzle) (t : List Move) (ls : List Level) : Type 0 where

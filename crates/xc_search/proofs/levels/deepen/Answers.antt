@@ -1,4 +1,5 @@
 use Rattle.std.proofs.Common.{arith, ◌≡◌, refl, ap}
+use Rattle.xc_search.proofs.stacked.Moved.{opens_moved}
 use Rattle.xc_search.proofs.moves.NoTweaks.{plain_above, plain_after_spend}
 use Rattle.xc_search.proofs.stacked.Depth.{depth_at}
 use Rattle.xc_search.proofs.stacked.EarlyChoice.{chosen_leads}
@@ -97,3 +98,8 @@ returns-clause-deeper_pays g c b is one early m =
     let was = c.loop-level.invariant in
     rw (← same_branch _ b is, c.push.ensures) (was.pays (omega (arith, was.within, was.some, one))
     (rw some.in-Some.is at early) m)
+
+pub returns-then-count-first-clause-moved : goal.returns-then-count-first-clause-moved
+returns-then-count-first-clause-moved g c _ =
+    opens_moved (opened g (goal.at.returns-then-count-first-clause-moved g c).After-descend-level)
+    c.undo_to.new.self c.undo_to.ensures

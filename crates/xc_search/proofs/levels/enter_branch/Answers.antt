@@ -51,3 +51,7 @@ returns-in-None-clause-done_made g c _ =
     (rest_of_all c.args.position.now.puzzle c.args.stack.now.levels c.args.last.now c.args.first) in
     let done = c.resume.ensures.done (rw c.in-None.is refl) in
     (done.counted ∙ ap (λ (s : Levels). s.begun) back.still.1, omega (arith, done.made, back.made))
+
+pub returns-in-None-clause-moved : goal.returns-in-None-clause-moved
+returns-in-None-clause-moved g c _ far =
+    omega (arith, (c.resume.ensures.done (rw c.in-None.is refl)).made, c.go_below.ensures.moved c.in-Nothing.is far)

@@ -1,5 +1,6 @@
 use Rattle.std.proofs.Common.{arith, ◌≡◌, ◌∙◌, not, refl}
 use Rattle.std.proofs.lemmas.List.{length-reverse}
+use Rattle.xc_search.proofs.stacked.Moved.{levels_moved, solved_moved}
 use Rattle.xc_search.proofs.stacked.EarlyChoice.{chosen_next, chosen_early}
 use Rattle.xc_search.proofs.stacked.NextLevel.{solution}
 use Rattle.xc_search.proofs.spans.Onward.{falls_over}
@@ -64,3 +65,21 @@ returns-else-more-eq0-clause-back g c _ until is =
 
 pub returns-else-more-eq0-clause-back_pays : goal.returns-else-more-eq0-clause-back_pays
 returns-else-more-eq0-clause-back_pays g c _ _ = grind (arith, as_many, pays_one)
+
+pub returns-then-skip_rest-clause-moved : goal.returns-then-skip_rest-clause-moved
+returns-then-skip_rest-clause-moved g c _ far =
+    let d = c.args.position.now in
+    omega (
+      arith,
+      levels_moved d.puzzle d.trail c.args.stack.now.levels c.args.last.now c.requires.standing.stacked far
+          (grind (arith, length-reverse)),
+    )
+
+pub returns-else-more-eq0-clause-moved : goal.returns-else-more-eq0-clause-moved
+returns-else-more-eq0-clause-moved g c _ _ =
+    let d = c.args.position.now in
+    rw (c.deepen.ensures.same c.in-Solution.is).0 (omega (
+      arith,
+      solved_moved d.puzzle d.trail c.args.stack.now.levels
+          (record { standing = c.requires.standing; none = c.deepen.ensures.solved c.in-Solution.is }),
+    ))

@@ -31,7 +31,7 @@ back g c = grind (arith, finished)
 pub returns-then-level-clause-resumed : goal.returns-then-level-clause-resumed
 returns-then-level-clause-resumed g c =
     goes_on_to _ _ _ _ _ _ false false _ _ c.loop-level.invariant.goes_on c.loop-level.invariant.less
-    c.loop-level.invariant.begun c.loop-level.invariant.made
+    c.loop-level.invariant.begun (omega (arith, c.loop-level.invariant.made))
     (enters_next c.loop-level.position c.enter_next-branch.new.position c.in-Some.level.now c.enter_next-branch.result
     c.loop-level.stack c.note_branch.new.self c.loop-level.invariant.goes_on.standing.stacked c.in-Some.ensures.some
     c.enter_next-branch.ensures.still (omega (arith, c.enter_next-branch.ensures.undone))

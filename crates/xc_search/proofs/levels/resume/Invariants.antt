@@ -16,7 +16,7 @@ invariant-loop-level g l = record {
   less : visits l.position.puzzle l.position.trail l.stack.levels ≤ visits l.initial.position.puzzle
       l.initial.position.trail l.initial.stack.levels;
   begun : l.stack.begun ≡ l.initial.stack.begun;
-  made : moves_made l.position ≤ moves_made l.initial.position;
+  made : moves_made l.position ≡ moves_made l.initial.position;
 }
 
 abbrev pub decreases-loop-level : goal.decreases-loop-level

@@ -4,6 +4,7 @@ use Rattle.core.specs.Option.{is_some}
 use Rattle.std.proofs.lemmas.Bool.Decides.{nat_tests}
 use Rattle.xc_input.proofs.Cases.{by_option}
 use Rattle.xc_search.specs.inner.Spanning.{BeginsBranch, IsRest, IsSeenBy}
+use Rattle.xc_search.proofs.stacked.Moved.{none_begun}
 use Rattle.xc_search.proofs.ends.Steps.{Pays-trans}
 use Rattle.xc_search.proofs.spans.Kept.{row_levels, rest_before, rest_about}
 use Rattle.xc_search.proofs.spans.Passing.{rest_of_all, first_rest, none_left_out}
@@ -225,3 +226,8 @@ returns-then-steps-eq0-2-clause-ran g c = rw (← c.fixed-early.ensures) (λ u i
     rw c.halted-then-steps-eq0-2.ensures (runs_to_steps (stands_more (s.stands u is) (begins g on u (rest g at u is)))
     (λ h. omega (arith, s.count h, going g at h)) bound c.if-steps-eq0-2.true seen.before)
     )
+
+pub returns-in-Nothing-clause-moved : goal.returns-in-Nothing-clause-moved
+returns-in-Nothing-clause-moved g c _ =
+    let s = c.loop-entered.invariant in
+    c.enter_branch.ensures.moved c.in-Nothing.is (λ none. s.far (none_begun (s.stands _ (inl refl)) none))

@@ -2,6 +2,7 @@ use Rattle.std.proofs.Common.{arith, true, false, None, subst, refl, ap, inl}
 use Rattle.xc_dance.specs.Dancing.{Dancing}
 use Rattle.xc_search.specs.inner.Due.{Pays}
 use Rattle.xc_search.specs.inner.Spanning.{RunsTo}
+use Rattle.xc_search.proofs.stacked.Moved.{solved_moved}
 use Rattle.xc_search.proofs.ends.Whole.{pays_stands, pays_ends}
 use Rattle.xc_search.proofs.spans.Passing.{ends_over}
 use Rattle.xc_search.proofs.spans.Runs.{member_behind, comes_to_end}
@@ -61,4 +62,12 @@ returns-clause-pays g c =
           let end = ran.ended is in
           pays_ends c.args.self.unsearched here has (ap (λ (d : Dancing). d.puzzle) end.still.0) end.ended
           (c.run-ran.ensures.ended_pays is refl)
+    ]
+
+pub returns-clause-moved : goal.returns-clause-moved
+returns-clause-moved g c =
+    let ran = ran g (goal.at.returns-clause-moved g c).After-run-ran in
+    elim c.match-ran.branch [
+      | in-Member w ↦ omega (arith, solved_moved _ _ _ (ran.solved w.in-Member.is).1)
+      | in-Steps w ↦ c.run-ran.ensures.moved (comes_to_end ran w.in-Steps.is)
     ]
