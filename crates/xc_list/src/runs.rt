@@ -117,6 +117,7 @@ fn write_members<'a, D: Dance, S: Sink>(
       made = walk.new.made;
     } }
     ensures moves { RunMakesFew bodies.now.puzzle walk.old.made walk.new.made result }
+    ensures moved { 0 < words.now.limit → 0 < walk.new.made }
     ensures went { WentTo (members bodies.now.puzzle) walk.new result }
     ensures run { IsRun bodies.now words.now.spacing words.now.limit
         (S.state sink.old) (S.state sink.new) result }
@@ -163,6 +164,7 @@ pub fn run_over<D: Dance, S: Sink>(
     ensures dance { D.state result.0 ≡ record (D.state dance) { undone = (D.state result.0).undone } }
     ensures moves { IfOk result.1
         (RunMakesFew problem.now.puzzle (moves_made (D.state dance)) (moves_made (D.state result.0))) }
+    ensures moved { IfOk result.1 (λ _. 0 < words.limit → 0 < moves_made (D.state result.0)) }
     ensures back { OnErr result.1 (D.state result.0 ≡ D.state dance) }
     ensures run { AnswersRun problem.now words.spacing words.limit
         (seen S.state sink.old) (seen S.state sink.new) result.1 }
@@ -192,6 +194,7 @@ pub fn run_over_links<S: Sink>(
     ensures built { IfOk result (λ back. IsSame back.0.puzzle back.0.trail problem.now.puzzle []) }
     ensures moves { IfOk result (λ back. IfOk back.1
         (RunMakesFew problem.now.puzzle 0 (moves_made (dancing_of back.0)))) }
+    ensures moved { IfOk result (λ back. IfOk back.1 (λ _. 0 < words.limit → 0 < moves_made (dancing_of back.0))) }
     ensures run { MatchResult result (λ back. AnswersRun problem.now words.spacing words.limit
         (seen S.state sink.old) (seen S.state sink.new) back.1) (λ _. sink.new ≡ sink.old) }
     ensures right { EachMemberCovers problem.now.puzzle }

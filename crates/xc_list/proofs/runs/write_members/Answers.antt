@@ -59,6 +59,7 @@ loop-found-preserved g c =
     record {
       still = rw (c.pass-passed.ensures.went, c.loop-found.invariant.still);
       ahead = grind (arith, ends_on);
+      moved = λ _. c.pass-passed.ensures.moved c.steps_to_printed-steps.ensures.some;
       moves = grind (arith, c.pass-passed.ensures.moves, c.loop-found.invariant.moves, c.loop-found.invariant.still);
       shown = (stands to).0;
       come = (stands to).1;

@@ -1,4 +1,4 @@
-use Rattle.std.proofs.Common.{◌≡◌, ◌≤◌, ◌+◌, ◌-◌, ◌*◌, Some, drop, length}
+use Rattle.std.proofs.Common.{◌≡◌, ◌<◌, ◌≤◌, ◌+◌, ◌-◌, ◌*◌, Some, drop, length}
 use Rattle.xc_input.specs.Problem.{numbered_get}
 use Rattle.xc_search.specs.Cover.{members}
 use Rattle.xc_search.specs.Ends.{ends, ends_after}
@@ -21,6 +21,7 @@ invariant-loop-found g l = record {
   ahead : l.walk.ahead ≡ ends_after l.found (ends (whole l.bodies.puzzle));
   moves : l.walk.made + room_for l.bodies.puzzle * length l.walk.ahead
       ≤ l.fn.walk.made + room_for l.bodies.puzzle * length (ends (whole l.bodies.puzzle));
+  moved : 0 < l.found → 0 < l.walk.made;
   shown : 1 ≤ l.found → numbered_get (members l.bodies.puzzle) l.found ≡ Some l.walk.shown;
   come : l.walk.to_come ≡ drop l.found (members l.bodies.puzzle);
   within : l.found ≤ length (members l.bodies.puzzle);
