@@ -52,7 +52,8 @@ solved_moved p [] ls s =
     let here = s.standing.searchable refl in
     let last = mapped_none _ _ (sym (choice_is_branch_item p [] here.legal) ∙ s.none) in
     let none = no_items_left _ _ last in
-    absurd (omega (arith, here.valid.one_primary, none_wanted p.bounds (ap (λ (r : Residual). r.items) (sym (no_moves_leave_all p)) ∙ none)))
+    let all = ap (λ (r : Residual). r.items) (no_moves_leave_all p) in
+    absurd (omega (arith, here.valid.one_primary, none_wanted p.bounds (sym all ∙ none)))
 
 -- a level that ended with no branch begun moved
 pub opens_moved : {d e : Dancing} {ls : Levels} {i n : ℕ} {l : Level} → Opens d e ls i n l → (f : Dancing)

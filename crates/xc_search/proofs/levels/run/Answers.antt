@@ -46,9 +46,11 @@ module _ (g : _) (c : After-enter_branch g) where
   going = c.loop-entered.invariant.some
 
   -- what is known of each end
-  rest : (u : Option (List ℕ)) → IsSeenBy (not (nat_eq g.row.BOUND 0)) u (option_map (λ u. u.now) c.fixed-early.result.until)
-      c.fixed-early.result.first c.fixed-early.result.steps c.args.position.now.puzzle c.args.stack.now.levels
-      → IsRest u c.loop-entered.position.puzzle c.loop-entered.stack.levels c.loop-entered.last c.fixed-early.result.first
+  rest : (u : Option (List ℕ)) → IsSeenBy (not (nat_eq g.row.BOUND 0)) u
+      (option_map (λ u. u.now) c.fixed-early.result.until) c.fixed-early.result.first
+      c.fixed-early.result.steps c.args.position.now.puzzle c.args.stack.now.levels
+      → IsRest u c.loop-entered.position.puzzle c.loop-entered.stack.levels c.loop-entered.last
+      c.fixed-early.result.first
   rest u is =
       let s = c.loop-entered.invariant in
       seen_rest is (s.stands u is) s.count going s.far s.rest
@@ -111,7 +113,8 @@ returns-in-Reached-clause-ran g c = rw (← c.fixed-early.ensures) (λ u is.
     let s = c.loop-entered.invariant in
     let bound : not (nat_eq g.row.BOUND 0) ≡ true = grind (arith, nat_tests, c.if-this-ne0-2.true) in
     rw c.halted-in-Reached.ensures (runs_to_row (s.stands u is) s.count bound (going g at bound)
-    (begins g on u (rest g at u is)) (rw (← s.same, c.in-Some.is, ← row) (c.place_apart.ensures.reached c.in-Reached.is))))
+    (begins g on u (rest g at u is))
+    (rw (← s.same, c.in-Some.is, ← row) (c.place_apart.ensures.reached c.in-Reached.is))))
 
 pub loop-entered-smaller-else-steps-eq0-2 : goal.loop-entered-smaller-else-steps-eq0-2
 loop-entered-smaller-else-steps-eq0-2 g c =

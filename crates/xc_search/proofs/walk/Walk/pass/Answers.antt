@@ -3,7 +3,8 @@ use Rattle.xc_search.proofs.stacked.PassedOver.{outlook_passed, stands_there, fe
 use Rattle.xc_search.proofs.walk.Walk.pass.Goals as goal
 
 pub invariant_of-self-2 : goal.invariant_of-self-2
-invariant_of-self-2 g c = grind (arith, stands_there c.replace_with.ensures.0 c.replace_with.ensures.1.0, c.replace_with.ensures.1.1)
+invariant_of-self-2 g c =
+    grind (arith, stands_there c.replace_with.ensures.0 c.replace_with.ensures.1.0, c.replace_with.ensures.1.1)
 
 pub returns-clause-went : goal.returns-clause-went
 returns-clause-went g c =
