@@ -1,8 +1,8 @@
 #!/usr/bin/env python3
 """streams.py [FOLDER]: what the programs do with their standard streams, which no contract can say.
 
-Each message is one write; a solution is seen before the search ends; a run that has what it was asked for ends; a
-closed stream is reported; `dlx-join` names lines that are far down and rows that are long. FOLDER holds the programs;
+Each message is one write; a solution is seen before the search ends; a run that has what it was asked for ends, one
+whose write fails too, and a span without a bound doesn't; a closed stream is reported; `dlx-join` names lines that are far down and rows that are long. FOLDER holds the programs;
 without it they are taken from where the gate leaves them. Prints what is wrong, and nothing else; the status is then 1.
 """
 import os
@@ -20,6 +20,7 @@ FOLDER = sys.argv[1] if len(sys.argv) > 1 else None
 HANG = 60
 NOWHERE = subprocess.DEVNULL
 PROBLEM = "problem 0123456789abcdef"
+READ, WRITE = "Read failed.", "Write failed."
 
 
 def path(program: str) -> str:
@@ -147,9 +148,48 @@ def short_runs_of_long_searches() -> Iterator[str]:
             yield f"{' '.join(words)} of the dominoes: {told}"
 
 
+# ---- a run ends once a write failed
+
+FULL = [
+    (["dlx1", "m1"], "Write failed at solution 1."),
+    (["dlx3", "m1"], "Write failed at solution 1."),
+    (["dlx-span", "1", "m1", "0", "-", "-"], WRITE),
+]
+
+
+def failed_writes_of_long_searches() -> Iterator[str]:
+    """The problem is that of the short runs, the device is full."""
+    for words, line in FULL:
+        with open(f"{TOP}/examples/dominoes.dlx", "rb") as problem, open("/dev/full", "wb") as full:
+            how = {"stdin": problem, "stdout": full, "stderr": subprocess.PIPE, "timeout": HANG}
+            try:
+                done = subprocess.run(command(words), **how)
+                told = done.returncode, done.stderr.decode().strip()
+            except subprocess.TimeoutExpired:
+                told = None, f"no end in {HANG} seconds"
+        if told != (3, line):
+            yield f"{' '.join(words)} of the dominoes into a full device: {told}"
+
+
+# ---- a span without a bound goes to its end
+
+PAIRS, ORDERS = 8, 40_320
+
+
+def spans_without_bound() -> Iterator[str]:
+    """All ways to pair eight with eight, for which the search begins some 20,000 branches."""
+    ours, others = [[f"{letter}{n}" for n in range(PAIRS)] for letter in "ab"]
+    text = "\n".join([" ".join(ours + others), *(f"{one} {other}" for one in ours for other in others), ""])
+    for printed in ("m0", "m1"):
+        words = ["dlx-span", "1", printed, "0", "-", "-"]
+        done = subprocess.run(command(words), input=text.encode(), stdout=subprocess.PIPE, stderr=NOWHERE, timeout=HANG)
+        record = done.stdout.decode().splitlines()[-1]
+        if not record.startswith(f"from - until - solutions {ORDERS} steps "):
+            yield f"{' '.join(words)} of {ORDERS} ways: {record}"
+
+
 # ---- a closed stream is reported
 
-READ, WRITE = "Read failed.", "Write failed."
 # A command, what it reads, and for each stream that is closed, input, output, messages, its status and its message.
 # Without messages a program that has nothing to report does its work.
 CLOSED = [
@@ -215,6 +255,8 @@ def main() -> int:
         each_message_is_one_write(),
         solutions_are_seen_at_once(),
         short_runs_of_long_searches(),
+        failed_writes_of_long_searches(),
+        spans_without_bound(),
         closed_streams(),
         places_in_texts(),
     ]
