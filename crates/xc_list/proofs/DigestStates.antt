@@ -9,7 +9,8 @@ use Rattle.xc_input.specs.ItemBounds.{bounds_of}
 use Rattle.xc_input.specs.Named.{Named}
 use Rattle.xc_input.specs.Problem.{numbered_get, primary_count}
 use Rattle.xc_list.specs.Digests.{problem_numbers, length_first, digest_after}
-use Rattle.xc_list.specs.inner.DigestParts.{bounds_numbers, bytes_numbers, uses_numbers, digest_multiplier, digest_start}
+use Rattle.xc_list.specs.inner.DigestParts.{bounds_numbers, bytes_numbers, uses_numbers, digest_multiplier}
+use Rattle.xc_list.specs.inner.DigestParts.{digest_start}
 use Rattle.xc_list.proofs.OutputLemmas.LaidOptions.{options_left}
 use Rattle.xc_list.proofs.Outputs.{take_next}
 use Rattle.xc_list.proofs.Writing.{one_more}

@@ -15,6 +15,7 @@ pub mod Runs
 pub mod Reached
 pub mod Advance
 pub mod Told
+pub mod Went
 pub mod Along
 pub mod Nodes
 pub mod Ranks

@@ -1,6 +1,6 @@
 //! A search of a span: of the members from one row of numbers on and before another.
-ghost use Rattle.std.specs.Prelude.{ℕ, ◌≡◌, ◌+◌, ◌*◌, ◌-◌, ◌^◌, ◌<◌, ◌≤◌, ◌⊎◌, List, [], ◌∷◌, ◌++◌, length, map, true};
-ghost use Rattle.std.specs.Prelude.{false, if◌then◌else◌, Some, None, IfSome, IsSome, IsSomeAnd, IfOk, IfErr};
+ghost use Rattle.std.specs.Prelude.{ℕ, ◌≡◌, ◌≢◌, ◌+◌, ◌*◌, ◌-◌, ◌^◌, ◌<◌, ◌≤◌, ◌⊎◌, List, [], ◌∷◌, ◌++◌, length, map};
+ghost use Rattle.std.specs.Prelude.{true, false, if◌then◌else◌, Some, None, IfSome, IsSome, IsSomeAnd, IfOk, IfErr};
 ghost use Rattle.std.specs.Prelude.{option_map, option_and_then, slice_get};
 ghost use Rattle.xc_search.specs.Outlook.{shown_after};
 ghost use Rattle.xc_search.specs.Room.{room_for};
@@ -43,6 +43,19 @@ pub struct Went {
     pub members: u64,
     /// How many branches it began.
     pub steps: u64,
+}
+
+impl Went {
+    /// It halted there, after so many members and steps.
+    fn at(halt: Halt, members: u64, steps: u64) -> Went
+        ensures { result ≡ record { halt = halt; members = members; steps = steps } }
+    {
+        Went {
+            halt,
+            members,
+            steps,
+        }
+    }
 }
 
 /// A number of a row: branch `k` of the `n` branches of its level.
@@ -197,28 +210,36 @@ impl<'a, D: Dance> Span<'a, D> {
         ensures { WentOnBy many steps result self.old self.new }
     {
         if self.ended {
-            self.choices.clear();
-            return Went {
-                halt: Halt::End,
-                members: 0,
-                steps: 0,
-            };
+            self.stay(Halt::End)
+        } else if many == 0 {
+            self.stay(Halt::Member)
+        } else if steps == 0 {
+            self.stay(Halt::Steps)
+        } else {
+            self.advance(many, steps)
         }
-        if many == 0 {
-            return Went {
-                halt: Halt::Member,
-                members: 0,
-                steps: 0,
-            };
+    }
+
+    /// Halts where it is. At a member it shows what it showed.
+    fn stay(&mut self, halt: Halt) -> Went
+        ensures member { halt ≡ Halt.Member → self.new ≡ self.old }
+        ensures other { halt ≢ Halt.Member → self.new ≡ record self.old { shown = [] } }
+        ensures went { result ≡ record { halt = halt; members = 0; steps = 0 } }
+    {
+        match halt {
+            Halt::Member => {}
+            Halt::End | Halt::Steps => self.choices.clear(),
         }
-        if steps == 0 {
-            self.choices.clear();
-            return Went {
-                halt: Halt::Steps,
-                members: 0,
-                steps: 0,
-            };
-        }
+        Went::at(halt, 0, 0)
+    }
+
+    /// Goes on, where its row isn't the end, by at least one member or one step.
+    fn advance(&mut self, many: u64, steps: u64) -> Went
+        requires row { IsSome self.old.row }
+        requires members { 0 < many }
+        requires steps { 0 < steps }
+        ensures { WentOnBy many steps result self.old self.new }
+    {
         // Where it is at a solution, it finds that one again.
         let over = if self.unsearched { many - 1 } else { many };
         let ran = go_over(&mut self.state, &mut self.numbers, self.until, over, steps);
@@ -228,29 +249,17 @@ impl<'a, D: Dance> Span<'a, D> {
                 self.unsearched = false;
                 let state = &self.state;
                 state.stack.show(&[], &state.position, &mut self.choices);
-                Went {
-                    halt: Halt::Member,
-                    members: many,
-                    steps: taken,
-                }
+                Went::at(Halt::Member, many, taken)
             }
             Stop::Row | Stop::Nothing => {
                 self.ended = true;
                 self.choices.clear();
-                Went {
-                    halt: Halt::End,
-                    members: many - 1 - ran.more,
-                    steps: taken,
-                }
+                Went::at(Halt::End, many - 1 - ran.more, taken)
             }
             Stop::Steps => {
                 self.unsearched = true;
                 self.choices.clear();
-                Went {
-                    halt: Halt::Steps,
-                    members: many - 1 - ran.more,
-                    steps: taken,
-                }
+                Went::at(Halt::Steps, many - 1 - ran.more, taken)
             }
         }
     }

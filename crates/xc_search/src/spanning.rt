@@ -12,14 +12,14 @@
 //!
 //! Where its steps run out a span goes back to a row of the search's tree, since an early choice may lead to branches
 //! that are none. The branch item at each level, if steps have a bound, took more instructions.
-ghost use Rattle.std.specs.Prelude.{◌≡◌, ◌<◌, ◌≤◌, List, ℕ, Option, [], true, false, not};
-ghost use Rattle.std.specs.Prelude.{filter, map, length, option_map, IfSome, IsSome, Some, vec_capacity};
-ghost use Rattle.xc_search.specs.Spans.{precedes, row_of, is_before};
+ghost use Rattle.std.specs.Prelude.{◌≡◌, ◌<◌, ◌≤◌, ℕ, Option, [], true, false, not};
+ghost use Rattle.std.specs.Prelude.{map, length, option_map, IsSome, Some, vec_capacity};
+ghost use Rattle.xc_search.specs.Spans.{is_before};
 ghost use Rattle.xc_search.specs.inner.MostLevels.{most_levels};
 ghost use Rattle.xc_search.specs.Residuals.{choice_after, wanted_after};
-ghost use Rattle.xc_search.specs.inner.Levels.{AreAllWanted, AreStacked, IsStanding, coming};
+ghost use Rattle.xc_search.specs.inner.Levels.{AreAllWanted, IsStanding};
 ghost use Rattle.xc_search.specs.inner.Paths.{AreLed, AreLedBy};
-ghost use Rattle.xc_search.specs.inner.Spanning.{IsSeenBy, RunsTo, RanTo, Settles, TakesWays, row_at};
+ghost use Rattle.xc_search.specs.inner.Spanning.{CanGoTo, CanRun, Reaches, Runs, RanTo, Settles};
 
 use crate::level::Level;
 use crate::levels::{Ran, Stop, Task, run, unwind};
@@ -41,17 +41,11 @@ pub struct State<'a, D: Dance> {
 /// loop does: through a reference the bases and lengths of all tables would be loaded anew after each write to one.
 #[inline(never)]
 pub fn run_on<'a, 'u, D: Dance>(state: State<'a, D>, task: Task<'u>) -> (State<'a, D>, Ran)
-    requires standing { IsStanding state.position.puzzle state.position.trail state.stack.levels true }
-    requires levels_fit { most_levels state.position.puzzle ≤ state.stack.room }
+    requires can { CanRun (option_map (λ u. u.now) task.until) state.position state.stack }
     requires first { task.first ≡ 1 }
     requires early { task.early ≡ true }
-    requires before { is_before (option_map (λ u. u.now) task.until)
-        (row_at state.position.puzzle state.stack.levels) ≡ true }
-    ensures { (u : Option (List ℕ)) → IsSeenBy true u (option_map (λ u. u.now) task.entry.until) task.entry.first
-        task.entry.steps state.entry.position.puzzle state.entry.stack.levels →
-        RunsTo true (not task.entry.early) task.entry.first u (option_map (λ u. u.now) task.entry.until)
-        state.entry.position state.entry.stack task.entry.over task.entry.steps
-        result.1.stop result.0.position result.0.stack result.1.more result.1.steps }
+    ensures { Runs true false 1 (option_map (λ u. u.now) task.entry.until) state.entry.position state.entry.stack
+        task.entry.over task.entry.steps result.0.position result.0.stack result.1 }
 {
     let State {
         mut position,
@@ -79,17 +73,12 @@ pub fn run_on<'a, 'u, D: Dance>(state: State<'a, D>, task: Task<'u>) -> (State<'
 /// Does what a task says, on the way to a row.
 #[inline(never)]
 pub fn run_way<'a, 'u, D: Dance>(state: State<'a, D>, task: Task<'u>) -> (State<'a, D>, Ran)
-    requires standing { IsStanding state.position.puzzle state.position.trail state.stack.levels true }
-    requires levels_fit { most_levels state.position.puzzle ≤ state.stack.room }
+    requires can { CanRun (option_map (λ u. u.now) task.until) state.position state.stack }
     requires first { 0 < task.first }
-    requires before { is_before (option_map (λ u. u.now) task.until)
-        (row_at state.position.puzzle state.stack.levels) ≡ true }
     requires all { IsSome task.until → task.first ≡ 1 }
-    ensures { (u : Option (List ℕ)) → IsSeenBy true u (option_map (λ u. u.now) task.entry.until) task.entry.first
-        task.entry.steps state.entry.position.puzzle state.entry.stack.levels →
-        RunsTo true (not task.entry.early) task.entry.first u (option_map (λ u. u.now) task.entry.until)
+    ensures { Runs true (not task.entry.early) task.entry.first (option_map (λ u. u.now) task.entry.until)
         state.entry.position state.entry.stack task.entry.over task.entry.steps
-        result.1.stop result.0.position result.0.stack result.1.more result.1.steps }
+        result.0.position result.0.stack result.1 }
 {
     let State {
         mut position,
@@ -104,31 +93,9 @@ pub fn run_way<'a, 'u, D: Dance>(state: State<'a, D>, task: Task<'u>) -> (State<
 /// choices, which may be others than the branch items where what is left has no solution.
 // By the search's loop, step by step, so that this has the one call of each large function and takes it in.
 fn reach_by<'a, D: Dance>(state: &mut State<'a, D>, from: &[u32], early: bool) -> bool
-    requires standing { IsStanding state.old.position.puzzle state.old.position.trail state.old.stack.levels true }
-    requires levels_fit { most_levels state.old.position.puzzle ≤ state.old.stack.room }
-    requires none { state.old.stack.levels ≡ [] }
-    requires unmoved { state.old.position.trail ≡ [] }
-    ensures still { state.new.position ≡ record state.old.position
-        { trail = state.new.position.trail; undone = state.new.position.undone } }
-    ensures levels { state.new.stack ≡ record state.old.stack
-        { levels = state.new.stack.levels; begun = state.new.stack.begun } }
-    ensures stacked { AreStacked state.new.position.puzzle state.new.position.trail state.new.stack.levels }
-    ensures standing { result ≡ true →
-        IsStanding state.new.position.puzzle state.new.position.trail state.new.stack.levels true }
-    ensures led { result ≡ true →
-        AreLedBy (not early) state.new.position.puzzle [] state.new.position.trail state.new.stack.levels }
-    ensures reached { result ≡ true →
-        precedes (row_at state.new.position.puzzle state.new.stack.levels) from.now ≡ false }
-    ensures kept { result ≡ true →
-        filter (λ m. not (precedes (row_of m) from.now))
-        (coming state.old.position.puzzle state.old.position.trail state.old.stack.levels true)
-        ≡ filter (λ m. not (precedes (row_of m) from.now))
-        (coming state.new.position.puzzle state.new.position.trail state.new.stack.levels true) }
-    ensures way { TakesWays 1 (length from.now) state.old.position state.old.stack
-        state.new.position state.new.stack }
-    ensures none { result ≡ false →
-        filter (λ m. not (precedes (row_of m) from.now))
-        (coming state.old.position.puzzle state.old.position.trail state.old.stack.levels true) ≡ [] }
+    requires start { CanGoTo state.old.position state.old.stack }
+    ensures { Reaches (not early) 1 from.now state.old.position state.old.stack
+        state.new.position state.new.stack result }
 {
     for number in from {
         let levels = state.stack.levels().len();
@@ -165,31 +132,9 @@ fn is_stuck<'a, D: Dance>(position: &Position<'a, D>) -> bool
 // By early choices, which look at few items. Each was the branch item where each item that is left in the end has
 // branches: one without any keeps none.
 pub fn reach<'a, D: Dance>(state: &mut State<'a, D>, from: &[u32]) -> bool
-    requires standing { IsStanding state.old.position.puzzle state.old.position.trail state.old.stack.levels true }
-    requires levels_fit { most_levels state.old.position.puzzle ≤ state.old.stack.room }
-    requires none { state.old.stack.levels ≡ [] }
-    requires unmoved { state.old.position.trail ≡ [] }
-    ensures still { state.new.position ≡ record state.old.position
-        { trail = state.new.position.trail; undone = state.new.position.undone } }
-    ensures levels { state.new.stack ≡ record state.old.stack
-        { levels = state.new.stack.levels; begun = state.new.stack.begun } }
-    ensures stacked { AreStacked state.new.position.puzzle state.new.position.trail state.new.stack.levels }
-    ensures standing { result ≡ true →
-        IsStanding state.new.position.puzzle state.new.position.trail state.new.stack.levels true }
-    ensures led { result ≡ true →
-        AreLed state.new.position.puzzle [] state.new.position.trail state.new.stack.levels }
-    ensures reached { result ≡ true →
-        precedes (row_at state.new.position.puzzle state.new.stack.levels) from.now ≡ false }
-    ensures kept { result ≡ true →
-        filter (λ m. not (precedes (row_of m) from.now))
-        (coming state.old.position.puzzle state.old.position.trail state.old.stack.levels true)
-        ≡ filter (λ m. not (precedes (row_of m) from.now))
-        (coming state.new.position.puzzle state.new.position.trail state.new.stack.levels true) }
-    ensures way { TakesWays 2 (length from.now) state.old.position state.old.stack
-        state.new.position state.new.stack }
-    ensures none { result ≡ false →
-        filter (λ m. not (precedes (row_of m) from.now))
-        (coming state.old.position.puzzle state.old.position.trail state.old.stack.levels true) ≡ [] }
+    requires start { CanGoTo state.old.position state.old.stack }
+    ensures { Reaches true 2 from.now state.old.position state.old.stack
+        state.new.position state.new.stack result }
 {
     if !reach_by(state, from, true) {
         return false;
@@ -242,12 +187,9 @@ pub fn go_over<'a, 'u, D: Dance>(
     over: u64,
     steps: u64,
 ) -> Ran
-    requires standing { IsStanding state.old.position.puzzle state.old.position.trail state.old.stack.levels true }
-    requires levels_fit { most_levels state.old.position.puzzle ≤ state.old.stack.room }
+    requires can { CanRun (option_map (λ u. u.now) until) state.old.position state.old.stack }
     requires row_fits { state.old.stack.room ≤ vec_capacity row.old }
     requires led { AreLed state.old.position.puzzle [] state.old.position.trail state.old.stack.levels }
-    requires before { is_before (option_map (λ u. u.now) until)
-        (row_at state.old.position.puzzle state.old.stack.levels) ≡ true }
     requires some { 0 < steps }
     ensures ran { RanTo state.old.position state.old.stack over steps (option_map (λ u. u.now) until.entry)
         result.stop state.new.position state.new.stack result.more result.steps }

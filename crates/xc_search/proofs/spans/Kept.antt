@@ -1,5 +1,6 @@
 -- On the way to a row.
-use Rattle.std.proofs.Common.{ℕ, ◌≡◌, ◌+◌, ◌*◌, Bool, true, not, List, [], map, filter, reverse, refl, sym, ap}
+use Rattle.std.proofs.Common.{ℕ, ◌≡◌, ◌+◌, ◌*◌, Bool, true, false, List, [], map, reverse, length, refl}
+use Rattle.std.proofs.Common.{sym, ap}
 use Rattle.std.proofs.Common.{◌∙◌, arith}
 use Rattle.std.proofs.Common.{Option, Some, ◌∷◌, ◌++◌, ◌-◌, ◌≤◌, append-nil, ap₂}
 use Rattle.std.specs.Prelude.{◌^◌}
@@ -10,9 +11,12 @@ use Rattle.xc_search.specs.declared.level.Level.{Level}
 use Rattle.xc_input.specs.Problem.{Puzzle}
 use Rattle.xc_search.specs.Spans.{row_of, precedes, is_before}
 use Rattle.xc_search.specs.inner.Levels.{Levels, IsStanding, chosen, coming}
-use Rattle.xc_search.specs.inner.Paths.{AreLedBy}
-use Rattle.xc_search.specs.inner.Spanning.{row_at, Ends, IsRest, LeavesOut, RunsTo, Stands, TakesWays}
+use Rattle.xc_search.specs.inner.Paths.{AreLed, AreLedBy}
+use Rattle.xc_search.specs.inner.Spanning.{row_at, from_on, CanGoTo, IsRest, LeavesOut, Reaches, RunsTo, Stands}
 use Rattle.xc_search.specs.declared.levels.Stop.{Stop}
+use Rattle.xc_search.specs.declared.levels.Stop.TheVariants.{Nothing}
+use Rattle.xc_search.specs.Cover.{members}
+use Rattle.xc_search.proofs.stacked.Start.{starts_coming}
 use Rattle.xc_search.specs.Room.{room_for}
 use Rattle.xc_search.proofs.ends.Steps.{room_in}
 use Rattle.xc_search.proofs.spans.Moves.{more_moves}
@@ -53,17 +57,10 @@ pub record Reaching (exact : Bool) (d : Dancing) (ls : Levels) (e : Dancing) (ks
   pub levels : ks ≡ record ls { levels = ks.levels; begun = ks.begun }
   pub standing : IsStanding e.puzzle e.trail ks.levels true
   pub led : AreLedBy exact e.puzzle [] e.trail ks.levels
-  pub kept : filter (λ m. not (precedes (row_of m) from)) (coming d.puzzle d.trail ls.levels true)
-      ≡ filter (λ m. not (precedes (row_of m) from)) (coming e.puzzle e.trail ks.levels true)
+  pub kept : from_on from (coming d.puzzle d.trail ls.levels true)
+      ≡ from_on from (coming e.puzzle e.trail ks.levels true)
   pub counted : ks.begun ≡ ls.begun + begun
   pub undone : e.undone ≤ d.undone + room_for d.puzzle * begun
-
--- All levels ended, and no member from the row on is left.
-pub record Unreached (d : Dancing) (ls : Levels) (e : Dancing) (ks : Levels) (from : List ℕ) : Type 0 where
-  pub still : e ≡ record d { trail = e.trail; undone = e.undone }
-  pub levels : ks ≡ record ls { levels = ks.levels; begun = ks.begun }
-  pub ended : ks.levels ≡ []
-  pub none : filter (λ m. not (precedes (row_of m) from)) (coming d.puzzle d.trail ls.levels true) ≡ []
 
 -- it began no branch there
 pub starts_reaching : (exact : Bool) (d : Dancing) (ls : Levels) (from : List ℕ)
@@ -95,66 +92,110 @@ module _ {exact : Bool} {d e : Dancing} {ls ks : Levels} {from : List ℕ} {befo
           (ap (λ (e : Dancing). e.puzzle) r.still) r.undone s.undone;
     }
 
-    -- the way to where it stands
-    pub way_there : (most : ℕ) → before ≤ most → TakesWays 1 most d ls e ks
-    way_there most few = record {
-      begun = before;
-      counted = r.counted;
-      few = omega (arith, few);
-      made = omega (
-        arith,
-        more_moves d.puzzle e.puzzle before 1 e.undone (moves_made e) d.undone
-            (ap (λ (e : Dancing). e.puzzle) r.still) r.undone
-            (omega (arith, room_in e.puzzle e.trail (r.standing.searchable refl))),
-      );
+    -- it stands at the row, or behind it
+    pub reaches_there : before ≤ length from → precedes (row_at e.puzzle ks.levels) from ≡ false
+        → Reaches exact 1 from d ls e ks true
+    reaches_there few past = record {
+      still = (r.still, r.levels);
+      stacked = r.standing.stacked;
+      standing = λ _. r.standing;
+      led = λ _. r.led;
+      reached = λ _. past;
+      kept = λ _. r.kept;
+      none = λ h. absurd (cc h);
+      way = record {
+        begun = before;
+        counted = r.counted;
+        few = omega (arith, few);
+        made = omega (
+          arith,
+          more_moves d.puzzle e.puzzle before 1 e.undone (moves_made e) d.undone
+              (ap (λ (e : Dancing). e.puzzle) r.still) r.undone
+              (omega (arith, room_in e.puzzle e.trail (r.standing.searchable refl))),
+        );
+      };
     }
 
-    -- or to where all levels ended, by one branch at most
-    pub way_past : (most : ℕ) {b x : Bool} {c : ℕ} {u until : Option (List ℕ)} {f : Dancing} {js : Levels}
-        {m n many steps : ℕ} {stop : Stop} (run : RunsTo b x c u until e ks m many stop f js n steps)
-        → before + run.begun ≤ most → TakesWays 1 most d ls f js
-    way_past most {f = f} run few =
+    -- or all levels ended, by one branch at most
+    pub reaches_none : {c : ℕ} {until : Option (List ℕ)} {f : Dancing} {js : Levels} {m n many steps : ℕ} {stop : Stop}
+        (run : RunsTo true exact c (Some from) until e ks m many stop f js n steps) → stop ≡ Nothing
+        → before + run.begun ≤ length from → Reaches exact 1 from d ls f js false
+    reaches_none {f = f} run is few =
+        let s = run.ended is in
         let all : before + (run.begun + 1) ≡ (before + run.begun) + 1 = omega arith in
         record {
-          begun = before + run.begun;
-          counted = omega (arith, r.counted, run.counted);
-          few = omega (arith, few);
-          made = rw (← all) (omega (
-            arith,
-            more_moves d.puzzle e.puzzle before (run.begun + 1) e.undone (moves_made f)
-                d.undone (ap (λ (e : Dancing). e.puzzle) r.still) r.undone run.made,
-          ));
+          still = (grind (arith, r.still, s.still), grind (arith, r.levels, s.still));
+          stacked = rw s.ended tt;
+          standing = λ h. absurd (cc h);
+          led = λ h. absurd (cc h);
+          reached = λ h. absurd (cc h);
+          kept = λ h. absurd (cc h);
+          none = λ _. r.kept ∙ over_keeps s.over;
+          way = record {
+            begun = before + run.begun;
+            counted = omega (arith, r.counted, run.counted);
+            few = omega (arith, few);
+            made = rw (← all) (omega (
+              arith,
+              more_moves d.puzzle e.puzzle before (run.begun + 1) e.undone (moves_made f)
+                  d.undone (ap (λ (e : Dancing). e.puzzle) r.still) r.undone run.made,
+            ));
+          };
         }
-
-    pub reaches_none : {c : ℕ} {f : Dancing} {js : Levels} {m n : ℕ} → Ends c (Some from) e ks m f js n
-        → Unreached d ls f js from
-    reaches_none s = record {
-      still = grind (arith, r.still, s.still);
-      levels = grind (arith, r.levels, s.still);
-      ended = s.ended;
-      none = r.kept ∙ over_keeps s.over;
-    }
 
 -- where there are no levels, they lead to no moves
 pub led_nowhere : (exact : Bool) (p : Puzzle) {t : List Move} {ls : List Level} → ls ≡ [] → t ≡ []
     → AreLedBy exact p [] t ls
 led_nowhere exact p levels moves = rw (levels, moves) refl
 
--- one way or two, and one way after another
-module _ {most : ℕ} {d e : Dancing} {ls ks : Levels} (w : TakesWays 1 most d ls e ks) where
-  pub one_of_two : TakesWays 2 most d ls e ks
-  one_of_two = record {
-    begun = w.begun;
-    counted = w.counted;
-    few = omega (arith, w.few);
-    made = omega (arith, w.made);
-  }
+-- one way, or two
+module _ {exact : Bool} {d e : Dancing} {ls ks : Levels} {from : List ℕ} {found : Bool}
+    (w : Reaches exact 1 from d ls e ks found)
+  where
+    pub one_of_two : (found ≡ true → AreLed e.puzzle [] e.trail ks.levels) → Reaches true 2 from d ls e ks found
+    one_of_two led = record {
+      still = w.still;
+      stacked = w.stacked;
+      standing = w.standing;
+      led = led;
+      reached = w.reached;
+      kept = w.kept;
+      none = w.none;
+      way = record {
+        begun = w.way.begun;
+        counted = w.way.counted;
+        few = omega (arith, w.way.few);
+        made = omega (arith, w.way.made);
+      };
+    }
 
-  pub two_ways : {f g : Dancing} {js is : Levels} → f.puzzle ≡ d.puzzle → moves_made f ≤ moves_made e
-      → js.begun ≡ ks.begun → TakesWays 1 most f js g is → TakesWays 2 most d ls g is
-  two_ways same back kept v = record {
-    begun = w.begun + v.begun;
-    counted = omega (arith, w.counted, kept, v.counted);
-    few = omega (arith, w.few, v.few);
-    made = omega (arith, w.made, back, rw same at v.made);
-  }
+    -- and back between them
+    module _ {f g : Dancing} {js is : Levels} {there : Bool} (start : CanGoTo d ls)
+        (undone : f ≡ record e { trail = []; undone = moves_made e }) (ended : js ≡ record ks { levels = [] })
+        (v : Reaches true 1 from f js g is there)
+      where
+        puzzle : f.puzzle ≡ d.puzzle
+        puzzle = ap (λ (d : Dancing). d.puzzle) undone ∙ ap (λ (d : Dancing). d.puzzle) w.still.0
+
+        all : coming d.puzzle d.trail ls.levels true ≡ coming f.puzzle f.trail js.levels true
+        all =
+            starts_coming d.puzzle d.trail ls.levels start.unmoved start.none ∙ ap members (sym puzzle)
+            ∙ sym (starts_coming f.puzzle f.trail js.levels (ap (λ (d : Dancing). d.trail) undone)
+            (ap (λ (s : Levels). s.levels) ended))
+
+        pub two_ways : Reaches true 2 from d ls g is there
+        two_ways = record {
+          still = (grind (arith, w.still, undone, v.still), grind (arith, w.still, ended, v.still));
+          stacked = v.stacked;
+          standing = v.standing;
+          led = v.led;
+          reached = v.reached;
+          kept = λ h. ap (from_on from) all ∙ v.kept h;
+          none = λ h. ap (from_on from) all ∙ v.none h;
+          way = record {
+            begun = w.way.begun + v.way.begun;
+            counted = omega (arith, w.way.counted, ap (λ (s : Levels). s.begun) ended, v.way.counted);
+            few = omega (arith, w.way.few, v.way.few);
+            made = omega (arith, w.way.made, ap moves_made undone, rw puzzle at v.way.made);
+          };
+        }

@@ -1,9 +1,10 @@
 -- No public clause cites this module. A search, step by step, of all or of a span.
 use Rattle.std.specs.Prelude.{ℕ, ◌+◌, ◌*◌, ◌<◌, ◌≡◌, ◌≢◌, Bool, true, false, List, [], ◌∷◌, ◌++◌, length, Option, ◌-◌}
-use Rattle.std.specs.Prelude.{◌≤◌, ◌⊎◌, ◌^◌}
+use Rattle.std.specs.Prelude.{◌≤◌, ◌⊎◌, ◌^◌, filter, not}
 use Rattle.std.specs.List.{AllByRecursion}
 use Rattle.xc_search.specs.declared.choice.Choice.{Choice}
 use Rattle.xc_search.specs.declared.level.Level.{Level}
+use Rattle.xc_search.specs.declared.levels.Ran.{Ran}
 use Rattle.xc_search.specs.declared.levels.Stop.{Stop}
 use Rattle.xc_search.specs.declared.levels.Stop.TheVariants.{Member, Steps, Row, Nothing}
 use Rattle.xc_input.specs.Problem.{Puzzle}
@@ -14,11 +15,16 @@ use Rattle.xc_search.specs.Nodes.{longest_row}
 use Rattle.xc_search.specs.Spans.{row_of, precedes, is_before, between}
 use Rattle.xc_search.specs.inner.Levels.{Levels, IsStanding, AreStacked, IsPlace, CanBranch, choices_of, coming}
 use Rattle.xc_search.specs.inner.Ahead.{IsSolved, work_left, branched}
-use Rattle.xc_search.specs.inner.Paths.{AreLed, KeepsBy, AreLater, numbers}
+use Rattle.xc_search.specs.inner.MostLevels.{most_levels}
+use Rattle.xc_search.specs.inner.Paths.{AreLed, AreLedBy, KeepsBy, AreLater, numbers}
 
 -- the row of the levels
 abbrev pub row_at : Puzzle → List Level → List ℕ
 row_at p ls = row_of (choices_of p ls)
+
+-- the members from a row on
+abbrev pub from_on : List ℕ → List (List Choice) → List (List Choice)
+from_on row ms = filter (λ m. not (precedes (row_of m) row)) ms
 
 -- the row from which on the search goes on: that of the levels, or the one right after it where it is at a
 -- solution
@@ -128,12 +134,46 @@ pub record RunsTo (bound exact : Bool) (first : ℕ) (u until : Option (List ℕ
   pub counted : ks.begun ≡ ls.begun + begun
   pub made : moves_made e ≤ d.undone + room_for d.puzzle * (begun + 1)
 
+-- Seen against each end that it may be seen against, one run came so far.
+abbrev pub Runs : Bool → Bool → ℕ → Option (List ℕ) → Dancing → Levels → ℕ → ℕ → Dancing → Levels → Ran → Type 0
+Runs bound exact first until d ls m most e ks ran =
+    (u : Option (List ℕ)) → IsSeenBy bound u until first most d.puzzle ls.levels
+    → RunsTo bound exact first u until d ls m most ran.stop e ks ran.more ran.steps
+
+-- A run may begin at levels ls in state d.
+pub record CanRun (until : Option (List ℕ)) (d : Dancing) (ls : Levels) : Type 0 where
+  pub standing : IsStanding d.puzzle d.trail ls.levels true
+  pub levels_fit : most_levels d.puzzle ≤ ls.room
+  pub before : is_before until (row_at d.puzzle ls.levels) ≡ true
+
+-- A way to a row begins in state d, which has no moves, where there are no levels.
+pub record CanGoTo (d : Dancing) (ls : Levels) : Type 0 where
+  pub standing : IsStanding d.puzzle d.trail ls.levels true
+  pub levels_fit : most_levels d.puzzle ≤ ls.room
+  pub none : ls.levels ≡ []
+  pub unmoved : d.trail ≡ []
+
 -- On so many ways to a row it began branches, so many at most on each.
 pub record TakesWays (ways most : ℕ) (d : Dancing) (ls : Levels) (e : Dancing) (ks : Levels) : Type 0 where
   pub begun : ℕ
   pub counted : ks.begun ≡ ls.begun + begun
   pub few : begun ≤ ways * most
   pub made : moves_made e ≤ moves_made d + room_for d.puzzle * (begun + ways)
+
+-- By so many ways it came to a row that doesn't come before this one, with no member from it on between. Or no such row
+-- was found, and no member from it on was to come.
+pub record Reaches (exact : Bool) (ways : ℕ) (from : List ℕ) (d : Dancing) (ls : Levels) (e : Dancing) (ks : Levels)
+    (found : Bool) : Type 0 where
+  pub still : (e ≡ record d { trail = e.trail; undone = e.undone })
+      × (ks ≡ record ls { levels = ks.levels; begun = ks.begun })
+  pub stacked : AreStacked e.puzzle e.trail ks.levels
+  pub standing : found ≡ true → IsStanding e.puzzle e.trail ks.levels true
+  pub led : found ≡ true → AreLedBy exact e.puzzle [] e.trail ks.levels
+  pub reached : found ≡ true → precedes (row_at e.puzzle ks.levels) from ≡ false
+  pub kept : found ≡ true → from_on from (coming d.puzzle d.trail ls.levels true)
+      ≡ from_on from (coming e.puzzle e.trail ks.levels true)
+  pub none : found ≡ false → from_on from (coming d.puzzle d.trail ls.levels true) ≡ []
+  pub way : TakesWays ways (length from) d ls e ks
 
 -- From the row of levels ls in state d it went back to the first level, and is at that row or at the next one of
 -- the search's tree, with no member between. Or no such row was found, and no member was to come.

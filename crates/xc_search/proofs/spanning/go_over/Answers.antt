@@ -8,7 +8,7 @@ use Rattle.xc_search.proofs.spanning.go_over.Goals as goal
 
 pub replace_with-ran-requires : goal.replace_with-ran-requires
 replace_with-ran-requires g c =
-    (c.requires.standing, (c.requires.levels_fit, (refl, (refl, c.requires.before))))
+    (c.requires.can, (refl, refl))
 
 pub settle-requires-clause-led : goal.settle-requires-clause-led
 settle-requires-clause-led g c =

@@ -5,7 +5,7 @@ use Rattle.std.proofs.Common.{refl, sym, ap, ◌∙◌, arith}
 use Rattle.xc_search.specs.Spans.{precedes}
 use Rattle.xc_search.specs.declared.levels.Stop.TheVariants.{Member, Steps, Row}
 use Rattle.xc_search.specs.inner.Spanning.{RunsTo, Stands}
-use Rattle.xc_search.proofs.spans.Kept.{reaches_on, reaches_none, starts_reaching, led_nowhere, way_there, way_past}
+use Rattle.xc_search.proofs.spans.Kept.{reaches_on, reaches_there, reaches_none, starts_reaching, led_nowhere}
 use Rattle.xc_search.proofs.spans.Numbers.{numbers_row}
 use Rattle.xc_search.proofs.spans.Reached.{IsNextNumber, next_number, seen_before, row_past, row_past_zero, row_more}
 use Rattle.xc_search.proofs.spans.Reached.{row_grows}
@@ -36,26 +36,11 @@ module _ (g : _) (c : After-replace_with g) where
       c.replace_with.new.dest.stack c.replace_with.result.more 1
   stands is = step_stands ran is
 
-pub returns-in-Nothing-clause-still : goal.returns-in-Nothing-clause-still
-returns-in-Nothing-clause-still g c =
-    (reaches_none c.loop-number.invariant.reaching
-    ((ran g (goal.at.returns-in-Nothing-clause-still g c).After-replace_with).ended c.in-Nothing.is)).still
-
-pub returns-in-Nothing-clause-levels : goal.returns-in-Nothing-clause-levels
-returns-in-Nothing-clause-levels g c =
-    (reaches_none c.loop-number.invariant.reaching
-    ((ran g (goal.at.returns-in-Nothing-clause-levels g c).After-replace_with).ended c.in-Nothing.is)).levels
-
-pub returns-in-Nothing-clause-stacked : goal.returns-in-Nothing-clause-stacked
-returns-in-Nothing-clause-stacked g c =
-    let end = reaches_none c.loop-number.invariant.reaching
-    ((ran g (goal.at.returns-in-Nothing-clause-stacked g c).After-replace_with).ended c.in-Nothing.is) in
-    rw end.ended tt
-
-pub returns-in-Nothing-clause-none : goal.returns-in-Nothing-clause-none
-returns-in-Nothing-clause-none g c _ =
-    (reaches_none c.loop-number.invariant.reaching
-    ((ran g (goal.at.returns-in-Nothing-clause-none g c).After-replace_with).ended c.in-Nothing.is)).none
+pub returns-in-Nothing : goal.returns-in-Nothing
+returns-in-Nothing g c =
+    let run = ran g (goal.at.returns-in-Nothing g c).After-replace_with in
+    reaches_none c.loop-number.invariant.reaching run c.in-Nothing.is
+    (omega (arith, c.loop-number.invariant.few, c.loop-number-test.true, run.bounded refl))
 
 pub returns-then-levels : goal.returns-then-levels
 returns-then-levels g c =
@@ -77,17 +62,7 @@ returns-then-levels g c =
       | then-levels-via-else-levels+then-number-eq0 w ↦
           row_past_zero (next g at) ks p later (s.down refl) (omega (arith, w.if-number-eq0.true))
     ] in
-    record {
-      still = on.still;
-      levels = on.levels;
-      stacked = on.standing.stacked;
-      standing = λ _. on.standing;
-      led = λ _. on.led;
-      reached = λ _. past;
-      kept = λ _. on.kept;
-      way = way_there on (length c.args.from.now) (omega (arith, c.loop-number.invariant.few, c.loop-number-test.true));
-      none = λ h. absurd (cc h);
-    }
+    reaches_there on (omega (arith, c.loop-number.invariant.few, c.loop-number-test.true)) past
 
 pub loop-number-preserved : goal.loop-number-preserved
 loop-number-preserved g c =
@@ -111,28 +86,20 @@ loop-number-preserved g c =
       few = omega (arith, c.loop-number.invariant.few);
     }
 
-pub returns-clause-reached : goal.returns-clause-reached
-returns-clause-reached g c _ =
+pub returns : goal.returns
+returns g c =
     let from = c.args.from.now in
     let whole : take c.loop-number.number-index from ≡ from = grind (arith, common_steps) in
+    let past : precedes _ from ≡ false =
     ap (λ r. precedes r from) (sym (numbers_row c.loop-number.state.position.puzzle c.loop-number.state.stack.levels)
-    ∙ c.loop-number.invariant.row ∙ whole) ∙ not_itself from
+    ∙ c.loop-number.invariant.row ∙ whole) ∙ not_itself from in
+    reaches_there c.loop-number.invariant.reaching (omega (arith, c.loop-number.invariant.few)) past
 
 pub loop-number-init : goal.loop-number-init
 loop-number-init g c = record {
   begun = 0;
-  reaching = starts_reaching (not c.args.early) _ _ _ c.requires.standing
-      (led_nowhere (not c.args.early) _ c.requires.none c.requires.unmoved);
-  row = rw c.requires.none refl;
+  reaching = starts_reaching (not c.args.early) _ _ _ c.requires.start.standing
+      (led_nowhere (not c.args.early) _ c.requires.start.none c.requires.start.unmoved);
+  row = rw c.requires.start.none refl;
   few = omega arith;
 }
-
-pub returns-in-Nothing-clause-way : goal.returns-in-Nothing-clause-way
-returns-in-Nothing-clause-way g c =
-    let at = (goal.at.returns-in-Nothing-clause-way g c).After-replace_with in
-    way_past c.loop-number.invariant.reaching (length c.args.from.now) (ran g at)
-    (omega (arith, c.loop-number.invariant.few, c.loop-number-test.true, (ran g at).bounded refl))
-
-pub returns-clause-way : goal.returns-clause-way
-returns-clause-way g c =
-    way_there c.loop-number.invariant.reaching (length c.args.from.now) (omega (arith, c.loop-number.invariant.few))

@@ -4,6 +4,7 @@ use Rattle.xc_search.specs.Room.{room_for}
 use Rattle.xc_search.specs.Cover.{members}
 use Rattle.xc_search.specs.Spans.{precedes, between}
 use Rattle.xc_search.specs.inner.Levels.{Levels, coming}
+use Rattle.xc_search.specs.inner.MostLevels.{most_levels}
 use Rattle.xc_search.specs.inner.Paths.{numbers}
 use Rattle.xc_search.specs.inner.Spanning.{row_at}
 use Rattle.xc_search.proofs.stacked.Start.{starts_standing, starts_coming}
@@ -15,12 +16,25 @@ use Rattle.xc_search.proofs.spans.Rows.{not_itself}
 use Rattle.xc_search.proofs.spans.Stuck.{led_free, never_stuck}
 use Rattle.xc_search.proofs.spanning.settle.Goals as goal
 
-pub reach_by-requires-clause-standing : goal.reach_by-requires-clause-standing
-reach_by-requires-clause-standing g c =
-    starts_standing c.args.state.now.position.puzzle (c.requires.standing.searchable refl).valid _ _ _
-    (ap (λ (d : Dancing). d.puzzle) c.unwind.ensures.position)
-    (ap (λ (d : Dancing). d.trail) c.unwind.ensures.position)
-    (ap (λ (s : Levels). s.levels) c.unwind.ensures.stack)
+pub reach_by-requires : goal.reach_by-requires
+reach_by-requires g c =
+    let puzzle = ap (λ (d : Dancing). d.puzzle) c.unwind.ensures.position in
+    let trail = ap (λ (d : Dancing). d.trail) c.unwind.ensures.position in
+    let levels = ap (λ (s : Levels). s.levels) c.unwind.ensures.stack in
+    record {
+      start = record {
+        standing = starts_standing c.args.state.now.position.puzzle (c.requires.standing.searchable refl).valid _ _ _
+            puzzle trail levels;
+        levels_fit = omega (
+          arith,
+          c.requires.levels_fit,
+          ap most_levels puzzle,
+          ap (λ (s : Levels). s.room) c.unwind.ensures.stack,
+        );
+        none = levels;
+        unmoved = trail;
+      };
+    }
 
 pub returns-clause-settles : goal.returns-clause-settles
 returns-clause-settles g c =
@@ -32,7 +46,7 @@ returns-clause-settles g c =
     let from = c.deref.result.now in
     let reach = c.reach_by.ensures in
     let is : from ≡ row_at d.puzzle ls = grind (arith, row_levels) in
-    let moved : e.puzzle ≡ f.puzzle = ap (λ (d : Dancing). d.puzzle) reach.still in
+    let moved : e.puzzle ≡ f.puzzle = ap (λ (d : Dancing). d.puzzle) reach.still.0 in
     let puzzle : e.puzzle ≡ d.puzzle = moved ∙ ap (λ (d : Dancing). d.puzzle) c.unwind.ensures.position in
     let all : coming f.puzzle f.trail c.unwind.new.stack.levels true ≡ members e.puzzle =
     starts_coming _ _ _ (ap (λ (d : Dancing). d.trail) c.unwind.ensures.position)
@@ -48,7 +62,6 @@ returns-clause-settles g c =
       still = grind (
         arith,
         reach.still,
-        reach.levels,
         c.unwind.ensures.position,
         c.unwind.ensures.stack,
       );

@@ -14,12 +14,24 @@ use Rattle.xc_search.proofs.spans.Nodes.{first_node}
 use Rattle.xc_search.proofs.span.Span.new.Goals as goal
 use Rattle.xc_search.proofs.span.Span.new.Goals.{Joined-not-reached, then-not-reached, else-not-reached}
 
-pub reach-reached-requires-clause-standing : goal.reach-reached-requires-clause-standing
-reach-reached-requires-clause-standing g c =
-    starts_standing _ c.most_levels-most.ensures.valid _ _ _
-    (ap (λ (s : Dancing). s.puzzle) c.new-position.ensures ∙ c.requires.same)
-    (ap (λ (s : Dancing). s.trail) c.new-position.ensures ∙ c.requires.none)
-    (ap (λ (s : Levels). s.levels) c.in-Ok-new.ensures)
+pub reach-reached-requires : goal.reach-reached-requires
+reach-reached-requires g c =
+    let puzzle = ap (λ (s : Dancing). s.puzzle) c.new-position.ensures ∙ c.requires.same in
+    let trail = ap (λ (s : Dancing). s.trail) c.new-position.ensures ∙ c.requires.none in
+    let levels = ap (λ (s : Levels). s.levels) c.in-Ok-new.ensures in
+    record {
+      start = record {
+        standing = starts_standing _ c.most_levels-most.ensures.valid _ _ _ puzzle trail levels;
+        levels_fit = omega (
+          arith,
+          c.most_levels-most.ensures.value,
+          ap most_levels puzzle,
+          ap (λ (s : Levels). s.room) c.in-Ok-new.ensures,
+        );
+        none = levels;
+        unmoved = trail;
+      };
+    }
 
 module _ (g : _) (c : Joined-not-reached g) where
   abbrev at : Dancing
@@ -29,7 +41,7 @@ module _ (g : _) (c : Joined-not-reached g) where
   until = option_map (λ u. u.now) c.args.until
 
   moved : at.puzzle ≡ c.new-position.result.puzzle
-  moved = ap (λ (s : Dancing). s.puzzle) c.reach-reached.ensures.still
+  moved = ap (λ (s : Dancing). s.puzzle) c.reach-reached.ensures.still.0
 
   puzzle : at.puzzle ≡ c.args.problem.now.puzzle
   puzzle = moved ∙ ap (λ (s : Dancing). s.puzzle) c.new-position.ensures ∙ c.requires.same
@@ -59,7 +71,7 @@ invariant_of-result g c =
     let open_at : c.if-not-reached.result ≡ false
     → (c.reach-reached.result ≡ true) × (c.is_before-within.result ≡ true) =
     λ h. grind (arith, nat_tests, ended g c, h) in
-    let room = ap (λ (s : Levels). s.room) reach.levels ∙ ap (λ (s : Levels). s.room) c.in-Ok-new.ensures in
+    let room = ap (λ (s : Levels). s.room) reach.still.1 ∙ ap (λ (s : Levels). s.room) c.in-Ok-new.ensures in
     let most = ap most_levels (puzzle g c) in
     record {
       stacked = reach.stacked;
