@@ -1,5 +1,5 @@
 -- What is true of a search's row, by its fields.
-use Rattle.std.proofs.Common.{ℕ, ◌≡◌, Bool, true, false, List, cond, Option, Some, None}
+use Rattle.std.proofs.Common.{ℕ, ◌≡◌, Bool, false, List, cond, Option, Some, None}
 use Rattle.std.proofs.Common.{sym, ap, ◌∙◌}
 use Rattle.std.specs.Prelude.{IfSome}
 use Rattle.xc_search.specs.declared.choice.Choice.{Choice}
