@@ -12,6 +12,7 @@ ghost use Rattle.xc_search.specs.Spans.{row_of, precedes, between, spans_from, R
 ghost use Rattle.xc_search.specs.Nodes.{IsRowOf, RowsGoOn, row_count};
 
 use crate::choice::Choice;
+use crate::marks::Mark;
 use crate::search::Step;
 use crate::span::{RowNumber, Went};
 
@@ -47,6 +48,13 @@ pub fn solutions_are_members()
 
 /// Two choices are equal exactly if they are the same.
 pub fn equal_choices(a: &Choice, b: &Choice) -> bool
+    ensures { result ≡ true ↔ a.now ≡ b.now }
+{
+    a == b
+}
+
+/// Two marks are equal exactly if they are the same.
+pub fn equal_marks(a: &Mark, b: &Mark) -> bool
     ensures { result ≡ true ↔ a.now ≡ b.now }
 {
     a == b
