@@ -1,7 +1,8 @@
 -- The solution of a number: by the branches of the branch item, and past solutions that are left out.
 use Rattle.std.proofs.Common.{ℕ, zero, suc, ◌≡◌, ◌≢◌, ◌<◌, ◌≤◌, ◌+◌, ◌-◌, Bool, true, false, cond, List, [], ◌∷◌, ◌++◌}
-use Rattle.std.proofs.Common.{length, map, filter, take, drop, Option, Some, None, refl, sym, ap, ap₂, ◌∙◌, arith, subst}
-use Rattle.std.proofs.Common.{inl, inr, append-nil, append_assoc, drop-cons, eqb, eq-eqb, is_le, is_gt, nat_cmp, ltb-false}
+use Rattle.std.proofs.Common.{length, map, filter, take, drop, Option, Some, None, refl, sym, ap, ap₂, ◌∙◌, arith}
+use Rattle.std.proofs.Common.{subst, inl, inr, append-nil, append_assoc, drop-cons, eqb, eq-eqb, is_le, is_gt, nat_cmp}
+use Rattle.std.proofs.Common.{ltb-false}
 use Rattle.std.proofs.Math.ListN.{get_or}
 use Rattle.std.specs.Prelude.{is_none, nat_lt, option_map, slice_get, flat_map, Contains}
 use Rattle.std.specs.List.{AllByRecursion, best_of, enumerate_from}

@@ -10,8 +10,8 @@ use Rattle.xc_count.specs.inner.Held.{holding_uses, left_by}
 use Rattle.xc_count.specs.inner.Numbered.{IsLess, behind_taken, left_by_key, size_left}
 use Rattle.xc_count.specs.inner.Worth.{says}
 use Rattle.xc_count.proofs.Below.{left_same}
-use Rattle.xc_count.proofs.ByNumber.{fork_primary, fork_listing, fork_less, members_with, few_options, more_than, number_empty}
-use Rattle.xc_count.proofs.ByNumber.{at_none, at_taken, at_passed, choice_of}
+use Rattle.xc_count.proofs.ByNumber.{fork_primary, fork_listing, fork_less, members_with, few_options, more_than}
+use Rattle.xc_count.proofs.ByNumber.{number_empty, at_none, at_taken, at_passed, choice_of}
 use Rattle.xc_count.proofs.HolderLemmas.{option_known}
 use Rattle.xc_count.proofs.branches.branch_with.Goals as goal
 
@@ -78,8 +78,8 @@ returns-then-le-clause-solution c =
     ∙ ap (λ r. length (listing r)) left in
     let few = le_from_is_le c.loop-place.number c.in_ok-covers.covers (sym c.le.ensures ∙ c.if-le.true) in
     c.loop-place.invariant.solution
-    ∙ at_taken p s c.args.fork.0 c.args.fork.1 (c.loop-place.k + 1) os c.loop-place.place c.loop-place.number (omega arith)
-    agreed.0 (omega (arith, few, many))
+    ∙ at_taken p s c.args.fork.0 c.args.fork.1 (c.loop-place.k + 1) os c.loop-place.place c.loop-place.number
+    (omega arith) agreed.0 (omega (arith, few, many))
     ∙ ap (λ r. option_map (λ m. choice_of c.args.fork.0 c.args.fork.1 (c.loop-place.k + 1) o ∷ m)
     (numbered_get (listing r) c.loop-place.number)) (sym left)
     ∙ ap (λ t. behind_taken p plan (Some t) c.loop-place.number) (sym c.taking.ensures)

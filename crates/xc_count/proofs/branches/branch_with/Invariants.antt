@@ -8,7 +8,7 @@ use Rattle.xc_count.proofs.branches.branch_with.Given as goal
 abbrev pub invariant-loop-place : goal.invariant-loop-place
 invariant-loop-place l = record {
   solution : solution_at l.problem.puzzle l.plan l.key l.initial.number
-      ≡ numbered_get (members_with l.problem.puzzle (says l.plan 0 l.key) l.fork.0 l.fork.1 (l.k + 1) (drop l.place l.options))
-      l.number;
+      ≡ numbered_get (members_with l.problem.puzzle (says l.plan 0 l.key) l.fork.0 l.fork.1 (l.k + 1)
+      (drop l.place l.options)) l.number;
   few : l.k ≤ l.place;
 }

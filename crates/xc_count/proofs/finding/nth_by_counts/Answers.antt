@@ -16,12 +16,14 @@ loop-fork-init c =
     ap₂ (λ r n. numbered_get (listing r) n) (sym all) (sym c.in_ok-rest.ensures.cases)
     ∙ ap (λ k. solution_at p plan k c.in_ok-rest.rest) (sym c.new-key.ensures.items)
     ∙ sym (after_none (solution_at p plan c.new-key.result.items c.in_ok-rest.rest))
-    ∙ ap (λ cs. after cs (solution_at p plan c.new-key.result.items c.in_ok-rest.rest)) (sym c.new-choices.ensures.items)
+    ∙ ap (λ cs. after cs (solution_at p plan c.new-key.result.items c.in_ok-rest.rest))
+    (sym c.new-choices.ensures.items)
 
 pub loop-fork-smaller : goal.loop-fork-smaller
 loop-fork-smaller c =
     let less = rw c.in-Some-2.is at c.in_ok-branch.ensures.less in
-    subst (λ k. IsLess c.args.problem.now.puzzle c.args.plan.now c.in-Some-2.branch.key.items k) c.as_slice-in-Some.ensures.value less
+    subst (λ k. IsLess c.args.problem.now.puzzle c.args.plan.now c.in-Some-2.branch.key.items k)
+    c.as_slice-in-Some.ensures.value less
 
 pub loop-fork-preserved : goal.loop-fork-preserved
 loop-fork-preserved c =
@@ -65,5 +67,6 @@ returns c =
     let told = c.eq-2.ensures in
     let false_is = c.if-eq.false in
     cc (same, told, false_is) in
-    sym (c.loop-fork.invariant ∙ past_leaf c.loop-fork.choices.items (listing (left_by_key p plan c.loop-fork.key.items))
-    c.loop-fork.rest (no_fork (left_by_key p plan c.loop-fork.key.items) none) other)
+    sym (c.loop-fork.invariant
+    ∙ past_leaf c.loop-fork.choices.items (listing (left_by_key p plan c.loop-fork.key.items)) c.loop-fork.rest
+    (no_fork (left_by_key p plan c.loop-fork.key.items) none) other)
