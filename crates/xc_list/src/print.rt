@@ -69,6 +69,7 @@ fn digit_of_digit(k: u8, n: u8) -> [u8; 10]
 }
 
 /// The end of a line where the branch has one digit and the number of branches two.
+#[tactic(auto, using(std::proofs::lemmas::Fmt::decimal_digit, std::proofs::lemmas::Fmt::decimal_step))]
 fn digit_of_two_digits(k: u8, n: u8) -> [u8; 11]
     requires branch { k < 10 }
     requires branches { (10 ≤ n) × (n < 100) }
@@ -90,6 +91,7 @@ fn digit_of_two_digits(k: u8, n: u8) -> [u8; 11]
 }
 
 /// The end of a line where both have two digits.
+#[tactic(auto, using(std::proofs::lemmas::Fmt::decimal_digit, std::proofs::lemmas::Fmt::decimal_step))]
 fn two_digits_of_two_digits(k: u8, n: u8) -> [u8; 12]
     requires branch { (10 ≤ k) × (k < 100) }
     requires branches { (10 ≤ n) × (n < 100) }
