@@ -42,7 +42,7 @@ uint32_t helgrothy_version(void);
 uint32_t helgrothy_fault(uint32_t kind, const void *text, size_t length, uint64_t seed, uint64_t *line,
                          uint32_t *fault);
 
-/* A fault in words by its number, as the programs print it behind the number of the line. It is never NULL. */
+/* A fault in words by its number, as the programs print it after the number of the line. It is never NULL. */
 static inline const char *helgrothy_fault_text(uint32_t fault) {
     static const char *const texts[] = {
         "no fault",

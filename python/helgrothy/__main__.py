@@ -8,7 +8,7 @@ from typing import NoReturn
 
 
 def main(words: Sequence[str] | None = None) -> int:
-    """Does what the words of a command say, and gives its status."""
+    """Does what the arguments of a command say; returns its status."""
     from . import commands
 
     return commands.main(sys.argv[1:] if words is None else list(words))

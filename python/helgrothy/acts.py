@@ -1,4 +1,4 @@
-"""What the commands of `helgrothy` do that make, solve, draw and judge problems; their words are in `commands`.
+"""What the commands of `helgrothy` do that make, solve, draw and judge problems; their arguments are in `commands`.
 
 What only some of them need they load themselves.
 """
@@ -20,7 +20,7 @@ if TYPE_CHECKING:
 
 # `lint` looks for a solution so long.
 _SEARCH_SECONDS = 5.0
-# Of the time that a command is given, so that what was found by then can be told.
+# Of the time that a command is given, so that what was found by then can be printed.
 _SHARE = 0.9
 
 
@@ -49,7 +49,7 @@ def make_and_solve(arguments: argparse.Namespace) -> int:
 
 
 def _made(arguments: argparse.Namespace) -> Problem[Any]:
-    """The problem of a kind; what its maker may have meant otherwise is told."""
+    """The problem of a kind; prints a warning of what may have been meant otherwise."""
     kind: Kind = arguments.kind
     problem = kind.make(arguments)
     for remark in kind.remarks(problem):

@@ -3,8 +3,8 @@
 Status 0 says that all is well, 1 that there is no solution, nothing to draw or something to remark, 2 that the
 command could not be done, with one line on standard error that says why.
 
-Here are their words; what they do is in `acts`. Nothing is loaded that the command at hand doesn't need: a command in a
-loop over files would wait for the others longer than for its own work.
+Here are their arguments; what they do is in `acts`. Nothing is loaded that the command at hand doesn't need: a command
+in a loop over files would wait for the others longer than for its own work.
 """
 
 from __future__ import annotations
@@ -41,7 +41,7 @@ examples:
 
 
 def main(words: Sequence[str]) -> int:
-    """Does what the words of a command say, and gives its status."""
+    """Does what the arguments of a command say; returns its status."""
     return console.run("helgrothy", lambda: _act(words), unread=0)
 
 
@@ -58,7 +58,7 @@ def parser_of_all() -> argparse.ArgumentParser:
 
 
 def _parser(words: Sequence[str]) -> argparse.ArgumentParser:
-    """The parser for these words: of one command alone where the first one is its name."""
+    """The parser for these arguments: of one command alone where the first one is its name."""
     parser = Parser(
         prog="helgrothy",
         description="Makes, solves and draws exact cover problems, by the programs dlx1, dlx2 and dlx3.",
@@ -153,7 +153,7 @@ def _add_solving(parser: argparse.ArgumentParser) -> None:
 
 
 def _add_which(parser: argparse.ArgumentParser) -> None:
-    """Which solutions are shown, or what is told of all."""
+    """Which solutions are shown, or what is reported of all."""
     which = parser.add_mutually_exclusive_group()
     which.add_argument("--number", type=natural, metavar="K", help="the K-th solution instead of the first")
     which.add_argument("--random", action="store_true", help="one of all solutions, each as likely as any other")
@@ -252,10 +252,10 @@ def _add_patterns(parser: argparse.ArgumentParser) -> None:
 def _add_lint(commands: Any) -> None:
     parser = commands.add_parser(
         "lint",
-        help="tell all faults and slips of a problem",
-        description="Tells each fault of a problem with its line and token, and what is no fault and yet often a slip: "
-        "items in no option, equal options, bounds whose sums can't work, and that there is no solution where a search "
-        "of a few seconds shows that. Status 1 says that there was something.",
+        help="report all faults and slips of a problem",
+        description="Reports each fault of a problem with its line and token, and what is no fault and yet often a "
+        "slip: items in no option, equal options, bounds whose sums can't work, and that there is no solution where a "
+        "search of a few seconds shows that. Status 1 says that there was something.",
     )
     console.add_problem(parser)
     parser.add_argument("--for", dest="program", choices=["dlx1", "dlx2", "dlx3"], default="dlx3", help="default: dlx3")
@@ -296,8 +296,8 @@ def _add_import(commands: Any) -> None:
 def _add_why(commands: Any) -> None:
     parser = commands.add_parser(
         "why",
-        help="tell which items conflict where there is no solution",
-        description="Tells primary items that can't all be held, where there is no solution: those that ask for more "
+        help="report which items conflict where there is no solution",
+        description="Reports primary items that can't all be held, where there is no solution: those that ask for more "
         "than the items beside them allow, else as few as leaving out finds in the time, by the programs and, where it "
         "is on the path, by cadical or clasp. Status 1 says that there is a solution.",
     )

@@ -23,9 +23,9 @@ _MOST_TEXT = 1 << 30
 _CHUNK = 1 << 20
 # No option has so many items that the line of a listing is longer.
 _MOST_LINE = 1 << 23
-# Numbers in the words of commands: the programs take these too.
+# Numbers in the arguments of commands: the programs take these too.
 _MOST_NUMBER = (1 << 64) - 1
-# Python reads so many digits at once, and so many of a wrong number are told.
+# Python reads so many digits at once, and so many of a wrong number are shown.
 _MOST_DIGITS, _MOST_TOLD_DIGITS = 4000, 40
 # More than anybody waits, and no more than the system's clocks take.
 _MOST_SECONDS = 1e9
@@ -33,13 +33,13 @@ _MOST_SECONDS = 1e9
 # is on its way, which may take seconds on a machine that does other things: a second one would break off what is done
 # at the end.
 _ON_ITS_WAY, _AT_WORK = 10.0, 0.5
-# Behind a wrong word so many that are as near, as `difflib` reckons, are told, or so many where none is near.
+# After a wrong name so many that are near to it, by `difflib`, are shown, or all where none is near and they are few.
 _MOST_NEAR, _NEAR, _MOST_TOLD = 3, 0.65, 20
 _INPUT, _OUTPUT, _ERROR = "standard input", "standard output", "standard error"
 
 
 class Parser(argparse.ArgumentParser):
-    """A parser whose messages are a line each, with what is near to a wrong word and no byte that steers a terminal.
+    """A parser whose messages are a line each, with what is near to a wrong name and no byte that steers a terminal.
 
     Options are written in full: what is short enough for one today may be another one's tomorrow.
     """
@@ -54,12 +54,12 @@ class Parser(argparse.ArgumentParser):
     def parse_known_args(self, args: Any = None, namespace: Any = None) -> Any:
         found, rest = super().parse_known_args(args, namespace)
         if rest:
-            # The commands of a parser look at their own words first.
+            # The commands of a parser look at their own arguments first.
             self.error(self._for_kind(getattr(found, "problem", ""), rest) or self._surplus(rest[0]))
         return found, rest
 
     def _for_kind(self, problem: str, rest: Sequence[str]) -> str:
-        """What to do where a kind of problems and its words stand for a problem, or nothing."""
+        """What to do where a kind of problems and its arguments stand for a problem, or nothing."""
         from .make import KINDS
 
         if problem not in KINDS or os.path.exists(problem):
@@ -68,11 +68,11 @@ class Parser(argparse.ArgumentParser):
         return f"{problem}: a problem stands here, and this makes one: {made} | {self.prog}"
 
     def _surplus(self, word: str) -> str:
-        """What is wrong with a word that no place or option takes."""
+        """What is wrong with an argument that no place or option takes."""
         if not word.startswith("-"):
-            return f"{word}: one word too many"
+            return f"{word}: one argument too many"
         if self._subparsers is not None:
-            return f"{word}: no such option; those of a command stand behind it"
+            return f"{word}: no such option; those of a command come after it"
         name = word.partition("=")[0]
         options = [option for action in self._actions for option in action.option_strings if option.startswith("--")]
         return f"{name}: no such option{did_you_mean(name, [one for one in options if one != '--help'])}"
@@ -84,8 +84,8 @@ class Parser(argparse.ArgumentParser):
 
 
 def did_you_mean(word: str, words: Iterable[str]) -> str:
-    """Behind a wrong word those of the right ones that are near to it, or all where none is and they are few."""
-    # A command whose words are right doesn't wait for it.
+    """What to show after a wrong name: the right ones that are near to it, or all where none is and they are few."""
+    # A command whose names are right doesn't wait for it.
     from difflib import get_close_matches
 
     known = {one.lstrip("-"): one for one in words}
@@ -135,7 +135,7 @@ def run(command: str, act: Callable[[], int], unread: int = 2) -> int:
     try:
         say(f"{command}: {reason}")
     except OSError:
-        # Nobody can be told why.
+        # Nobody can be shown why.
         _drop(sys.stderr, 2)
     return 2
 
@@ -224,7 +224,7 @@ def number(word: str) -> int:
 
 
 def write_long_numbers() -> None:
-    """Python writes no number of many digits unless it is told to."""
+    """Python writes no number of many digits unless it is asked to."""
     getattr(sys, "set_int_max_str_digits", lambda digits: None)(0)
 
 
@@ -268,7 +268,7 @@ def limited(most: float | None) -> Iterator[None]:
 
 
 class _Clock:
-    """What is done when time is over, while it is open; `tell` is what tells of exceptions that are lost."""
+    """What is done when time is over, while it is open; `tell` reports exceptions that are lost."""
 
     def __init__(self, most: float, tell: Callable[[Any], Any]) -> None:
         self.is_open = True
@@ -285,7 +285,7 @@ class _Clock:
             raise OutOfTime(f"it wasn't done in {self._most:g} seconds")
 
     def lose(self, lost: Any) -> None:
-        """One of these that is lost isn't told: the next one comes."""
+        """One of these that is lost isn't reported: the next one comes."""
         if lost.exc_type is OutOfTime:
             self._raised = None
         else:

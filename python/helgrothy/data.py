@@ -1,6 +1,6 @@
 """Solutions as data: a line of JSON for each solution, or a line of CSV for each choice.
 
-Options are told by their numbers, from 1 on, as the variables of exports are. `of_json` and `of_csv` give back a name
+Options are given by their numbers, from 1 on, as the variables of exports are. `of_json` and `of_csv` give back a name
 that isn't written as it is.
 """
 
@@ -23,7 +23,7 @@ Uses = Mapping[str, Optional[str]]
 
 # Lines of CSV are filled up to so many items: one long option doesn't make all others long.
 _MOST_FILLED = 1_000
-# A byte of a name as JSON has it, behind what stands there for a character that isn't known.
+# A byte of a name as JSON has it, after what stands there for a character that isn't known.
 _BYTE = re.compile("\ufffd([0-9a-f]{2})")
 _NOT_IN_JSON = re.compile("[\ufffd\udc80-\udcff]")
 # What a spreadsheet takes for a formula where it isn't a number, or begins with apostrophes and then so.

@@ -408,7 +408,7 @@ class Pattern:
     """A drawing by two patterns (regular expressions) that are looked for in the lines of options.
 
     cell: finds the cells of an option; its groups `row` and `column`, or else its first two, are their place, each a
-        number, or a single letter, which goes on behind the digits (9, a, b, ..). With one group all cells are in one
+        number, or a single letter, which goes on after the digits (9, a, b, ..). With one group all cells are in one
         row. A third group, or else the cell's colour, is the cell's label.
     label: finds the label of an option's other cells: its first group, or else all of it. Cells without any label
         are stars in the text; where options without a label fill several cells they have letters, as a map has colours:
@@ -448,7 +448,7 @@ class _Laid:
         self._top, self._left = min(r for r, _ in board), min(c for _, c in board)
         rows, columns = max(r for r, _ in board) - self._top + 1, max(c for _, c in board) - self._left + 1
         check_size(rows, columns, len(board))
-        # Where options without a name fill several cells they are pieces, to be told apart.
+        # Where options without a name fill several cells they are pieces, to be kept apart.
         lines = map(problem.line, problem.options)
         self._has_pieces = any(len(cells) > 1 and not name for name, cells in map(self._found, lines))
         self._shades = Shades()
@@ -535,7 +535,7 @@ def _number(word: str | None) -> int:
 
 
 def drawing_of(problem: Problem[Any]) -> Drawing:
-    """The drawing of a problem that `helgrothy.make` made, told by its first comment. Raises `NoPicture`."""
+    """The drawing of a problem that `helgrothy.make` made, known by its first comment. Raises `NoPicture`."""
     # The makers make problems, which are drawn here: so they can't be imported with the module.
     from .make import KINDS
     from .make.kind import kind_of

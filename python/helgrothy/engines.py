@@ -37,7 +37,7 @@ _ALONE_SECONDS, _ALONE_SHARE = 2.0, 0.25
 _TURN_SECONDS, _MOST_TURN = 2.0, 10.0
 # The engine may take so long, and the writing of the problem for it.
 _MOST_SECONDS, _MOST_WRITING = 600.0, 8.0
-# Behind so many seconds without a solution, and without an engine, a line says what would help.
+# After so many seconds without a solution, and without an engine, a line says what would help.
 _LONG_SECONDS = 10.0
 _HELP = "no solution yet; cadical or clasp, if it were on the path, would look for one too"
 
@@ -57,7 +57,7 @@ def solve(
 ) -> Solutions[Option]:
     """One solution, whoever finds it.
 
-    tell: is told by a line who found it, where that is an engine, and what an engine did wrong. Raises what
+    tell: gets a line that says who found it, where that is an engine, and what an engine did wrong. Raises what
     `Problem.solve` does, and `Claimed`.
     """
 

@@ -138,7 +138,7 @@ def cnf(problem: Problem[Any]) -> Iterator[str]:
 def clauses(problem: Problem[Any], let_off: Sequence[int] = ()) -> Clauses:
     """The clauses of a problem.
 
-    let_off: for each primary item a variable behind those of the options that lets it be held less often than its
+    let_off: for each primary item a variable after those of the options that lets it be held less often than its
     bounds say.
     """
     found = Clauses(max([len(problem.options), *let_off]))

@@ -1,6 +1,6 @@
 """Programs that end with the process that started them, however that ends.
 
-A process has one shell beside it, which is told of the programs that run, and kills them where its input ends, as it
+A process has one shell beside it, which gets the programs that run, and kills them where its input ends, as it
 does with the process. So a program needs nothing but a plain start, which costs a quarter of one that has Python ask
 the system for that in the new process.
 """
@@ -51,7 +51,7 @@ class _Guard:
         atexit.register(self._end_at_exit)
 
     def end(self) -> None:
-        """Programs are told of no longer. Who began the shell waits for it, so that nothing of it is left."""
+        """No more programs are reported. Who began the shell waits for it, so that nothing of it is left."""
         with suppress(OSError):
             os.close(self.pipe)
         self.pipe = -1

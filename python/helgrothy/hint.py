@@ -20,7 +20,7 @@ from .problem import Problem
 __all__ = ["Hint", "NoHint", "find", "lines"]
 
 # Items with so many options left are tried, and a choice is followed for so many forced steps; so many choices that
-# rule an item's options out are told.
+# rule an item's options out are shown.
 _MOST_TRIED, _MOST_STEPS, _MOST_TOLD = 3, 12, 4
 _LONGEST = 60
 
@@ -54,7 +54,7 @@ def find(
     """A forced option, where options of some places are chosen and others are out of question.
 
     has_clues: whether items with as many options as they ask for are clues, which are no hints, as those of a Sudoku.
-    Raises `NoHint`, and `OutOfTime` where so many seconds of searching don't tell.
+    Raises `NoHint`, and `OutOfTime` where so many seconds of searching don't show it.
     """
     deadline = time.monotonic() + seconds
     state = _State(problem, dropped)

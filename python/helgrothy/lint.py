@@ -18,7 +18,7 @@ from .syntax import COMMENT, Bounds, Sheet, read
 __all__ = ["Remark", "lint"]
 
 _LONGEST = 40
-# Of each rule so many remarks are told.
+# Of each rule so many remarks are given.
 _MOST = 1_000
 
 
@@ -45,14 +45,14 @@ def lint(
 ) -> list[Remark]:
     """All remarks on the text of a problem for dlx`kind`, in the order of its lines. Raises nothing.
 
-    Proofs that the sums of the bounds can't work are looked for so many seconds. Behind a thousand faults the text
-    isn't read on, and of each kind of slip a thousand are told.
+    Proofs that the sums of the bounds can't work are looked for so many seconds. After a thousand faults the text
+    isn't read on, and of each kind of slip a thousand are reported.
 
     searching: whether there is a solution is searched so many seconds, by the programs and by another engine where the
-        path has one. tell: is told by a line what that did wrong.
+        path has one. tell: gets a line that says what that did wrong.
     """
     sheet = read(text, kind)
-    # What is behind all others stands before them.
+    # What comes after all others is worked out before them.
     comment = list(_hash(sheet))
     faults = [Remark(fault.line, fault.token, _reason(fault.reason, fault.hint), True) for fault in sheet.faults]
     remarks = comment + faults
@@ -118,7 +118,7 @@ def _mark(sheet: Sheet) -> Iterator[Remark]:
 
 
 def _bars(sheet: Sheet) -> Iterator[Remark]:
-    """`| a b` is a comment, not an item line without primary items: told where what follows uses its names."""
+    """`| a b` is a comment, not an item line without primary items: reported where what follows uses its names."""
     if not sheet.item_line:
         return
     used = set(sheet.items)

@@ -1,7 +1,7 @@
 """Listings: from the lines of a choice to the options of a problem.
 
 A choice line gives an option's uses from the branch item on, round the option, so one option has as many lines as
-it has uses, each with ` (k of n)` behind it. `Decoder` knows an option by the rotation that begins with its least
+it has uses, each with ` (k of n)` after it. `Decoder` knows an option by the rotation that begins with its least
 word.
 """
 
@@ -21,7 +21,7 @@ S = TypeVar("S")
 _HEADER = re.compile(rb"([0-9]{1,20}):\Z")
 _CHOICE = re.compile(rb" \S+(?: \S+)* \([0-9]{1,10} of [0-9]{1,10}\)\Z")
 _NUMBERS = re.compile(rb"^([0-9]{1,20}):$", re.MULTILINE)
-# So many lines are remembered with the numbers behind them.
+# So many lines are remembered with the numbers after them.
 _MOST_LINES = 1 << 15
 
 
@@ -71,7 +71,7 @@ class Decoder(dict[bytes, Union[Option, Null]], Generic[Option]):
 
     def __init__(self, options: Mapping[bytes, Option], items: Mapping[bytes, Hashable]) -> None:
         super().__init__()
-        # A body has as many lines as there are numbers behind it; of bodies there are at most as many as uses.
+        # A body has as many lines as there are numbers after it; of bodies there are at most as many as uses.
         self._bodies: dict[bytes, Option | Null] = {}
         self._options = options
         self._items = items
@@ -86,7 +86,7 @@ class Decoder(dict[bytes, Union[Option, Null]], Generic[Option]):
         return choice
 
     def read(self, lines: bytes) -> list[Option | Null]:
-        """The choices of lines, without what stands behind the last one's end."""
+        """The choices of lines, without what stands after the last one's end."""
         parts = lines.split(b"\n")
         parts.pop()
         return list(map(self.__getitem__, parts))
@@ -106,10 +106,10 @@ def stream(
     is_whole: Callable[[bytes], bool],
     count: Callable[[int], None] = lambda more: None,
 ) -> Generator[S, None, bool]:
-    """The solutions of a program's own listing as its bytes come; `give` makes one of its choice lines, and `count` is
-    told how many more there are.
+    """The solutions of a program's own listing as its bytes come; `give` makes one of its choice lines, and `count`
+    gets how many more there are.
 
-    A solution ends where the next one begins, and behind its lines is that one's number, which is no line. So that
+    A solution ends where the next one begins, and after its lines is that one's number, which is no line. So that
     the last one that came needn't wait for it, `is_whole` says whether lines are all of a solution. Returns whether
     the listing ends within one.
     """

@@ -43,7 +43,7 @@ class Minimal:
 def find(problem: Problem[Any], given: Sequence[int], seed: int = 0, seconds: float = 30.0) -> Minimal:
     """Of the options that are given, by their places, as few as letting go leaves; a seed says in which order.
 
-    Raises `NotUnique`, and `OutOfTime` where so many seconds don't tell that.
+    Raises `NotUnique`, and `OutOfTime` where so many seconds don't show that.
     """
     deadline = time.monotonic() + seconds
     found = solutions(problem, given, deadline)

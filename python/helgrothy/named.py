@@ -1,7 +1,7 @@
-"""Options by the names of their items, as words of commands and lines of files say them.
+"""Options by the names of their items, as arguments of commands and lines of files say them.
 
 A word is the name of an item, or a pattern of names as shells have them (`mon*`, `r?c1`, `[ab]1`), and may have a colon
-and a colour behind it, `A:x`. A name that is an item's is that item alone, whatever signs are in it.
+and a colour after it, `A:x`. A name that is an item's is that item alone, whatever signs are in it.
 """
 
 from __future__ import annotations
@@ -14,7 +14,7 @@ from typing import Any
 from .problem import Problem
 from .syntax import Nearest
 
-# Of options that may have been meant so many are told, each by its first characters.
+# Of options that may have been meant so many are shown, each by its first characters.
 _MOST_TOLD, _LONGEST = 3, 60
 
 

@@ -50,7 +50,7 @@ class Problem(Generic[Option]):
     comments: lines of text that stand above the problem when it is written.
 
     Items and colours are any hashable values, equal ones being the same. An option without a primary item is in no
-    solution, which a warning tells. Raises `ProblemFault` where an item is unknown, twice in an option, named twice,
+    solution, which a warning says. Raises `ProblemFault` where an item is unknown, twice in an option, named twice,
     and so on; it says in which option.
 
     What was given is kept as these attributes:
@@ -125,7 +125,7 @@ class Problem(Generic[Option]):
             raise _fault(item, "name repeated")
 
     def add_option(self, option: Option) -> int:
-        """Adds an option behind the others; returns its number in `options`, from 0 on. Raises `ProblemFault`."""
+        """Adds an option after the others; returns its number in `options`, from 0 on. Raises `ProblemFault`."""
         self._take(option)
         return len(self.options) - 1
 
@@ -203,7 +203,7 @@ class Problem(Generic[Option]):
     def parse(cls, text: str | bytes, kind: int = 3) -> Problem[dict[str, str | None]]:
         """The problem of a text, as the program dlx`kind` reads it; its options are mappings.
 
-        Options that are ignored are left out. Raises `ProblemFault`, the one that the program would tell.
+        Options that are ignored are left out. Raises `ProblemFault`, the one that the program would report.
         """
         return cls._of_sheet(read(bytes_of(text) if isinstance(text, str) else text, kind, most_faults=1))
 
@@ -387,7 +387,7 @@ class Problem(Generic[Option]):
         Without a limit dlx-count runs beside the search, and the first that ends gives the number.
 
         jobs: search by up to so many processors at once. executor: search by the workers of an executor of
-        `concurrent.futures`, such as Dask's, of which there are `jobs`. progress: is told now and then how far the
+        `concurrent.futures`, such as Dask's, of which there are `jobs`. progress: gets now and then how far the
         search is. With any of these it is cut into spans, and there is no limit.
 
         Raises `ProgramNotFound`, `ProgramFailed` and, where it takes longer than `seconds`, `OutOfTime`, whose `found`
@@ -592,12 +592,12 @@ def _ended(lines: Iterable[str]) -> Iterator[bytes]:
 
 
 def _words(limit: int | None, spacing: int) -> list[str]:
-    """The words of a solver that print each solution whose number is a multiple of `spacing`, none of 0."""
+    """The arguments of a solver that print each solution whose number is a multiple of `spacing`, none of 0."""
     return ([f"m{spacing}"] if spacing else []) + ([f"t{limit}"] if limit is not None else [])
 
 
 def _listing_fault(failed: ProgramFailed, listing: bytes) -> Exception:
-    """The fault that dlxcheck told of a listing; what else it failed with comes back as it is."""
+    """The fault that dlxcheck reported of a listing; what else it failed with comes back as it is."""
     start, _, rest = failed.message.partition("Listing line ")
     number, _, reason = rest.partition(": ")
     if start or not number.isdigit():

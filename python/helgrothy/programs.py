@@ -109,7 +109,7 @@ _running: set[Running] = set()
 
 
 def end_all() -> None:
-    """Ends the programs that run: behind an exception that came while one was being ended."""
+    """Ends the programs that run: after an exception that came while one was being ended."""
     for process in list(_running):
         process.kill()
         process.wait()
@@ -117,7 +117,7 @@ def end_all() -> None:
 
 
 def worked(program: int, begun: float) -> float:
-    """How many seconds of a processor a program has had; since it was begun, where the system doesn't tell that."""
+    """How many seconds of a processor a program has had; since it was begun, where the system doesn't say that."""
     try:
         with open(f"/proc/{program}/stat", "rb") as file:
             # A name may have any byte in it.
@@ -221,7 +221,7 @@ class Run:
             raise OutOfTime(f"{self.program} took longer than it was given") from None
 
     def worked(self) -> float:
-        """How many seconds of a processor it has had; since its start, where the system doesn't tell that."""
+        """How many seconds of a processor it has had; since its start, where the system doesn't say that."""
         return worked(self._process.pid, self._begun)
 
     def pause(self) -> None:
@@ -248,7 +248,7 @@ class Run:
 
 
 def _begun(words: Sequence[str], given: IO[bytes], told: IO[bytes]) -> subprocess.Popen[bytes]:
-    """A process of these words. Where it can't be begun, or a clock has run down meanwhile, nothing of it is left."""
+    """A process with these arguments. If it can't be begun, or a clock has run down meanwhile, nothing of it stays."""
     process = None
     try:
         with undisturbed():

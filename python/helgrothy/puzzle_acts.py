@@ -1,4 +1,4 @@
-"""What the commands do for who solves puzzles by hand, and for who makes them; their words are in `puzzle_commands`."""
+"""What the commands do for who solves or makes puzzles by hand; their arguments are in `puzzle_commands`."""
 
 from __future__ import annotations
 
@@ -17,7 +17,7 @@ if TYPE_CHECKING:
 
     from .make.clues import Clues
 
-# Of the time that a command is given, so that what was found by then can be told.
+# Of the time that a command is given, so that what was found by then can be printed.
 _SHARE = 0.9
 
 

@@ -18,9 +18,9 @@ WITH_CLUES = ("sudoku", "kakuro")
 
 
 class _KindOrProblem(argparse._SubParsersAction):  # type: ignore[type-arg]
-    """The commands of a command: kinds of problems, and any other word is a problem's file."""
+    """The commands of a command: kinds of problems, and any other argument is a problem's file."""
 
-    # For the parser's look at the word.
+    # For the parser's look at the argument.
     takes_others = True
     otherwise: argparse.ArgumentParser
     # The names of all kinds that it takes; the parser may have fewer.
@@ -46,7 +46,7 @@ def _add_command(
     act: Callable[[argparse.Namespace], int],
     words: Sequence[str] | None,
 ) -> None:
-    """A command whose words are a problem's file, or a kind and what that takes; with words only what is for these."""
+    """A command that takes a problem's file, or a kind and what that takes; with `words`, only what these need."""
     parser = commands.add_parser(name, help=help, description=description)
     add_options(parser)
     parser.set_defaults(command=act, kind=None, problem="-")
@@ -70,7 +70,7 @@ def _add_command(
 
 
 def _asked(kinds: Sequence[str], words: Sequence[str] | None) -> Sequence[str]:
-    """The kinds that words name; all without words, or where these ask for help on all."""
+    """The kinds that arguments name; all if there are none, or if they ask for help on all."""
     if words is None:
         return kinds
     named = [kind for kind in kinds if kind in words]
@@ -100,13 +100,13 @@ def add_choices(parser: argparse.ArgumentParser) -> None:
 def add(
     commands: Any, name: str, act: Callable[[argparse.Namespace], int], words: Sequence[str] | None = None
 ) -> None:
-    """Adds a command, which does what `act` does, to those of a parser; with words only what is for these."""
+    """Adds a command, which does what `act` does, to those of a parser; with `words`, only what these need."""
     if name == "hint":
         _add_command(
             commands,
             name,
-            "tell a step that is forced, and why",
-            "Tells one option that is in each solution, with the reason: an item has no other option left, or others "
+            "report a step that is forced, and why",
+            "Reports one option that is in each solution, with the reason: an item has no other option left, or others "
             "soon fail, or a search finds no solution without it. Status 1 says that nothing is forced.",
             tuple(KINDS),
             _add_hint_options,

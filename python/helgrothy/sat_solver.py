@@ -26,7 +26,7 @@ from .errors import AnswerFault, HelgrothyError, ListingFault, OutOfTime, Proble
 from .problem import Problem
 from .shown import bytes_of
 
-# Engines, and the words by which they print an answer and little else.
+# Engines, and the arguments by which they print an answer and little else.
 SOLVERS = {"cadical": ["-q"], "clasp": ["-V0"]}
 # The status of an engine that reports that there is no solution.
 _NONE = 20
@@ -191,7 +191,7 @@ def text(engine: Engine, problem: Problem[Any]) -> Iterator[bytes]:
 
 
 class Solver:
-    """An engine for a problem that is written once: which primary items are to be held is told with each question."""
+    """An engine for a problem that is written once: which primary items are to be held is said with each question."""
 
     def __init__(self, problem: Problem[Any], engine: Engine) -> None:
         self.name = engine.name

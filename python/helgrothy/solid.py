@@ -10,7 +10,7 @@ from .draw import Cell, Picture, check_size
 from .errors import NoPicture
 from .shown import shown
 
-# A layer, counted from the top, a row from behind, and a column from the left.
+# A layer, counted from the top, a row from the back, and a column from the left.
 Cube = tuple[int, int, int]
 Point = tuple[float, float]
 
@@ -103,7 +103,7 @@ class _View:
         self.is_slab = len(layers) == 1
 
     def lines(self) -> Iterator[str]:
-        """The cubes from behind to the front, from below upwards and from left to right, so that the nearer cover
+        """The cubes from the back to the front, from below upwards and from left to right, so that the nearer cover
         those that are farther."""
         for at in sorted(self.cubes, key=lambda at: (at[1], -at[0], at[2])):
             yield from self.cube(at)

@@ -12,7 +12,7 @@ Option = TypeVar("Option")
 
 
 class Source(Protocol):
-    """Who gave solutions: what it told of each one is for it to read, be that lines of a listing or numbers."""
+    """Who gave solutions: what it gave of each one is for it to read, be that lines of a listing or numbers."""
 
     def options(self, told: Any) -> list[Any]:
         """The options, and choices of none where they are asked for."""
@@ -111,7 +111,7 @@ class Solution(Sequence[Option], Generic[Option]):
 
 
 class _Kept:
-    """The source of copies: what they were told is their state."""
+    """The source of copies: what they were given is their state."""
 
     def options(self, told: dict[str, Any]) -> list[Any]:
         options: list[Any] = told["options"]

@@ -31,7 +31,7 @@ if TYPE_CHECKING:
 
 # A reason is looked for so long where a problem turns out to have no solution.
 _REASON_SECONDS = 2.0
-# Of the time that a command is given, so that what was found by then can be told; a page is put together at the end.
+# Of the time that a command is given, so that what was found by then can be printed; a page is put together at the end.
 SHARE = 0.9
 _SHARE_OF_PAGE = 0.7
 
@@ -322,7 +322,7 @@ def _counted(total: int) -> str:
 
 
 def _reasons(asked: Given[Any], deadline: float | None) -> list[str]:
-    """Why there is no solution, where a short while tells."""
+    """Why there is no solution, where a short while shows it."""
     from . import why as reasons
 
     left = _REASON_SECONDS if deadline is None else min(_REASON_SECONDS, deadline - time.monotonic())

@@ -35,7 +35,7 @@ class Outcome:
 
 
 class Solutions(Generic[Option]):
-    """Solutions one by one. As a context manager, or by `close`, it ends the program behind it at once; so it does
+    """Solutions one by one. As a context manager, or by `close`, it ends the program that it reads at once; so it does
     where a loop over it is left and nothing holds it any longer.
     """
 

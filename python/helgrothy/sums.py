@@ -19,7 +19,7 @@ from .matching import shortage
 from .problem import Problem
 from .syntax import Bounds
 
-# So many names are told; of more, the first few.
+# So many names are shown; of more, the first few.
 _MOST_NAMES = 12
 _FEW_NAMES = 3
 # The part of the time that a matching may take.

@@ -1,7 +1,7 @@
-"""The text of a problem: its rules, as docs/INPUT.md states them, and a reader that tells every fault.
+"""The text of a problem: its rules, as docs/INPUT.md states them, and a reader that reports every fault.
 
-The programs tell the first fault and its line. `read` goes on behind a fault, and says which token it is. The first
-of its faults is the one that the programs tell.
+The programs report the first fault and its line. `read` goes on after a fault, and says which token it is. The first
+of its faults is the one that the programs report.
 
 Readers stop, since a text of 1 MB can hold 500,000 faults: commands that report one fault at the first, `lint` after a
 thousand. The search for similar names takes at most a fifth of a second in all.
@@ -25,7 +25,7 @@ MOST_NAME = 32
 MOST_COLOUR = 8
 MOST_BOUND = 999_999_999
 WHITE = b" \t\v\f\r"
-# Behind so many faults a text isn't read on.
+# After so many faults a text isn't read on.
 MOST_FAULTS = 1_000
 COMMENT = "a comment begins with |"
 # The nearest names are looked for so many seconds in all, and among so many names each.
@@ -101,7 +101,7 @@ def bounds_fault(low: int, high: int) -> str | None:
 def read(raw: bytes, kind: int = 3, most_faults: int = MOST_FAULTS) -> Sheet:
     """Reads the text of a problem for the program dlx`kind`. Raises nothing: faults are in the sheet.
 
-    Behind so many faults nothing is read, and the sheet says so.
+    After so many faults nothing is read, and the sheet says so.
     """
     return _Reader(kind, most_faults).read(raw)
 
@@ -259,7 +259,7 @@ class _Reader:
 
 
 class _Enough(Exception):
-    """There are as many faults as are told."""
+    """There are as many faults as are reported."""
 
 
 class Nearest:

@@ -16,9 +16,9 @@ _QUIET_SECONDS = 1.0
 
 
 class Watch:
-    """Counts the bounds beside a search, where that shows no solution for a while, and tells where they can't work.
+    """Counts the bounds beside a search, where that shows no solution for a while, and says where they can't work.
 
-    has_told: whether it has told that.
+    has_told: whether it has said that.
     """
 
     def __init__(self, problem: Problem[Any], tell: Callable[[str], None]) -> None:
@@ -45,12 +45,12 @@ class Watch:
             self._timer.join(2 * _QUIET_SECONDS)
 
     def end(self) -> None:
-        """Tells nothing from now on."""
+        """Says nothing from now on."""
         self._is_over = True
         self._timer.cancel()
 
     def _count(self) -> None:
-        # Where there is no memory for it, or nobody to be told, the search goes on all the same.
+        # Where there is no memory for it, or nobody to show it to, the search goes on all the same.
         with suppress(MemoryError, OSError):
             found = search(self._problem, _QUIET_SECONDS)
             if found is not None and not self._is_over:

@@ -36,8 +36,8 @@ _LONGER = 3
 class Conflict:
     """Primary items that can't all be held.
 
-    is_least: whether each one of them is needed for it; else some weren't tried to their end, or all of a class are
-    told. sums: weights of items that prove it, where sums do. by: the program that found that there is no solution,
+    is_least: whether each one of them is needed for it; else for some the time was too short, or all of a class are
+    named. sums: weights of items that prove it, where sums do. by: the program that found that there is no solution,
     where they don't.
     """
 
@@ -75,7 +75,7 @@ def find(
 ) -> Conflict | None:
     """A conflict, as small as leaving out finds in so many seconds; None where there is a solution.
 
-    tell: is told by a line what an engine did wrong. Raises `OutOfTime` where not even that is known in the time.
+    tell: gets a line that says what an engine did wrong. Raises `OutOfTime` where not even that is known in the time.
     """
     deadline = time.monotonic() + seconds
     short = [item for item, count in _held(problem).items() if count < problem.items[item].low]
@@ -110,7 +110,7 @@ def _held(problem: Problem[Any]) -> dict[Hashable, int]:
     return times
 
 
-# Whether items can be held, the others being let off; raises `OutOfTime` where so many seconds don't tell.
+# Whether items can be held, the others being let off; raises `OutOfTime` where so many seconds don't show it.
 _Answer = Callable[[set[Hashable], float], bool]
 
 

@@ -31,7 +31,7 @@ class Reader(ABC, Generic[Option]):
 
     @abstractmethod
     def choices(self, told: Any) -> list[int | Null]:
-        """The choices that were told: numbers of options, from 0 on, and choices of none."""
+        """The choices that were given: numbers of options, from 0 on, and choices of none."""
 
     @abstractmethod
     def steps(self, told: Any) -> list[Step]:

@@ -5,7 +5,7 @@
     A:x 0.5
 
 Each option that has all items of a line costs its number, and several lines add up. Words are as in `named`: patterns,
-and colours behind a colon. The tables of some kinds of problems have wishes too, which `of_table` reads.
+and colours after a colon. The tables of some kinds of problems have wishes too, which `of_table` reads.
 """
 
 from __future__ import annotations

@@ -63,7 +63,7 @@ class Shown(unittest.TestCase):
         self.assertIn(f"{name}: No such file", run("lint", ESCAPES)[2])
         for command, told in (("search", "No such file"), ("status", "no such folder"), ("result", "no such folder")):
             self.assertIn(f"{name}nowhere: {told}", run(command, f"{ESCAPES}nowhere")[2])
-        self.assertIn(f"{name}: one word too many", run("lint", "-", ESCAPES)[2])
+        self.assertIn(f"{name}: one argument too many", run("lint", "-", ESCAPES)[2])
         self.assertIn(f"--{name}: no such option", run("lint", f"--{ESCAPES}")[2])
         self.assertIn(f"{name}: no such command", run(ESCAPES)[2])
         with tempfile.NamedTemporaryFile("w", suffix=ESCAPES) as file:

@@ -17,7 +17,7 @@ from helgrothy.__main__ import main
 MISTAKES = (
     (["sudku"], "helgrothy: sudku: no such command (is it sudoku?); see helgrothy --help"),
     (["xyzzy"], "helgrothy: xyzzy: no such command; see helgrothy --help"),
-    (["--all", "sudoku"], "helgrothy: --all: no such option; those of a command stand behind it; see helgrothy --help"),
+    (["--all", "sudoku"], "helgrothy: --all: no such option; those of a command come after it; see helgrothy --help"),
     (["make", "kakoru"], "helgrothy make: kakoru: no such kind (is it kakuro?); see helgrothy make --help"),
     (["make", "queens", "8", "--all"], "helgrothy make queens: --all: no such option; see helgrothy make queens --help"),
     (
@@ -32,7 +32,7 @@ MISTAKES = (
         "helgrothy count: queens: a problem stands here, and this makes one: helgrothy make queens 8 | helgrothy count; "
         "see helgrothy count --help",
     ),
-    (["queens", "8", "9"], "helgrothy queens: 9: one word too many; see helgrothy queens --help"),
+    (["queens", "8", "9"], "helgrothy queens: 9: one argument too many; see helgrothy queens --help"),
     (["queens"], "helgrothy queens: the following arguments are required: N|REGIONS; see helgrothy queens --help"),
     (["search", "x.dlx", "--lis"], "helgrothy search: --lis: no such option (is it --list?); see helgrothy search --help"),
     (["rows", "--fr", "dlx1"], "helgrothy rows: --fr: no such option (is it --for?); see helgrothy rows --help"),

@@ -92,7 +92,7 @@ class Timetables(unittest.TestCase):
 
     def test_what_is_refused(self):
         for lines, sentence in (
-            (["lesson,x", "before,x"], "line 4: x: no lesson or exam behind it"),
+            (["lesson,x", "before,x"], "line 4: x: no lesson or exam after it"),
             (["lesson,x", "before,x,x"], "line 4: x: twice in this line"),
             (["lesson,maths", "same,maths,math"], "line 4: math: no lesson or exam (is it maths?)"),
             (["lesson,x,ann", "lesson,y,ann", "same,x,y"], "line 5: ann: in x and in y, which can't be in one slot"),

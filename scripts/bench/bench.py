@@ -14,7 +14,6 @@ tables take the places of those with the same heads in a page, once all are ther
 """
 
 import argparse
-import math
 import os
 import re
 import resource
@@ -26,6 +25,7 @@ import tempfile
 from collections import defaultdict
 
 import problems
+from instructions import mean
 from page import put
 
 HERE = os.path.dirname(os.path.abspath(__file__))
@@ -37,7 +37,7 @@ MEAN = "geometric mean"
 LONG, FEW = 15, 3
 
 
-class Run:
+class CommandRun:
     def __init__(self, command, most, text=None):
         """Runs a command over a file; `seconds` is None where it took too long."""
         self.seconds, self.memory, self.output = None, None, ""
@@ -67,7 +67,7 @@ class Exact:
 
     def run(self, problem, text, most):
         program = os.path.join(self.folder.format(problem.kind), f"dlx{problem.kind}")
-        done = Run([program], most, text)
+        done = CommandRun([program], most, text)
         return done, re.search(r"^Altogether (\d+) ", done.output, re.M)
 
 
@@ -119,7 +119,7 @@ class Clasp:
                 print("".join(f"{s:+} x{v} " for s, v in terms), ">=", low, ";", file=file)
                 print("".join(f"{-s:+} x{v} " for s, v in terms), ">=", -high, ";", file=file)
             file.flush()
-            done = Run(["clasp", "-n", "0", "-q", file.name], most)
+            done = CommandRun(["clasp", "-n", "0", "-q", file.name], most)
         return done, re.search(r"^c Models\s*: (\d+)\s*$", done.output, re.M)
 
 
@@ -140,7 +140,7 @@ class Gecode:
                     print(f"constraint int_lin_le([{factors}],[{names}],{bound});", file=file)
             print("solve satisfy;", file=file)
             file.flush()
-            done = Run(["fzn-gecode", "-n", "0", "-s", file.name], most)
+            done = CommandRun(["fzn-gecode", "-n", "0", "-s", file.name], most)
         return done, re.search(r"^%%%mzn-stat: solutions=(\d+)", done.output, re.M)
 
 
@@ -150,7 +150,7 @@ class Sage:
     name, kinds = "Sage", (1,)
 
     def run(self, problem, text, most):
-        done = Run(["sage", "-python", os.path.join(HERE, "sage_count.py"), text], most)
+        done = CommandRun(["sage", "-python", os.path.join(HERE, "sage_count.py"), text], most)
         told = re.search(r"^Seconds: ([0-9.]+)$", done.output, re.M)
         if done.seconds is not None and told:
             done.seconds = float(told.group(1))
@@ -176,10 +176,6 @@ def turns(repeat):
         took = sum(os.times()[2:4]) - sum(start[2:4])
         if turn + 1 >= FEW and took > (turn + 1) * LONG:
             return
-
-
-def mean(ratios):
-    return math.exp(statistics.fmean(map(math.log, ratios)))
 
 
 def compare(folder, ours, in_c, installed, only, repeat, most):
@@ -259,7 +255,7 @@ def grow(ours, in_c, most):
             file.flush()
             cells = []
             for solver in solvers:
-                done = Run([os.path.join(solver.folder.format(1), "dlx1")], most, file.name)
+                done = CommandRun([os.path.join(solver.folder.format(1), "dlx1")], most, file.name)
                 now = done.seconds / options, done.memory / options
                 cells += [f"{a / b:.2f}" for a, b in zip(now, first.setdefault(solver.name, now))]
             lines += line([str(10 * options), *cells])

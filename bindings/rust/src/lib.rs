@@ -78,7 +78,7 @@ impl fmt::Display for Error {
 
 impl std::error::Error for Error {}
 
-/// A fault in words by its number, as the programs print it behind the number of the line.
+/// A fault in words by its number, as the programs print it after the number of the line.
 pub fn fault_text(number: u32) -> &'static str {
     match number {
         0 => "no fault",

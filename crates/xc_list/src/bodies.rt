@@ -89,7 +89,7 @@ fn total_length(problem: &Problem) -> usize
 }
 
 /// Lays out one option more.
-fn add_option(
+fn lay_out_option(
     problem: &Problem,
     uses: &[Use],
     texts: &mut Tray,
@@ -156,7 +156,7 @@ fn lay_out(alloc: Global, problem: &Problem) -> Result<Layout, Memory>
         return Err(Memory);
     };
     for o in 0..problem.options() {
-        add_option(problem, problem.option(o + 1), &mut tray, &mut starts)?;
+        lay_out_option(problem, problem.option(o + 1), &mut tray, &mut starts)?;
     }
     let firsts = items_of_first_uses(alloc, problem)?;
     let mut texts = tray.into_bytes();

@@ -8,9 +8,9 @@
 //! piece by piece, and the next solution starts a new page. All lines of a span are put anew.
 //!
 //! The end of a line is one number of eight bytes. That saves no instructions, but no load waits for bytes that were
-//! just stored. The function that writes a solution's lines is out of line: 4 % more instructions of printing, but in
-//! the run it would leave the search's loop too few registers. A solution that the page doesn't take is written out of
-//! line, two digits without a call, and the two numbers of a line are tested one after the other: 1 % each.
+//! just stored. The function that writes a solution's lines is inlined into the run (4 % of the instructions of
+//! printing). A solution that the page doesn't take is written out of line, two digits without a call, and the two
+//! numbers of a line are tested one after the other: 1 % each.
 ghost use Rattle.std.specs.Prelude.{◌≡◌, ◌+◌, ◌<◌, ◌≤◌, ◌++◌, All, flat_map, OnErr, IsTrue, codes, length, take, drop};
 ghost use Rattle.std.specs.Prelude.{IfOk, IfSome, IsNone, MatchResult};
 ghost use Rattle.xc_list.specs.Texts.{Writes};
@@ -69,6 +69,7 @@ fn digit_of_digit(k: u8, n: u8) -> [u8; 10]
 }
 
 /// The end of a line where the branch has one digit and the number of branches two.
+#[tactic(auto, using(std::proofs::lemmas::Fmt::decimal_digit, std::proofs::lemmas::Fmt::decimal_step))]
 fn digit_of_two_digits(k: u8, n: u8) -> [u8; 11]
     requires branch { k < 10 }
     requires branches { (10 ≤ n) × (n < 100) }
@@ -90,6 +91,7 @@ fn digit_of_two_digits(k: u8, n: u8) -> [u8; 11]
 }
 
 /// The end of a line where both have two digits.
+#[tactic(auto, using(std::proofs::lemmas::Fmt::decimal_digit, std::proofs::lemmas::Fmt::decimal_step))]
 fn two_digits_of_two_digits(k: u8, n: u8) -> [u8; 12]
     requires branch { (10 ≤ k) × (k < 100) }
     requires branches { (10 ≤ n) × (n < 100) }
@@ -439,10 +441,9 @@ fn keep_lines<'a, D: Dance>(
 
 /// Writes the solution that a walk shows. Where options are laid out, its lines are put together on a page and written
 /// at once, and the lines that are on the page from the last solution are kept.
-// Out of line: among the search's values too few would be left in registers. It takes the walk and not a `Solution`,
-// which holds its address: the compiler would then copy the walk once more at each call of `pass`. So nothing that
-// takes a `Solution` is out of line.
-#[inline(never)]
+// It takes the walk and not a `Solution`, which holds its address: out of line the compiler would then copy the walk
+// once more at each call of `pass`. So nothing that takes a `Solution` is out of line.
+#[inline(always)]
 pub fn write_by_page<'a, D: Dance, S: Sink>(
     number: u64,
     walk: &Walk<'a, D>,

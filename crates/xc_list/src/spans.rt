@@ -304,7 +304,7 @@ fn count<'a, D: Dance>(span: &mut Span<'a, D>, most: u64) -> Went
 }
 
 /// Goes on as far as the words allow, writes the listing if it is wanted, and returns how far it went.
-fn write_members<'a, D: Dance, S: Sink>(
+fn write_wanted<'a, D: Dance, S: Sink>(
     span: &mut Span<'a, D>,
     texts: &Texts,
     words: &SpanWords,
@@ -363,7 +363,7 @@ fn write_span<'a, D: Dance, S: Sink>(
     } }
     ensures wrote { SpanWritten texts.now.bodies (asked_of words.now) (S.state sink.old) (S.state sink.new) result }
 {
-    let went = write_members(span, texts, words, sink)?;
+    let went = write_wanted(span, texts, words, sink)?;
     write_record(span, &went, words, &texts.digest, sink)?;
     Ok(went)
 }

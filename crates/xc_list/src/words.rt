@@ -24,6 +24,7 @@ pub enum WordFault {
 }
 
 /// The number that is here in decimal.
+#[tactic(auto, using(crate::proofs::Digits::too_large))]
 pub(crate) fn long_number(bytes: &[u8]) -> Option<u64>
     ensures { result ≡ long_number bytes.now }
 {

@@ -63,7 +63,7 @@ class Kind:
 
 
 def kind_of(comments: Sequence[str]) -> str | None:
-    """The name of the kind that the comments of a problem tell."""
+    """The name of the kind that the comments of a problem name."""
     made = _MADE.match(comments[0]) if comments else None
     return made.group(1) if made else None
 

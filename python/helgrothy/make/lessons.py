@@ -271,7 +271,7 @@ class Plan:
         """The rule of a line `before` or `same`."""
         order = Order(line, self._lesson(line, line.name), [self._lesson(line, name) for name in line.words("lessons")])
         if not order.others:
-            line.refuse(line.name, "no lesson or exam behind it")
+            line.refuse(line.name, "no lesson or exam after it")
         for lesson in order.others:
             if lesson is order.first:
                 line.refuse(lesson.name, "twice in this line")

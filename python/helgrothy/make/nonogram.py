@@ -204,7 +204,7 @@ class _Made:
 
     @property
     def items(self) -> list[str]:
-        """Its runs, behind what is before the first one."""
+        """Its runs, after what is before the first one."""
         return [f"{self.name}/{k}" for k in range(len(self.clue) + 1)]
 
     @property

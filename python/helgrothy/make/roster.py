@@ -49,8 +49,8 @@ def problem(
         bob    2    -tue late=3
         cat    1:2  -late -mon/early
 
-    The first line names the days behind a word that counts for nothing; each further line up to a blank one is a
-    shift and how many people it takes on each day, a number or the least and the most. Behind the blank line stand
+    The first line names the days after a word that counts for nothing; each further line up to a blank one is a
+    shift and how many people it takes on each day, a number or the least and the most. After the blank line stand
     the people, each with the number of shifts and what is not for him or her: a day, a shift, or a shift on a day.
     `late=3` is a wish: each late shift of bob's costs 3; a number below 0 is for what is liked. `helgrothy.wishes`
     reads them from the problem. Lines that begin with # are skipped. Nobody has two shifts on a day.
@@ -166,7 +166,7 @@ def _read(table: str) -> tuple[list[str], Needs, list[_Person]]:
     known = {word for day, shift in needs for word in (day, shift, f"{day}/{shift}")}
     people = [_person(number, words, days, known) for number, words in lines[end:] if words]
     if not people:
-        raise TableFault(lines[-1][0], "", "no people behind a blank line")
+        raise TableFault(lines[-1][0], "", "no people after a blank line")
     return days, needs, people
 
 
@@ -225,7 +225,7 @@ def drawing(problem: Problem[Any]) -> Drawing:
     """A table of people and days."""
     slots = [item for item in problem.item_names if "/" in item]
     days = list(dict.fromkeys(slot.split("/")[0] for slot in slots))
-    # Behind the people are the items of rules.
+    # After the people are the items of rules.
     _, _, known = _read("\n".join(problem.comments[_TABLE_AT:]))
     people = [item for item in problem.item_names if "/" not in item][: len(known)]
     check_size(len(people), len(days), len(problem.options))
@@ -250,7 +250,7 @@ def _add_arguments(parser: argparse.ArgumentParser) -> None:
     parser.add_argument(
         "table",
         metavar="TABLE",
-        help="a file: a line of days behind a word, lines of shifts with numbers of people, a blank line, lines of "
+        help="a file: a line of days after a word, lines of shifts with numbers of people, a blank line, lines of "
         "people with numbers of shifts, what is not for them (-DAY, -SHIFT, -DAY/SHIFT) and what it costs if they have "
         "it (DAY=3, SHIFT=3, DAY/SHIFT=3)",
     )

@@ -17,7 +17,7 @@ _WISH = re.compile(r"(home|away):([0-9]{1,9})\Z")
 
 
 def problem(teams: Iterable[str], *, double: bool = False) -> Problem[list[str]]:
-    """A round robin of teams, each a name and, behind it, wishes such as `home:1` or `away:3`: where it plays in a
+    """A round robin of teams, each a name and, after it, wishes such as `home:1` or `away:3`: where it plays in a
     round.
 
     Each two teams meet once, in as few rounds as there can be, and each team is as often at home as away, or one

@@ -47,7 +47,7 @@ def count(clue: Clue, marks: Sequence[str]) -> int:
 def steps(clue: Clue, marks: Sequence[str]) -> Iterator[tuple[int, int, int]]:
     """The steps from each run to the next: the run's number from 1 on, its first square, and that of the next run.
 
-    Number 0 is what is before the first run, and behind the last run the next square is the one behind the line. So an
+    Number 0 is what is before the first run, and after the last run the next square is the one past the line. So an
     arrangement is a step of each number, which begins where the one before it says.
     """
     size = len(marks)

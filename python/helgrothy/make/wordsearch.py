@@ -47,7 +47,7 @@ def problem(
     An option is a word in its squares, `WORD rRcC:W rRcC:O ..`: a square has its letter as a colour. Raises
     `TableFault`.
     """
-    # A command that only tells its help doesn't wait for it.
+    # A command that only prints its help doesn't wait for it.
     import random
 
     listed = _words(words)

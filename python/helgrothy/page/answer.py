@@ -40,7 +40,7 @@ from .record import Draw, Record
 
 MOST_LIMIT = 1_000
 MOST_SECONDS = 600.0
-# A page is told so much of solutions or of a problem's text, and so many remarks.
+# A page gets so much of solutions or of a problem's text, and so many remarks.
 _MOST_TOLD = 1 << 25
 _MOST_REMARKS = 200
 # A count has at most so many digits, as many as Python writes at once.
@@ -198,7 +198,7 @@ class _Solving:
             notes = [f"{self._request.seconds:g} seconds are over"]
             yield record.end(max(error.found, shown), False, notes)
             return
-        # None where so much was told that it was left.
+        # None where so much was said that it was left.
         total = shown if solutions.total is None else solutions.total
         yield record.end(total, bool(solutions.complete), [] if total else self._reasons(problem))
         # Up to symmetry there are fewer than are counted.
@@ -243,7 +243,7 @@ class _Solving:
         return max(self._deadline - time.monotonic(), 0.01)
 
     def _reasons(self, problem: Problem[Any]) -> list[str]:
-        """Why there is no solution, where a short while tells."""
+        """Why there is no solution, where a short while shows it."""
         with suppress(OutOfTime):
             conflict = why.find(problem, min(self._left() * 0.9, _REASON_SECONDS))
             if conflict is not None:

@@ -33,7 +33,7 @@ def document(
 
 
 def frame(bodies: Iterable[str], scripts: Iterable[str], connects: bool = False) -> list[str]:
-    """Such a document without its title and its data: what stands before, between and behind these."""
+    """Such a document without its title and its data: what stands before, between and after these."""
     scripts = list(scripts)
     given = {
         "policy": escape(policy(scripts, connects)),

@@ -28,8 +28,8 @@ class _Parser(argparse.ArgumentParser):
 
 @dataclass(frozen=True)
 class Field:
-    """A field: the name of its value, its label and its help, its option or "" for a word, and whether it is only set
-    or not. forbids: to set it forbids what the label says.
+    """A field: the name of its value, its label and its help, its option or "" for an argument, and whether it is only
+    set or not. forbids: to set it forbids what the label says.
     """
 
     name: str
@@ -41,7 +41,7 @@ class Field:
 
 
 def fields(kind: Kind) -> Iterator[Field]:
-    """The fields of a kind, words before options."""
+    """The fields of a kind, arguments before options."""
     parser = _Parser(add_help=False)
     kind.add_arguments(parser)
     for action in sorted(parser._actions, key=lambda action: bool(action.option_strings)):
@@ -103,9 +103,9 @@ def _words(kind: Kind, values: Mapping[str, object]) -> Iterator[str]:
 
 
 def _word(value: str, number: int, files: set[str]) -> str:
-    """A word for what was typed: itself, which is then also the name of a file with that text, or such a name.
+    """An argument for what was typed: itself, which is then also the name of a file with that text, or such a name.
 
-    So a command takes it as a word or as a file, and whichever file it names is this one, which is among `files` then.
+    So a command takes it as a text or as a file, and whichever file it names is this one, which is among `files` then.
     """
     text = value.replace("\r", "").strip("\n")
     line = text.strip()

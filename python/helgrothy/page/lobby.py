@@ -30,7 +30,7 @@ _CHUNK = 1 << 16
 BUSY = heads.message(503, "too much is asked at once")
 LATE = heads.message(408, f"a request comes within {PATIENCE:g} seconds")
 
-# Takes a connection over, with the bytes of its head and those that came behind it; or it gives what is answered to it.
+# Takes a connection over, with the bytes of its head and those that came after it; or it gives what is answered to it.
 Take = Callable[[socket.socket, bytes, bytes], bytes]
 
 

@@ -1,7 +1,7 @@
-"""What a page is told of a problem and its solutions: lines of JSON, one for each thing that happens.
+"""What a page gets of a problem and its solutions: lines of JSON, one for each thing that happens.
 
 The first has the problem, each further one a solution with the steps of the search and its picture, the last one how it
-ended. A picture is a list of numbers: equal parts of pictures are told once, as elements with their attributes, and so
+ended. A picture is a list of numbers: equal parts of pictures are given once, as elements with their attributes, and so
 is each option.
 
 So a name is never parsed as HTML, as it would be in a page with SVG as text, and a policy can refuse every other way to
@@ -41,7 +41,7 @@ class Element:
 
 
 class Record:
-    """A record of a problem's solutions. What it tells has no byte that steers a terminal, and no markup.
+    """A record of a problem's solutions. What it gives has no byte that steers a terminal, and no markup.
 
     draw: what draws them. title: what the pictures show, once there is one.
     """
@@ -109,7 +109,7 @@ class Record:
         return _line({"chances": {"picture": parts, "elements": self._told_from(fresh_from), "total": str(total)}})
 
     def _told_from(self, number: int) -> list[list[Any]]:
-        """The elements from a number on, as the page is told them."""
+        """The elements from a number on, as the page gets them."""
         return [_told(element) for element in islice(self._elements, number, None)]
 
     def _picture(self, lines: Sequence[str]) -> list[int]:
@@ -142,7 +142,7 @@ def _element(element: ElementTree.Element) -> Element:
 
 
 def _told(element: Element) -> list[Any]:
-    """An element as the page is told it: its name, its attributes, and its text or the elements in it."""
+    """An element as the page gets it: its name, its attributes, and its text or the elements in it."""
     return [element.name, dict(element.attributes), list(map(_told, element.within)) or element.text]
 
 

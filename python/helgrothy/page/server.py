@@ -124,7 +124,7 @@ class Server:
         return _NOTHING if asked.method in ("GET", "POST") else message(501)
 
     def _rest(self, asked: Head) -> str:
-        """What stands behind the word in the address; something that is nothing where the word isn't there."""
+        """What stands after the word in the address; something that is nothing where the word isn't there."""
         start, *words = asked.path.split("/", 2)
         is_known = not start and len(words) == 2 and hmac.compare_digest(words[0], self.word)
         is_here = asked.fields.get_all("Host") in ([f"{HOST}:{self.port}"], [f"localhost:{self.port}"])

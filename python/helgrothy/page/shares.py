@@ -1,4 +1,4 @@
-"""Chances for the local page: in which share of all solutions a cell has what, if this package has what tells it."""
+"""Chances for the local page: in which share of all solutions a cell has what, if this package has what counts it."""
 
 from __future__ import annotations
 

@@ -1,4 +1,4 @@
-"""What the local page is told before anything is asked: its forms and examples, and what it can have."""
+"""What the local page gets before anything is asked: its forms and examples, and what it can have."""
 
 from __future__ import annotations
 

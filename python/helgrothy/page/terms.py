@@ -99,7 +99,7 @@ FIELDS: dict[str, dict[str, tuple[str, str]]] = {
     "roster": {
         "table": (
             "Table",
-            "A line of days behind a minus, a line for each shift with the people that it takes on each day, a blank "
+            "A line of days after a minus, a line for each shift with the people that it takes on each day, a blank "
             "line, and a line for each person: how many shifts, and what is not for them (-tue, -late, -tue/late) or "
             "what it costs (tue=3, late=3, tue/late=3).",
         ),

@@ -93,7 +93,7 @@ def _search(arguments: argparse.Namespace) -> int:
     is_beside = arguments.folder is None
     path = f"{arguments.problem}.search" if is_beside else arguments.folder
     with Folder(path, job, is_own=is_beside) as folder:
-        # What is damaged is told before anything is printed.
+        # What is damaged is reported before anything is printed.
         folder.check()
         for line in ignored(job.problem):
             console.say(f"Option ignored (no primary items): line {line}")
@@ -107,7 +107,7 @@ def _read_job(arguments: argparse.Namespace) -> Job:
     """What is to be searched. Raises `ProgramFailed` for a text with a fault, before there is a folder."""
     problem = console.read(arguments.problem)
     kind = _kind(arguments, problem)
-    # The first step tells of a fault, and the problem's digest.
+    # The first step shows a fault, and the problem's digest.
     first = run(Task(kind, listed=False, problem=problem, start="-", until="-", steps=1, most=0))
     digest = records.of_text(first.text, WHOLE, listed=False).digest
     return Job(problem, kind, arguments.list, digest, _name(arguments))
@@ -213,7 +213,7 @@ class _Searching:
 
 
 def _failed(error: ProgramFailed) -> int:
-    """Tells what a program failed with, as the program itself tells it, and gives its status."""
+    """Prints what a program failed with, as the program itself says it; returns its status."""
     if error.status > 1 and error.message:
         console.say(error.message)
         return error.status
@@ -238,8 +238,8 @@ def _told(ending: Ending) -> int:
 def _add_status(commands: Any) -> None:
     parser = commands.add_parser(
         "status",
-        help="tell how far a search is",
-        description="Tells what of a search is done, and about how long the rest takes.",
+        help="report how far a search is",
+        description="Reports what of a search is done, and about how long the rest takes.",
     )
     parser.add_argument("folder", metavar="FOLDER", help="the folder of a search")
     parser.set_defaults(command=_status)
@@ -334,8 +334,8 @@ def progress_parser() -> argparse.ArgumentParser:
     """The parser of `dlx-progress`."""
     parser = console.Parser(
         prog="dlx-progress",
-        description="Reads a listing as a search prints it, and tells on standard error how far the search is, once a "
-        "second.",
+        description="Reads a listing as a search prints it, and reports on standard error how far the search is, once "
+        "a second.",
         epilog="example:\n  dlx1 m1000 < queens.dlx | dlx-progress",
         formatter_class=argparse.RawDescriptionHelpFormatter,
     )
@@ -350,7 +350,7 @@ def _progress(words: Sequence[str] | None) -> int:
 
 
 def progress_main(words: Sequence[str] | None = None) -> int:
-    """Does what the words of `dlx-progress` say, and gives its status."""
+    """Does what the arguments of `dlx-progress` say; returns its status."""
     return console.run("dlx-progress", lambda: _progress(words))
 
 

@@ -14,9 +14,9 @@ _Node = tuple[float, Row, Row]
 
 
 def rows(problem: bytes, kind: int, count: int, seconds: float = _SECONDS) -> list[Row]:
-    """Up to so many rows, rising, that cut the tree into shares as equal as can be told within that time.
+    """Up to so many rows, rising, that cut the tree into shares as equal as can be seen within that time.
 
-    The node of the largest share is looked at first: a run of one step tells the number of its branches. Raises
+    The node of the largest share is looked at first: a run of one step gives the number of its branches. Raises
     `ProgramFailed`, `ProgramNotFound` and `SearchFault`.
     """
     deadline = time.monotonic() + seconds

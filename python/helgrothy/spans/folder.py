@@ -1,13 +1,13 @@
 """A folder of a search: what is done of it, so that it goes on after whatever ended it.
 
-    helgrothy.search    what is searched: version, program, words, the digests of the problem and its file; held by the
-                        one command that is at work (`held.py`)
+    helgrothy.search    what is searched: version, program, arguments, the digests of the problem and its file; held by
+                        the one command that is at work (`held.py`)
     problem.dlx         the problem's text
     00000017.span       spans that are done: a line of its digest and where it begins and ends, and texts of dlx-span
     00000018.span.helgrothy-new    such a file as long as it is written
 
 A file of spans is written under another name, flushed to the disk, and renamed. Its digest is that of the search, of
-its line and its text: a file that was damaged, cut or is of another search is told by its name. No file is taken away
+its line and its text: a file that was damaged, cut or is of another search is named. No file is taken away
 but what a command has made here: a file of spans that was read as such, one with a name that nothing else has, the
 problem as it was written.
 
@@ -260,7 +260,7 @@ class Folder:
             self._size -= len(kept.text)
 
     def _beside(self, run: list[Kept]) -> list[tuple[Kept, Entry]]:
-        """Files before and behind these spans that aren't much larger, so that there are never many."""
+        """Files before and after these spans that aren't much larger, so that there are never many."""
         found: list[tuple[Kept, Entry]] = []
         size = sum(len(kept.text) for kept in run)
         start: Row = run[0].span.start
@@ -358,7 +358,7 @@ def _head(path: str, file: IO[bytes]) -> Entry:
         digest, start, until, *numbers, seconds_told = fields
         begins, ends, length, solutions = map(_number, numbers)
         seconds = float(seconds_told)
-        # The two places tell how far the search is, and nothing else.
+        # The two places say how far the search is, and nothing else.
         span = Span(read(start), read_until(until), begins, ends)
         if not 0 <= seconds < math.inf or not precedes(span.start, span.until):
             raise ValueError

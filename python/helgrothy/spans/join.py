@@ -137,7 +137,7 @@ class Join:
 
 
 def number_of(ending: Ending) -> int:
-    """The number of solutions that the last line tells. Raises `ProgramFailed`."""
+    """The number of solutions that the last line says. Raises `ProgramFailed`."""
     found = _LAST_LINE.search(ending.told) if ending.status == 0 else None
     if found is None:
         raise ProgramFailed(PROGRAM, ending.status, ending.told.strip())

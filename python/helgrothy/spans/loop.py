@@ -33,7 +33,7 @@ if TYPE_CHECKING:
 _AHEAD = 2
 # A span is given up after so many runs that failed.
 _TRIES = 5
-# The system takes no longer words than 131,071 bytes.
+# The system takes no longer arguments than 131,071 bytes.
 _LONGEST_WORD = 100_000
 # Where a row is too long a run is given so many times the steps, and at last no bound.
 _MORE = 16
@@ -77,7 +77,7 @@ class Progress(NamedTuple):
 class Job(NamedTuple):
     """What is searched: a problem's text, the program for it, and whether the solutions are listed.
 
-    digest: the problem's, as records have it; empty where no program has told it yet. name: what messages call it.
+    digest: the problem's, as records have it; empty where no program has given it yet. name: what messages call it.
     """
 
     problem: bytes
@@ -90,8 +90,8 @@ class Job(NamedTuple):
 class _Todo(NamedTuple):
     """A span to be searched; how often that failed, and by how much more steps it is tried.
 
-    With a factor of more than 1 the row at which a run stopped was too long for a word, so that no bound is put to the
-    text.
+    With a factor of more than 1 the row at which a run stopped was too long for an argument, so that no bound is put to
+    the text.
     """
 
     span: Span
@@ -110,7 +110,7 @@ Submit = Callable[[Task, Callable[[Outcome], object]], Callable[[], object]]
 class Loop:
     """A search of spans.
 
-    workers: how many there are. keep: takes each span that is done. tell: is told how far the search is, some times a
+    workers: how many there are. keep: takes each span that is done. tell: gets how far the search is, some times a
     second. ahead: so many tasks are handed out for each worker. longest: about so many seconds a span takes at most.
     """
 

@@ -3,13 +3,13 @@
 A run takes a third of what each worker is likely to have left, from a fortieth to half of the time so far and from 0.1
 seconds to a second, after hours and elsewhere to 10. To begin one takes 1 or 2 milliseconds of CPU time, the last ones
 to end keep the others waiting, and what a run has done is lost if it is stopped. The cost: ten times as many records in
-the first hours as with 10 seconds always. A program that writes its row when it is told to stop would need a signal
+the first hours as with 10 seconds always. A program that writes its row when it is asked to stop would need a signal
 heard amid the search's loop.
 """
 
 from __future__ import annotations
 
-# The first run takes so many, and tells the numbers of branches by which the rest is cut.
+# The first run takes so many, and gives the numbers of branches by which the rest is cut.
 _FIRST = 500
 # Before anything was measured, steps of a second.
 _GUESS = 1_000_000.0

@@ -12,7 +12,7 @@ from .rows import place, share_of
 
 _HEADER = re.compile(rb"([0-9]{1,20}):\n?\Z")
 _CHOICE = re.compile(rb"\A .* \(([0-9]{1,10}) of ([0-9]{1,10})\)\n?\Z")
-# So much of a line is told.
+# So much of a line is shown.
 _LONGEST = 40
 
 
@@ -38,7 +38,7 @@ def shares(listing: Iterable[bytes]) -> Iterator[tuple[int, float]]:
 
 
 def follow(listing: Iterable[bytes], tell: Callable[[str], object], every: float = 1.0) -> None:
-    """Tells how far the search is, at most so often, and where it ended."""
+    """Reports how far the search is, at most so often, and where it ended."""
     start = last = time.monotonic()
     number, share, has_told = 0, 0.0, True
     for number, share in shares(listing):

@@ -1,4 +1,4 @@
-"""The text of a span, as dlx-span writes it: the solutions, if they are listed, and a line that tells what it did.
+"""The text of a span, as dlx-span writes it: the solutions, if they are listed, and a line that says what it did.
 
 Both the first line of a listing and the last one have the problem's digest, by which dlx-join knows texts of another
 problem: a hash of the problem as it was read, whatever is between its words.

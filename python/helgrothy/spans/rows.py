@@ -48,7 +48,7 @@ def word_of(row: Until) -> str:
 
 
 def read(word: str) -> Row:
-    """The row of a word; `-` is the empty row. Raises `SearchFault`."""
+    """The row that an argument says; `-` is the empty row. Raises `SearchFault`."""
     if word == "-":
         return ()
     if not _WORD.match(word) or _MANY_DIGITS.search(word):
@@ -60,7 +60,7 @@ def read(word: str) -> Row:
 
 
 def read_until(word: str) -> Until:
-    """The end of a span from its word. Raises `SearchFault`."""
+    """The end of a span from its argument. Raises `SearchFault`."""
     return None if word == "-" else read(word)
 
 
@@ -122,7 +122,7 @@ def cut(span: Span, branches: Row, pieces: int) -> list[Span]:
 
 
 def _within(span: Span, at: int) -> int:
-    """A place that isn't out of a span, even if a program has told other branches of the same row before."""
+    """A place that isn't out of a span, even if a program has given other branches of the same row before."""
     return min(max(at, span.begins), span.ends)
 
 

@@ -38,5 +38,5 @@ class Shown:
             sys.stderr.write(text)
             sys.stderr.flush()
         except OSError:
-            # The search goes on. That nobody could be told how it ended is told by its status.
+            # The search goes on. That nobody could be shown how it ended is said by its status.
             self._is_silent = True

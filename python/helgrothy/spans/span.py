@@ -43,7 +43,7 @@ class Ran(NamedTuple):
 
 
 class Stop:
-    """Ends the runs of this process that were told of it, and lets none begin any more."""
+    """Ends the runs of this process that were given to it, and lets none begin any more."""
 
     def __init__(self) -> None:
         self._lock = threading.Lock()

@@ -1,6 +1,6 @@
 """What a search needs to know of a problem's text, in one pass: which program it is for, and which lines are ignored.
 
-The programs judge the text; what is told here of a text with a fault is nothing.
+The programs judge the text; what is said here of a text with a fault is nothing.
 """
 
 from __future__ import annotations

@@ -189,7 +189,7 @@ class Dask(Workers):
                 f"--dask needs Dask's package distributed, and {sys.executable} has none: install it there, or put a "
                 "python3 that has it first on the path (python3-distributed of Debian is for /usr/bin/python3)"
             ) from None
-        # What it would tell of lost workers on standard error isn't of the listing's messages.
+        # What it would print of lost workers on standard error isn't of the listing's messages.
         logging.disable(logging.CRITICAL)
         try:
             self._client = distributed.Client(**_address(address), timeout=_PATIENCE)
@@ -228,7 +228,7 @@ class Dask(Workers):
 
 
 def _address(address: str) -> dict[str, str]:
-    """How Dask is told of a scheduler. Raises `SearchFault` where its file doesn't come."""
+    """How Dask gets to know a scheduler. Raises `SearchFault` where its file doesn't come."""
     if not address.endswith(".json"):
         return {"address": address}
     begun = time.monotonic()

@@ -1,5 +1,5 @@
 // The local page: what is filled in is solved when that is asked for. An answer comes line by line for as long as it is
-// wanted: to let it go ends the search behind it.
+// wanted: to let it go ends the search that gives it.
 
 const GONE = "The page's server has ended: helgrothy page begins another.";
 const FIELDS = ["cell", "row", "column", "label", "limit", "order", "seconds"];

@@ -1,3 +1,3 @@
-// A file: all that there is to be told stands in it.
+// A file: all that there is to be shown stands in it.
 const viewer = new Viewer();
 viewer.take(JSON.parse(get("data").textContent));

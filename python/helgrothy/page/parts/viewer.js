@@ -1,6 +1,6 @@
 "use strict";
 
-// Shows a problem and its solutions as a record tells them. Names come from a problem, whoever wrote it: they are put
+// Shows a problem and its solutions as a record gives them. Names come from a problem, whoever wrote it: they are put
 // into the page as text, and pictures are made of the elements and attributes that are listed here.
 
 const ELEMENTS = new Set("svg g rect path text tspan line circle ellipse polygon polyline".split(" "));
@@ -9,7 +9,7 @@ const ATTRIBUTES = new Set(
     "stroke stroke-width stroke-linecap stroke-linejoin stroke-opacity stroke-dasharray font-family font-size " +
     "font-weight font-style text-anchor dominant-baseline paint-order").split(" "));
 const MOST_STEPS = 2000;
-// Of a longer option so many items are shown at first, and of forced steps one behind another fewer than so many.
+// Of a longer option so many items are shown at first, and of forced steps one after another fewer than so many.
 const MOST_WORDS = 8;
 const FOLDED = 3;
 const MOST_NAMES = 40;
@@ -44,7 +44,7 @@ class Viewer {
     this.clear();
   }
 
-  // ---- what the record tells
+  // ---- what the record gives
 
   clear() {
     this.problem = null;
@@ -67,7 +67,7 @@ class Viewer {
     this.refresh();
   }
 
-  // Takes what is told; what is seen is made once for all of it.
+  // Takes what is given; what is seen is made once for all of it.
   take(lines) {
     const had = this.found.length;
     for (const told of lines) {
@@ -83,7 +83,7 @@ class Viewer {
     this.refreshCount();
   }
 
-  // Ends what is told, if nothing else has: there may be more.
+  // Ends what is given, if nothing else has: there may be more.
   end(...notes) {
     if (!this.ended) this.take([{ end: { total: this.solutions.length, complete: false, notes } }]);
   }
@@ -281,7 +281,7 @@ class Viewer {
     return other < 0 ? solution.steps.length : other;
   }
 
-  // The rows of steps, with those that are forced one behind another in a fold.
+  // The rows of steps, with those that are forced one after another in a fold.
   folded(rows, steps) {
     const shown = [];
     for (let start = 0, end = 0; start < rows.length; start = end) {

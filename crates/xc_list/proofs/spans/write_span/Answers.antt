@@ -3,39 +3,39 @@ use Rattle.xc_list.specs.Texts.{Took, BrokeOff}
 use Rattle.xc_list.proofs.Writing.{then_took, then_broke, if_failed}
 use Rattle.xc_list.proofs.SpanWhole.{AreSmallWords, known_left, of_span, of_broken}
 use Rattle.xc_list.proofs.spans.write_span.Goals as goal
-use Rattle.xc_list.proofs.spans.write_span.Goals.{After-write_members}
+use Rattle.xc_list.proofs.spans.write_span.Goals.{After-write_wanted}
 
-small : (g : _) (c : After-write_members g) → AreSmallWords (asked_of c.args.words.now)
+small : (g : _) (c : After-write_wanted g) → AreSmallWords (asked_of c.args.words.now)
 small g c =
-    record { from = c.requires.from; until = c.requires.until; steps = c.write_members.ensures.small }
+    record { from = c.requires.from; until = c.requires.until; steps = c.write_wanted.ensures.small }
 
-pub write_members-requires : goal.write_members-requires
-write_members-requires g c = record {
+pub write_wanted-requires : goal.write_wanted-requires
+write_wanted-requires g c = record {
   known = known_left _ _ _ _ c.requires.begun;
   node = rw c.requires.begun.puzzle c.requires.begun.node;
 }
 
 pub returns-in_err-went-clause-wrote : goal.returns-in_err-went-clause-wrote
 returns-in_err-went-clause-wrote g c =
-    let at = (goal.at.returns-in_err-went-clause-wrote g c).After-write_members in
+    let at = (goal.at.returns-in_err-went-clause-wrote g c).After-write_wanted in
     if_failed _ _ c.from_residual.ensures.0 (of_broken c.args.texts.now.bodies (asked_of c.args.words.now) (small g at)
     c.args.span.now c.requires.begun c.in_err-went.ensures.wrote)
 
 pub returns-in_err-write_record-clause-wrote : goal.returns-in_err-write_record-clause-wrote
 returns-in_err-write_record-clause-wrote g c =
-    let at = (goal.at.returns-in_err-write_record-clause-wrote g c).After-write_members in
+    let at = (goal.at.returns-in_err-write_record-clause-wrote g c).After-write_wanted in
     let went = c.in_ok-went.ensures in
     if_failed _ _ c.from_residual-in_err-write_record.ensures.0 (
       c.in_ok-went.went,
       of_span c.args.texts.now.bodies (asked_of c.args.words.now) (small g at) c.in_ok-went.went c.requires.sound
-          BrokeOff (λ s t. then_broke) c.args.span.now c.write_members.new.span c.requires.begun went.still went.node
+          BrokeOff (λ s t. then_broke) c.args.span.now c.write_wanted.new.span c.requires.begun went.still went.node
           went.wrote.0 went.wrote.1 (rw c.args.texts.now.same at c.in_err-write_record.ensures),
     )
 
 pub returns-clause-wrote : goal.returns-clause-wrote
 returns-clause-wrote g c =
-    let at = (goal.at.returns-clause-wrote g c).After-write_members in
+    let at = (goal.at.returns-clause-wrote g c).After-write_wanted in
     let went = c.in_ok-went.ensures in
     of_span c.args.texts.now.bodies (asked_of c.args.words.now) (small g at) c.in_ok-went.went c.requires.sound Took
-    (λ s t. then_took) c.args.span.now c.write_members.new.span c.requires.begun went.still went.node went.wrote.0
+    (λ s t. then_took) c.args.span.now c.write_wanted.new.span c.requires.begun went.still went.node went.wrote.0
     went.wrote.1 (rw c.args.texts.now.same at c.in_ok-write_record.ensures)

@@ -1,6 +1,6 @@
 use Rattle.std.proofs.Common.{arith, ◌≡◌, ap, length}
 use Rattle.xc_list.proofs.OutputLemmas.LaidOptions.{laid_more}
-use Rattle.xc_list.proofs.bodies.add_option.Goals as goal
+use Rattle.xc_list.proofs.bodies.lay_out_option.Goals as goal
 
 pub returns-in-Ok-push : goal.returns-in-Ok-push
 returns-in-Ok-push c = λ os laid.
