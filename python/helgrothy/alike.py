@@ -10,11 +10,11 @@ would take from the 100,000 items that a problem may have.
 from __future__ import annotations
 
 from collections.abc import Hashable, Mapping, Sequence
-from dataclasses import dataclass
 from typing import Optional
 
 from .errors import UnknownChoice
 from .listing import Null
+from .records import dataclass
 
 Uses = Sequence[tuple[Hashable, Optional[Hashable]]]
 

@@ -3,12 +3,13 @@
 from __future__ import annotations
 
 from collections.abc import Callable, Iterator, Mapping, Sequence
-from dataclasses import dataclass, replace
+from dataclasses import replace
 from typing import TYPE_CHECKING, Any, Optional
 
 from .draw import SIDE, Cell, Drawing, Picture, Place
 from .errors import NoPicture
 from .occurrences import Occurrences
+from .records import dataclass
 
 if TYPE_CHECKING:
     from .problem import Problem

@@ -7,12 +7,12 @@ variables there are follows from these.
 from __future__ import annotations
 
 from collections.abc import Hashable, Iterator, Sequence
-from dataclasses import dataclass
 from itertools import zip_longest
 from typing import Any
 
 from .counting import Clauses
 from .problem import Problem
+from .records import dataclass
 
 __all__ = ["FORMATS", "asp", "cnf", "opb"]
 

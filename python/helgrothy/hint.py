@@ -10,12 +10,12 @@ from __future__ import annotations
 import time
 from collections import Counter
 from collections.abc import Hashable, Iterable, Iterator, Sequence
-from dataclasses import dataclass
 from typing import Any
 
 from .errors import OutOfTime
 from .given import Given
 from .problem import Problem
+from .records import dataclass
 
 __all__ = ["Hint", "NoHint", "find", "lines"]
 

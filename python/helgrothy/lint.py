@@ -4,13 +4,13 @@ from __future__ import annotations
 
 from collections import Counter
 from collections.abc import Callable, Iterator
-from dataclasses import dataclass
 from itertools import islice
 from typing import Any
 
 from . import engines, sat_solver
 from .errors import ProgramFailed, ProgramNotFound
 from .problem import Problem
+from .records import dataclass
 from .shown import shown
 from .sums import search
 from .syntax import COMMENT, Bounds, Sheet, read

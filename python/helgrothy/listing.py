@@ -9,10 +9,10 @@ from __future__ import annotations
 
 import re
 from collections.abc import Callable, Generator, Hashable, Iterable, Iterator, Mapping
-from dataclasses import dataclass, field
 from typing import Generic, TypeVar, Union
 
 from .errors import ListingFault, UnknownChoice
+from .records import dataclass, field
 from .shown import text_of
 
 Option = TypeVar("Option")

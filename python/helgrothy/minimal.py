@@ -9,13 +9,13 @@ from __future__ import annotations
 import random
 import time
 from collections.abc import Collection, Sequence
-from dataclasses import dataclass
 from typing import Any
 
 from .errors import OutOfTime
 from .given import Given
 from .named import told
 from .problem import Problem
+from .records import dataclass
 from .shuffle import order
 from .shuffle import solve as shuffled
 

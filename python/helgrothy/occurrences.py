@@ -11,7 +11,6 @@ import select
 import time
 from collections import Counter, deque
 from contextlib import ExitStack
-from dataclasses import dataclass
 from typing import Any
 
 from .counter import LAST_LINE, MOST_MEGABYTES, PROGRAM, read_number
@@ -19,6 +18,7 @@ from .errors import OutOfTime
 from .listing import turned
 from .problem import Problem
 from .programs import Ending, Run
+from .records import dataclass
 from .shown import bytes_of
 from .wire import Wire
 

@@ -9,7 +9,7 @@ from typing import Any
 
 from . import console
 from .console import Parser, number, seconds
-from .make import KINDS
+from .make import HELPS, KINDS
 
 # The commands; `add` has what each one takes.
 NAMES = ("hint", "minimal")
@@ -56,7 +56,10 @@ def _add_command(
     console.add_problem(below.otherwise)
     of_kinds = []
     for kind in _asked(kinds, words):
-        own = below.add_parser(kind, help=KINDS[kind].help, description=f"{description} Of {KINDS[kind].help}.")
+        own = below.add_parser(kind, help=HELPS[kind], description=f"{description} Of {HELPS[kind]}.")
+        if words is not None and kind not in words:
+            # It is only listed.
+            continue
         KINDS[kind].add_arguments(own)
         own.set_defaults(kind=KINDS[kind])
         of_kinds.append(own)

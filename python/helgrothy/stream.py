@@ -3,10 +3,10 @@
 from __future__ import annotations
 
 from collections.abc import Callable, Generator, Iterator
-from dataclasses import dataclass
 from typing import Generic, TypeVar
 
 from .errors import OutOfTime
+from .records import dataclass
 from .solution import Solution
 
 Option = TypeVar("Option")

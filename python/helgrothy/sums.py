@@ -12,11 +12,12 @@ from __future__ import annotations
 
 import time
 from collections.abc import Callable, Hashable, Mapping, Sequence
-from dataclasses import dataclass, replace
+from dataclasses import replace
 from typing import Any
 
 from .matching import shortage
 from .problem import Problem
+from .records import dataclass
 from .syntax import Bounds
 
 # So many names are told; of more, the first few.

@@ -12,11 +12,11 @@ from __future__ import annotations
 import re
 from collections import Counter
 from collections.abc import Generator, Hashable, Sequence
-from dataclasses import dataclass
 from typing import Any, TypeVar
 
 from .errors import NoPicture, OutOfTime
 from .problem import Problem
+from .records import dataclass
 from .shown import shown
 from .solution import Solution
 from .stream import Outcome, Solutions, check_numbers, sooner

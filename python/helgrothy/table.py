@@ -8,10 +8,10 @@ from __future__ import annotations
 
 import re
 from collections.abc import Iterable, Sequence
-from dataclasses import dataclass
 from typing import TYPE_CHECKING, Any
 
 from .draw import Cell, Drawing, Pattern, Picture, Shades, check_size, no_match
+from .records import dataclass
 
 if TYPE_CHECKING:
     from .problem import Problem

@@ -9,7 +9,8 @@ from __future__ import annotations
 
 import itertools
 from collections.abc import Collection, Iterable
-from dataclasses import dataclass
+
+from .records import dataclass
 
 Cell = tuple[int, ...]
 Form = frozenset[Cell]

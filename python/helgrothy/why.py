@@ -13,12 +13,12 @@ from __future__ import annotations
 
 import time
 from collections.abc import Callable, Hashable, Iterator
-from dataclasses import dataclass
 from typing import Any
 
 from . import engines, sat_solver
 from .errors import OutOfTime
 from .problem import Problem
+from .records import dataclass
 from .sums import Count, Sums
 from .syntax import Bounds
 

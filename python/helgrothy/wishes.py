@@ -11,12 +11,12 @@ and colours behind a colon. The tables of some kinds of problems have wishes too
 from __future__ import annotations
 
 from collections.abc import Iterable, Iterator, Sequence
-from dataclasses import dataclass, field
 from typing import TYPE_CHECKING, Any
 
 from .amounts import A_NUMBER, is_number, number_of, spelled
 from .errors import TableFault
 from .problem import Problem
+from .records import dataclass, field
 
 if TYPE_CHECKING:
     from fractions import Fraction

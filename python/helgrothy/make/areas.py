@@ -5,9 +5,9 @@ from __future__ import annotations
 import re
 from collections import Counter
 from collections.abc import Iterator, Sequence
-from dataclasses import dataclass
 
 from ..errors import TableFault
+from ..records import dataclass
 from .kind import cut, numbered, picture
 
 Square = tuple[int, int]

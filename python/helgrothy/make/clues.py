@@ -3,11 +3,11 @@
 from __future__ import annotations
 
 from collections.abc import Callable, Iterable, Sequence
-from dataclasses import dataclass
 from typing import Any
 
 from ..named import Named
 from ..problem import Problem
+from ..records import dataclass
 
 
 @dataclass(frozen=True)

@@ -5,13 +5,13 @@ from __future__ import annotations
 import itertools
 import re
 from collections.abc import Hashable, Iterable, Iterator, Sequence
-from dataclasses import dataclass, field
 from math import comb, prod
 from typing import Optional
 
 from ..errors import TableFault
 from ..names import colour_names
 from ..problem import Problem
+from ..records import dataclass, field
 from ..shown import bytes_of
 from ..syntax import MOST_USES, Nearest
 from .kind import check_items, numbered

@@ -12,12 +12,12 @@ import itertools
 import random
 import time
 from collections.abc import Iterator, Sequence
-from dataclasses import dataclass
 
 from ..errors import OutOfTime
 from ..names import codes
 from ..problem import Problem
 from ..programs import Run
+from ..records import dataclass
 from ..shown import bytes_of
 from ..shuffle import order
 from .designs import Design, Factor, Meeting, Option

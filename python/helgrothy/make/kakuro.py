@@ -7,12 +7,12 @@ import itertools
 import re
 from collections import Counter
 from collections.abc import Iterator, Mapping, Sequence
-from dataclasses import dataclass, field
 from typing import Any
 
 from ..draw import Cell, Drawing, Picture, check_size
 from ..errors import TableFault
 from ..problem import Problem
+from ..records import dataclass, field
 from .clues import Clues, options_of
 from .kind import Counted, Kind, check_items, cut, picture, read_text
 

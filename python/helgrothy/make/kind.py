@@ -6,13 +6,13 @@ import argparse
 import errno
 import re
 from collections.abc import Callable, Iterable, Sequence, Sized
-from dataclasses import dataclass
 from typing import TYPE_CHECKING, Any, TypeVar
 
 from ..console import did_you_mean, read
 from ..draw import Drawing
 from ..errors import TableFault
 from ..problem import Problem
+from ..records import dataclass
 from ..syntax import MOST_ITEMS, MOST_USES
 
 if TYPE_CHECKING:

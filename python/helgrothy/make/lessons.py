@@ -19,12 +19,12 @@ import io
 import re
 from collections import Counter
 from collections.abc import Iterator
-from dataclasses import dataclass, field
 from typing import NoReturn
 
 from ..amounts import number_of
 from ..data import of_csv
 from ..errors import TableFault
+from ..records import dataclass, field
 from ..shown import bytes_of
 from ..syntax import MOST_NAME, MOST_USES, Nearest
 

@@ -11,13 +11,13 @@ from __future__ import annotations
 import argparse
 import re
 from collections.abc import Iterator, Sequence
-from dataclasses import dataclass
 from itertools import groupby
 from typing import Any, Optional
 
 from ..draw import Cell, Drawing, Picture, check_size
 from ..errors import TableFault
 from ..problem import Problem
+from ..records import dataclass
 from ..syntax import MOST_USES
 from .kind import Counted, Kind, cut, numbered, read_text
 from .runs import EMPTY, FILLED, Clue, arrangements, count, known, steps

@@ -5,7 +5,6 @@ from __future__ import annotations
 import argparse
 import re
 from collections.abc import Iterable, Iterator, Sequence
-from dataclasses import dataclass, field
 from typing import Any
 
 from ..amounts import number_of
@@ -13,6 +12,7 @@ from ..console import positive
 from ..draw import Cell, Drawing, Picture, Shades, check_size
 from ..errors import TableFault
 from ..problem import Problem
+from ..records import dataclass, field
 from ..syntax import MOST_USES
 from ..wishes import Wish, check
 from .kind import Counted, Kind, check_items, numbered, read_text

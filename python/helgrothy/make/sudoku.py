@@ -8,12 +8,12 @@ import os
 import re
 from collections import Counter
 from collections.abc import Iterator, Sequence
-from dataclasses import dataclass
 from typing import Any
 
 from ..draw import Cell, Drawing, Picture
 from ..errors import TableFault
 from ..problem import Problem
+from ..records import dataclass
 from ..syntax import MOST_USES
 from . import areas
 from .areas import Cage, Square
