@@ -13,8 +13,9 @@ from .make import HELPS, KINDS
 
 # The commands; `add` has what each one takes.
 NAMES = ("hint", "minimal")
-# The kinds whose clues are options.
-WITH_CLUES = ("sudoku", "kakuro")
+# The kinds with clues that can be left out, and those of them whose clues are options.
+WITH_CLUES = ("sudoku", "nonogram", "kakuro")
+CLUES_AS_OPTIONS = ("sudoku", "kakuro")
 
 
 class _KindOrProblem(argparse._SubParsersAction):  # type: ignore[type-arg]

@@ -80,8 +80,8 @@ def _layers(
 ) -> Iterator[tuple[int, list[tuple[int, int, int]], int]]:
     """Of each primary item in the order: its bit, the options that are chosen at it, the bits that count after it.
 
-    An option has its number, the bits that bar it, and those that it sets. A primary item has a bit, and a secondary one
-    a bit for each of its colours and one for none.
+    An option has its number, the bits that bar it, and those that it sets. A primary item has a bit, and a secondary
+    one has a bit for each of its colours and one for none.
     """
     bits: dict[tuple[Hashable, Hashable | None], int] = {}
     whole = dict.fromkeys(problem.items, 0)
