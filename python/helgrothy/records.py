@@ -47,7 +47,8 @@ class _Told:
 
 
 def _made(cls: type, frozen: bool, eq: bool, repr: bool) -> type:
-    names = list(cls.__annotations__)
+    types = getattr(cls, "__annotations__", {})
+    names = list(types)
     given = {name: cls.__dict__[name] for name in names if name in cls.__dict__}
     for name, value in given.items():
         if isinstance(value, _Field):
@@ -75,7 +76,7 @@ def _made(cls: type, frozen: bool, eq: bool, repr: bool) -> type:
     for name, value in own.items():
         if name not in cls.__dict__ or name == "__hash__" and cls.__dict__[name] is None:
             setattr(cls, name, value)
-    cls._as_given = {"__annotations__": cls.__annotations__, **given}  # type: ignore[attr-defined]
+    cls._as_given = {"__annotations__": types, **given}  # type: ignore[attr-defined]
     cls.__dataclass_fields__ = _Told()  # type: ignore[attr-defined]
     return cls
 
