@@ -23,7 +23,7 @@ import unittest
 import urllib.parse
 from unittest import mock
 
-from helgrothy import HelgrothyError, Problem, make
+from helgrothy import HelgrothyError, Problem, cost, make
 from helgrothy.listing import branch_of
 from helgrothy.page import answer, folders, forms, lobby, server, terms
 from helgrothy.page.document import document, frame
@@ -31,6 +31,7 @@ from helgrothy.page.examples import examples, first_of
 from helgrothy.page.record import Record
 from helgrothy.page.start import start
 from helgrothy.programs import Run
+from helgrothy.wire import OfNumbers
 from test_commands import run
 
 EVIL = [
@@ -330,6 +331,8 @@ class Requests(unittest.TestCase):
         found, *wishes = last["end"]["notes"]
         self.assertRegex(found, r"\Athe least cost is 4, as \w+ found\Z")
         self.assertEqual(wishes, ["3 by line 1: A 3", "2 by line 2: B 2", "-1 by line 3: A B -1"])
+        with mock.patch.object(answer.cost, "least", lambda problem, costs, seconds: cost.Least(OfNumbers(problem), [2], 4, "states")):
+            self.assertEqual(self.told(**given, costs="A 4")[-1]["end"]["notes"][0], "the least cost is 4, as a sweep over states found")
         # Negative numbers, colours, patterns, and a number for each option.
         for text, costs, wanted in (
             ("A B\nA\nB\nA B\n", "A B 9\nB -1\n", "-1"), ("A B\nA\nB\nA B\n", "1 2 4\n", "3"),

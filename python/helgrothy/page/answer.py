@@ -93,7 +93,7 @@ class Request:
         if request.what not in _ANSWERS:
             raise ValueError("a page asks to lint, to make or to solve, or for chances")
         if request.way not in _WAYS:
-            raise ValueError("a page asks for solutions in order, in a random one, up to symmetry, or for one of them")
+            raise ValueError("a page asks for solutions in some order, up to symmetry, for any one or the cheapest one")
         if not 1 <= request.limit <= MOST_LIMIT:
             raise ValueError(f"from 1 to {MOST_LIMIT} solutions are shown")
         if not 0 < request.seconds <= MOST_SECONDS:
@@ -236,7 +236,7 @@ class _Solving:
         costs = self._costs(problem)
         try:
             found = cost.least(problem, costs.numbers, self._left() * 0.9)
-            told = "" if found is None else f"the least cost is {spelled(found.cost)}, as {found.by} found"
+            told = "" if found is None else f"the least cost is {spelled(found.cost)}, as {_finder(found.by)} found"
         except cost.NotLeast as error:
             found = error.best
             over = f"{self._request.seconds:g} seconds are over"
@@ -286,6 +286,10 @@ class _Solving:
             if conflict is not None:
                 return list(conflict.lines(problem))
         return []
+
+
+def _finder(by: str) -> str:
+    return "a sweep over states" if by == "states" else by
 
 
 _ANSWERS: dict[str, Callable[[Request], Iterator[str]]] = {
