@@ -34,8 +34,7 @@ _MOST_NEAR = 20_000
 _BOUND = re.compile(rb"([0-9]{1,9})(?::([0-9]{1,9}))?\Z")
 
 
-# A pair to those who give bounds and read them. Other records are dataclasses, but for those of `spans`: a short search
-# would wait for what `dataclasses` loads as long as for its first spans.
+# A pair to those who give bounds and read them.
 class Bounds(NamedTuple):
     """How often a primary item is to be held: at least `low` and at most `high` times."""
 

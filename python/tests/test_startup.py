@@ -46,6 +46,8 @@ class Startup(unittest.TestCase):
                 modules = loaded(*words.split())
                 self.assertLess(len(modules), LISTS if words in lists else MOST)
                 self.assertNotIn("helgrothy.acts", modules)
+                if words.partition(" ")[0] in KINDS:
+                    self.assertEqual([name for name in SLOW if name in modules], [])
                 if words in lists:
                     self.assertNotIn("helgrothy.make.kind", modules)
 
