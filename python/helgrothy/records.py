@@ -65,7 +65,10 @@ def _made(cls: type, frozen: bool, eq: bool, repr: bool) -> type:
     def refuse(self: Any, name: str, *_: object) -> None:
         raise AttributeError(f"{type(self).__name__} can't be changed: {name}")
 
-    own: dict[str, Any] = {"__init__": _init(names, given, frozen, hasattr(cls, "__post_init__"))}
+    init = _init(names, given, frozen, hasattr(cls, "__post_init__"))
+    # For `help`.
+    init.__qualname__, init.__annotations__ = f"{cls.__qualname__}.__init__", {**types, "return": None}
+    own: dict[str, Any] = {"__init__": init}
     if repr:
         own["__repr__"] = show
     if eq:

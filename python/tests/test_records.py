@@ -2,6 +2,7 @@
 
 import copy
 import dataclasses
+import inspect
 import pickle
 import unittest
 from typing import Any
@@ -51,6 +52,8 @@ class Records(unittest.TestCase):
                 lambda it: dataclasses.asdict(it(1)), lambda it: [one.name for one in dataclasses.fields(it)], dataclasses.is_dataclass,
             ):  # fmt: skip
                 self.assertEqual(seen(lambda: act(ours)), seen(lambda: act(theirs)), words)
+        self.assertEqual(list(inspect.signature(ours).parameters), list(inspect.signature(theirs).parameters))
+        self.assertEqual(inspect.signature(Step).parameters["item"].annotation, "str")
         self.assertEqual(repr(ours(1)).partition(".<locals>")[2], ".It(a=1, b='b', c=[], d=2)")
 
     def test_those_of_the_package(self):
