@@ -86,6 +86,7 @@ set -g __helgrothy_commands \
     'helgrothy hint timetable' \
     'helgrothy minimal' \
     'helgrothy minimal sudoku' \
+    'helgrothy minimal nonogram' \
     'helgrothy minimal kakuro' \
     'helgrothy sudoku' \
     'helgrothy queens' \
@@ -197,6 +198,9 @@ set -g __helgrothy_valued \
     'helgrothy minimal sudoku --with' \
     'helgrothy minimal sudoku --seed' \
     'helgrothy minimal sudoku --seconds' \
+    'helgrothy minimal nonogram --with' \
+    'helgrothy minimal nonogram --seed' \
+    'helgrothy minimal nonogram --seconds' \
     'helgrothy minimal kakuro --with' \
     'helgrothy minimal kakuro --seed' \
     'helgrothy minimal kakuro --seconds' \
@@ -547,6 +551,7 @@ complete -c helgrothy -n '__helgrothy_is \'helgrothy minimal\'' -l with -r -f -d
 complete -c helgrothy -n '__helgrothy_is \'helgrothy minimal\'' -l seed -r -f -d 'the random order (default: 0)'
 complete -c helgrothy -n '__helgrothy_is \'helgrothy minimal\'' -l seconds -r -f -d 'the time (default: 30)'
 complete -c helgrothy -n '__helgrothy_is \'helgrothy minimal\' 1' -a sudoku -d 'a Sudoku from its clues'
+complete -c helgrothy -n '__helgrothy_is \'helgrothy minimal\' 1' -a nonogram -d 'a nonogram from its clues'
 complete -c helgrothy -n '__helgrothy_is \'helgrothy minimal\' 1' -a kakuro -d 'a Kakuro from its grid'
 complete -c helgrothy -n '__helgrothy_is \'helgrothy minimal sudoku\'' -s h -l help -d 'show this help message and exit'
 complete -c helgrothy -n '__helgrothy_is \'helgrothy minimal sudoku\'' -l regions -r -F -d 'a file with a picture of the regions, a letter for each place'
@@ -555,6 +560,10 @@ complete -c helgrothy -n '__helgrothy_is \'helgrothy minimal sudoku\'' -l diagon
 complete -c helgrothy -n '__helgrothy_is \'helgrothy minimal sudoku\'' -l with -r -f -d 'of a problem: the option with these items is given; may be repeated (default: all of a random solution)'
 complete -c helgrothy -n '__helgrothy_is \'helgrothy minimal sudoku\'' -l seed -r -f -d 'the random order (default: 0)'
 complete -c helgrothy -n '__helgrothy_is \'helgrothy minimal sudoku\'' -l seconds -r -f -d 'the time (default: 30)'
+complete -c helgrothy -n '__helgrothy_is \'helgrothy minimal nonogram\'' -s h -l help -d 'show this help message and exit'
+complete -c helgrothy -n '__helgrothy_is \'helgrothy minimal nonogram\'' -l with -r -f -d 'of a problem: the option with these items is given; may be repeated (default: all of a random solution)'
+complete -c helgrothy -n '__helgrothy_is \'helgrothy minimal nonogram\'' -l seed -r -f -d 'the random order (default: 0)'
+complete -c helgrothy -n '__helgrothy_is \'helgrothy minimal nonogram\'' -l seconds -r -f -d 'the time (default: 30)'
 complete -c helgrothy -n '__helgrothy_is \'helgrothy minimal kakuro\'' -s h -l help -d 'show this help message and exit'
 complete -c helgrothy -n '__helgrothy_is \'helgrothy minimal kakuro\'' -l with -r -f -d 'of a problem: the option with these items is given; may be repeated (default: all of a random solution)'
 complete -c helgrothy -n '__helgrothy_is \'helgrothy minimal kakuro\'' -l seed -r -f -d 'the random order (default: 0)'
@@ -882,6 +891,7 @@ complete -c helgrothy -n '__helgrothy_is \'helgrothy hint roundrobin\' 1' -F
 complete -c helgrothy -n '__helgrothy_is \'helgrothy hint tests\' 1' -F
 complete -c helgrothy -n '__helgrothy_is \'helgrothy hint timetable\' 1' -F
 complete -c helgrothy -n '__helgrothy_is \'helgrothy minimal sudoku\' 1' -F
+complete -c helgrothy -n '__helgrothy_is \'helgrothy minimal nonogram\' 1' -F
 complete -c helgrothy -n '__helgrothy_is \'helgrothy minimal kakuro\' 1' -F
 complete -c helgrothy -n '__helgrothy_is \'helgrothy sudoku\' 1' -F
 complete -c helgrothy -n '__helgrothy_is \'helgrothy queens\' 1' -F

@@ -3,7 +3,8 @@
 from __future__ import annotations
 
 from collections.abc import Callable, Iterator, Mapping, Sequence
-from dataclasses import dataclass, replace
+from dataclasses import dataclass
+from dataclasses import replace
 from typing import TYPE_CHECKING, Any, Optional
 
 from .draw import SIDE, Cell, Drawing, Picture, Place

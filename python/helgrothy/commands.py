@@ -15,7 +15,7 @@ from typing import TYPE_CHECKING, Any
 
 from . import __version__, console, count_command, puzzle_commands
 from .console import Parser, limited, natural, number, positive, seconds
-from .make import KINDS
+from .make import HELPS, KINDS
 from .puzzle_commands import add_choices
 
 if TYPE_CHECKING:
@@ -40,6 +40,26 @@ examples:
 """
 
 
+# What each command but those of the kinds does, for a list of them: told without loading what does it.
+_HELPS = {
+    "make": "write a problem",
+    "solve": "solve a problem and draw what is found",
+    "draw": "draw a listing",
+    "lint": "tell all faults and slips of a problem",
+    "export": "write a problem for another solver",
+    "import": "read another solver's answer as a listing",
+    "why": "tell which items conflict where there is no solution",
+    "count": "count the solutions of a problem",
+    "page": "a local page to type a problem in",
+    "search": "count or list all solutions, by all processors or many machines",
+    "status": "tell how far a search is",
+    "result": "print what a search that is done has found",
+    "rows": "print rows at which a search may be cut",
+    "hint": "tell a step that is forced, and why",
+    "minimal": "drop what is given while there is one solution",
+}
+
+
 def main(words: Sequence[str]) -> int:
     """Does what the arguments of a command say; returns its status."""
     return console.run("helgrothy", lambda: _act(words), unread=0)
@@ -54,11 +74,13 @@ def _act(words: Sequence[str]) -> int:
 
 def parser_of_all() -> argparse.ArgumentParser:
     """The parser of all commands, those of a long search included."""
-    return _parser([])
+    parser, commands = _begun()
+    _add_all(commands)
+    return parser
 
 
-def _parser(words: Sequence[str]) -> argparse.ArgumentParser:
-    """The parser for these arguments: of one command alone where the first one is its name."""
+def _begun() -> tuple[argparse.ArgumentParser, Any]:
+    """A parser without commands, and what they are added to."""
     parser = Parser(
         prog="helgrothy",
         description="Makes, solves and draws exact cover problems, by the programs dlx1, dlx2 and dlx3.",
@@ -66,19 +88,39 @@ def _parser(words: Sequence[str]) -> argparse.ArgumentParser:
         formatter_class=argparse.RawDescriptionHelpFormatter,
     )
     parser.add_argument("--version", action="version", version=f"helgrothy {__version__}")
-    commands = parser.add_subparsers(metavar="COMMAND", required=True)
+    return parser, parser.add_subparsers(metavar="COMMAND", required=True)
+
+
+def _parser(words: Sequence[str]) -> argparse.ArgumentParser:
+    """The parser for these words: of one command alone where the first one is its name."""
+    parser, commands = _begun()
     first = words[0] if words else ""
     if first in KINDS:
         _add_kind(commands, KINDS[first])
     elif first == "make":
-        _add_make(commands, words[1] if len(words) > 1 else "")
+        _add_make(commands, words[1:])
     elif first in puzzle_commands.NAMES:
         puzzle_commands.add(commands, first, _by(first), words[1:])
     elif first in _ADDS:
         _ADDS[first](commands)
+    elif _is_list(words):
+        _name_all(commands)
     elif first != "--version":
         _add_all(commands)
     return parser
+
+
+def _is_list(words: Sequence[str]) -> bool:
+    """Whether words without a command's name at their beginning get but a list of the commands."""
+    return not words or words[0] in ("-h", "--help") or not words[0].startswith("-")
+
+
+def _name_all(commands: Any) -> None:
+    """All commands without what they take, for a list of them."""
+    for name, help in _HELPS.items():
+        commands.add_parser(name, help=help)
+    for name, help in HELPS.items():
+        commands.add_parser(name, help=_help_of_kind(help))
 
 
 def _add_all(commands: Any) -> None:
@@ -106,10 +148,15 @@ def _by(name: str) -> Callable[[argparse.Namespace], int]:
 # ---- make
 
 
-def _add_make(commands: Any, name: str = "") -> None:
-    """With all kinds, or only that of a name."""
+def _add_make(commands: Any, words: Sequence[str] | None = None) -> None:
+    """With all kinds, or only what is for the words behind it."""
     make = commands.add_parser("make", help="write a problem", description="Writes a problem to standard output.")
     kinds = make.add_subparsers(metavar="KIND", required=True)
+    name = words[0] if words else ""
+    if words is not None and name not in KINDS and _is_list(words):
+        for name, help in HELPS.items():
+            kinds.add_parser(name, help=help)
+        return
     for kind in [KINDS[name]] if name in KINDS else KINDS.values():
         parser = kinds.add_parser(kind.name, help=kind.help, description=f"Writes {kind.help}, as a problem.")
         kind.add_arguments(parser)
@@ -117,6 +164,10 @@ def _add_make(commands: Any, name: str = "") -> None:
 
 
 # ---- solve, and a command for each kind
+
+
+def _help_of_kind(help: str) -> str:
+    return f"make and solve {help}"
 
 
 def _add_solve(commands: Any) -> None:
@@ -134,7 +185,7 @@ def _add_solve(commands: Any) -> None:
 
 def _add_kind(commands: Any, kind: Kind) -> None:
     parser = commands.add_parser(
-        kind.name, help=f"make and solve {kind.help}", description=f"Makes, solves and draws {kind.help}."
+        kind.name, help=_help_of_kind(kind.help), description=f"Makes, solves and draws {kind.help}."
     )
     kind.add_arguments(parser)
     kind.add_search_arguments(parser)

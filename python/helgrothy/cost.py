@@ -1,14 +1,19 @@
-"""The solution whose options cost least in all, proved to be the one by clasp or, where the path hasn't it, by dlx3.
+"""The solution whose options cost least in all: by clasp or, where the path hasn't it, by dlx3, or by `states`.
 
 dlx3 has bounds and no sums. So each item gets a price such that no option costs less than the prices of its items. What
 an option costs beyond these is its surplus; a solution costs the prices and the surpluses. If it is to cost less than
 the best one so far, the surpluses leave so much room, and at most m of its options have a surplus of more than the room
 divided by m + 1. These are bounds. Each solution that costs less narrows them; when none is left the last one is least.
+
+Where that takes more than a second, a sweep over states goes on beside it, until one of them ends. Dominoes on 8 by 8
+with random costs took dlx3 five seconds and the sweep a thirtieth of one; a roster with bounds is for the others alone.
+Whoever it is says by itself that no solution costs less; that it is a solution is judged.
 """
 
 from __future__ import annotations
 
 import math
+import os
 import time
 from collections.abc import Generator, Hashable, Iterator, Sequence
 from contextlib import closing
@@ -22,6 +27,7 @@ from .problem import Problem
 from .programs import Run
 from .shown import bytes_of
 from .solution import Solution, Source
+from .states import Sweep
 from .wire import OfNumbers
 
 __all__ = ["Cost", "Least", "NotLeast", "least", "read"]
@@ -29,6 +35,8 @@ __all__ = ["Cost", "Least", "NotLeast", "least", "read"]
 Option = TypeVar("Option", bound=Any)
 Cost = Union[int, float, Fraction]
 
+# The programs are alone for so many seconds of a processor, and then the sweep has turns of so many seconds.
+_ALONE_SECONDS, _TURN_SECONDS = 1.0, 0.3
 # Clasp reckons with numbers of 32 bits.
 _MOST_SUM = (1 << 31) - 1
 # Prices are reckoned in such parts of the costs' unit, and shared among items so often.
@@ -39,7 +47,8 @@ _MOST_BOUNDS = 30
 class Least(Solution[Option]):
     """The solution of least cost.
 
-    cost: that of its options together. by: the program that found it, and proved it unless the time was over.
+    cost: that of its options together. by: what found it and, unless the time was over, that none costs less: `clasp`,
+    `dlx3`, or `states`, which is the module of that name.
     """
 
     __slots__ = ("by", "cost")
@@ -99,17 +108,21 @@ def least(problem: Problem[Option], costs: Sequence[Cost], seconds: float | None
     exact = [Fraction(str(cost)) if isinstance(cost, float) else Fraction(cost) for cost in costs]
     unit = math.lcm(1, *(cost.denominator for cost in exact))
     whole = [int(cost * unit) for cost in exact]
+    beside = _Beside(problem, whole)
     path = sat_solver.path_of("clasp")
     if path is not None and sum(abs(cost) for cost in whole) <= _MOST_SUM and problem.options:
-        search: Iterator[tuple[int, list[int]]] = _by_clasp(problem, whole, path, seconds)
+        search: Iterator[tuple[int, list[int]]] = _by_clasp(problem, whole, path, seconds, beside)
         by = "clasp"
     else:
-        search, by = _by_bounds(problem, whole, seconds), "dlx3"
+        search, by = _by_bounds(problem, whole, seconds, beside), "dlx3"
     reader = OfNumbers(problem)
     best: Least[Option] | None = None
     try:
         for _, numbers in search:
             best = Least(reader, numbers, sum((exact[number] for number in numbers), Fraction(0)), by)
+            beside.look()
+    except _Swept as swept:
+        best = Least(reader, swept.numbers, sum((exact[number] for number in swept.numbers), Fraction(0)), "states")
     except OutOfTime:
         raise NotLeast(None if best is None else _judged(problem, best)) from None
     return None if best is None else _judged(problem, best)
@@ -122,11 +135,43 @@ def _judged(problem: Problem[Option], found: Least[Option]) -> Least[Option]:
     return found
 
 
+# ---- by states, beside the others
+
+
+class _Swept(Exception):
+    """The sweep has ended with a solution: the numbers of its options."""
+
+    def __init__(self, numbers: list[int]) -> None:
+        self.numbers = numbers
+
+
+class _Beside:
+    """A sweep beside a search, which goes on while that finds nothing and between its solutions."""
+
+    def __init__(self, problem: Problem[Any], costs: Sequence[int]) -> None:
+        self._problem = problem
+        self._costs = costs
+        self._begun = sum(os.times()[:4])
+        self._sweep: Sweep | None = None
+
+    def look(self, run: Run | None = None) -> None:
+        """A turn, where it is time for it. Raises `_Swept` at the end of a sweep that found a solution."""
+        if self._sweep is None:
+            worked = sum(os.times()[:4]) - self._begun + (0.0 if run is None else run.worked())
+            if worked < _ALONE_SECONDS:
+                return
+            self._sweep = Sweep(self._problem, self._costs)
+        if not self._sweep.is_over:
+            self._sweep.go_on(_TURN_SECONDS)
+            if self._sweep.numbers is not None:
+                raise _Swept(self._sweep.numbers)
+
+
 # ---- by clasp
 
 
 def _by_clasp(
-    problem: Problem[Any], costs: Sequence[int], path: str, seconds: float | None
+    problem: Problem[Any], costs: Sequence[int], path: str, seconds: float | None, beside: _Beside
 ) -> Iterator[tuple[int, list[int]]]:
     """Solutions that cost less and less; the last one is least. Raises `OutOfTime`."""
     deadline = None if seconds is None else time.monotonic() + seconds
@@ -140,7 +185,7 @@ def _by_clasp(
         def told() -> Iterator[bytes]:
             nonlocal is_over
             rest = b""
-            for chunk in run.chunks():
+            for chunk in run.chunks(beside.look):
                 *whole, rest = (rest + chunk).split(b"\n")
                 for line in whole:
                     is_over = is_over or line in (b"s OPTIMUM FOUND", b"s UNSATISFIABLE")
@@ -159,7 +204,7 @@ def _by_clasp(
 
 
 def _by_bounds(
-    problem: Problem[Any], costs: Sequence[int], seconds: float | None
+    problem: Problem[Any], costs: Sequence[int], seconds: float | None, beside: _Beside
 ) -> Iterator[tuple[int, list[int]]]:
     """The same, by bounds that are narrowed."""
     deadline = None if seconds is None else time.monotonic() + seconds
@@ -172,7 +217,7 @@ def _by_bounds(
         room = None if best is None else (best - 1) * _PARTS - least
         places = [place for place in order if room is None or surplus[place] <= room]
         left = None if deadline is None else max(deadline - time.monotonic(), 0.0)
-        with closing(_among(problem, places, surplus, room, left)) as found:
+        with closing(_among(problem, places, surplus, room, left, beside)) as found:
             for numbers in found:
                 cost = sum(costs[number] for number in numbers)
                 if best is None or cost < best:
@@ -184,14 +229,20 @@ def _by_bounds(
 
 
 def _among(
-    problem: Problem[Any], places: Sequence[int], surplus: Sequence[int], room: int | None, seconds: float | None
+    problem: Problem[Any],
+    places: Sequence[int],
+    surplus: Sequence[int],
+    room: int | None,
+    seconds: float | None,
+    beside: _Beside,
 ) -> Generator[list[int], None, None]:
     """The solutions that have options of these places alone, as numbers, within the bounds where there is a room."""
     if room is None:
-        with problem._search(places, seconds=seconds) as solutions:
+        with problem._search(places, seconds=seconds, meanwhile=beside.look) as solutions:
             yield from (solution.numbers for solution in solutions)
     else:
-        with _narrowed(problem, places, surplus, room).solve(seconds=seconds) as narrowed:
+        inner = _narrowed(problem, places, surplus, room)
+        with inner._search(seconds=seconds, meanwhile=beside.look) as narrowed:
             yield from ([places[number] for number in solution.numbers] for solution in narrowed)
 
 

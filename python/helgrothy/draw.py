@@ -12,11 +12,10 @@ import math
 import re
 from collections.abc import Callable, Hashable, Iterator, Sequence
 from dataclasses import dataclass, field
-from html import escape
 from typing import TYPE_CHECKING, Any
 
 from .errors import NoPicture
-from .shown import shown
+from .shown import escaped, shown
 
 if TYPE_CHECKING:
     from .problem import Problem
@@ -259,7 +258,7 @@ class _Svg:
         lines = [
             f'<svg xmlns="http://www.w3.org/2000/svg" width="{width}" height="{height}" '
             f'viewBox="0 0 {width} {height}" font-family="sans-serif" font-size="{_FONT}" text-anchor="middle">',
-            f"<title>{escape(shown(self.picture.title))}</title>",
+            f"<title>{escaped(self.picture.title)}</title>",
             f'<rect width="{width}" height="{height}" fill="#fff"/>',
             *self.fills(),
             *self.lines(),
@@ -284,7 +283,7 @@ class _Svg:
                 if fill not in ("", "#fff"):
                     x, y = self.at(r, start)
                     size = f'width="{(c - start) * self.wide}" height="{SIDE}"'
-                    yield f'<rect x="{x}" y="{y}" {size} fill="{escape(fill)}"/>'
+                    yield f'<rect x="{x}" y="{y}" {size} fill="{escaped(fill)}"/>'
 
     def fill(self, at: Place) -> str:
         cell = self.picture.cells.get(at)
@@ -371,7 +370,7 @@ class _Svg:
             down, right = divmod(number, columns)
             at = x + (right + 0.5) * wide, y + (down + 0.5) * high + 0.35 * size
             look = f'font-size="{size:.3g}" fill-opacity="{max(share, _PALEST):.2g}"'
-            yield f'<text x="{at[0]:g}" y="{at[1]:g}" {look}>{escape(shown(label))}</text>'
+            yield f'<text x="{at[0]:g}" y="{at[1]:g}" {look}>{escaped(label)}</text>'
 
     def heads(self) -> Iterator[str]:
         for c, name in enumerate(self.picture.columns):
@@ -380,10 +379,10 @@ class _Svg:
             yield self.word(self.left - 10, self.top + r * SIDE, name, ' fill="#555" text-anchor="end"')
 
     def small(self, x: float, y: float, text: str, anchor: str) -> str:
-        return f'<text x="{x:g}" y="{y:g}" font-size="11" text-anchor="{anchor}">{escape(shown(text))}</text>'
+        return f'<text x="{x:g}" y="{y:g}" font-size="11" text-anchor="{anchor}">{escaped(text)}</text>'
 
     def word(self, x: float, y: float, text: str, more: str) -> str:
-        return f'<text x="{x:g}" y="{y + SIDE / 2 + 5.5:g}"{more}>{escape(shown(text))}</text>'
+        return f'<text x="{x:g}" y="{y + SIDE / 2 + 5.5:g}"{more}>{escaped(text)}</text>'
 
 
 def _width(label: str) -> int:

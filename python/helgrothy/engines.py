@@ -40,6 +40,7 @@ _MOST_SECONDS, _MOST_WRITING = 600.0, 8.0
 # After so many seconds without a solution, and without an engine, a line says what would help.
 _LONG_SECONDS = 10.0
 _HELP = "no solution yet; cadical or clasp, if it were on the path, would look for one too"
+_ORDER = "--shuffle tries the options in another order"
 
 
 class Claimed(HelgrothyError):
@@ -70,8 +71,9 @@ def solve(
             except _Answered as answered:
                 yield Solution(OfNumbers(problem), answered.numbers)
                 outcome.end(1, False)
-            except OutOfTime:
+            except OutOfTime as error:
                 beside.help()
+                error.beside = beside.name
                 raise
 
     return Solutions(begin, lambda most: solve(problem, sooner(seconds, most)))
@@ -118,6 +120,7 @@ class _Beside:
             left = self._seconds - self._passed()
             if sat_solver.writing_seconds(self._problem) > min(left / 2, _MOST_WRITING):
                 self._is_over = True
+                self._tell(f"no solution yet; the problem is too large for {self._engine.name} here; {_ORDER}")
             else:
                 self._asked = Asked(self._engine, self._problem, sat_solver.text(self._engine, self._problem))
                 run.pause()
@@ -127,6 +130,11 @@ class _Beside:
         if self._engine is None and not self._is_over and self._passed() > _ALONE_SECONDS:
             self._is_over = True
             self._tell(_HELP)
+
+    @property
+    def name(self) -> str:
+        """The engine that was asked, and nothing where none was."""
+        return "" if self._asked is None else self._asked.name
 
     def _passed(self) -> float:
         return time.monotonic() - self._begun

@@ -107,9 +107,11 @@ class UnknownChoice(HelgrothyError, KeyError):
 
 
 class OutOfTime(HelgrothyError, TimeoutError):
-    """A run took longer than it was given. found: how many solutions it had found by then, also those left out."""
+    """A run took longer than it was given. found: how many solutions it had found by then, also those left out. beside:
+    the engine that looked for one beside it, if any did."""
 
     found: int = 0
+    beside: str = ""
 
 
 class NoPicture(HelgrothyError, LookupError):

@@ -8,8 +8,8 @@ from __future__ import annotations
 
 import random
 import time
-from collections.abc import Collection, Sequence
 from dataclasses import dataclass
+from collections.abc import Callable, Collection, Sequence
 from typing import Any
 
 from .errors import OutOfTime
@@ -19,7 +19,7 @@ from .problem import Problem
 from .shuffle import order
 from .shuffle import solve as shuffled
 
-__all__ = ["Minimal", "NotUnique", "differences", "find", "some"]
+__all__ = ["Minimal", "NotUnique", "differences", "drop", "find", "some"]
 
 
 class NotUnique(Exception):
@@ -45,8 +45,22 @@ def find(problem: Problem[Any], given: Sequence[int], seed: int = 0, seconds: fl
 
     Raises `NotUnique`, and `OutOfTime` where so many seconds don't show that.
     """
+    return drop(given, lambda kept, deadline: solutions(problem, kept, deadline), seed, seconds)
+
+
+def drop(
+    given: Sequence[int],
+    solutions: Callable[[Sequence[int], float], list[list[int]]],
+    seed: int = 0,
+    seconds: float = 30.0,
+) -> Minimal:
+    """The same of clues of any sort, by their numbers.
+
+    solutions: of the puzzle with some of them its solutions, two at most, or `OutOfTime` from a time on, as
+    `time.monotonic` has it.
+    """
     deadline = time.monotonic() + seconds
-    found = solutions(problem, given, deadline)
+    found = solutions(given, deadline)
     if len(found) != 1:
         raise NotUnique(found)
     kept = list(dict.fromkeys(given))
@@ -54,7 +68,7 @@ def find(problem: Problem[Any], given: Sequence[int], seed: int = 0, seconds: fl
     for number, place in enumerate(tried):
         fewer = [one for one in kept if one != place]
         try:
-            if len(solutions(problem, fewer, deadline)) == 1:
+            if len(solutions(fewer, deadline)) == 1:
                 kept = fewer
         except OutOfTime:
             return Minimal(kept, len(tried) - number)

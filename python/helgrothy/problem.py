@@ -3,7 +3,6 @@
 from __future__ import annotations
 
 import io
-import tempfile
 import time
 import warnings
 from collections import Counter
@@ -480,6 +479,8 @@ class Problem(Generic[Option]):
         if not isinstance(given, (str, bytes)):
             given = b"".join(self._listing(given))
         text = bytes_of(given) if isinstance(given, str) else given
+        import tempfile
+
         with tempfile.NamedTemporaryFile(suffix=".dlx") as file:
             file.writelines(_ended(self._lines()))
             file.flush()

@@ -9,11 +9,11 @@ from .errors import OutOfTime
 from .given import forbidden, given
 from .make.kind import kind_of
 from .problem import Problem
-from .puzzle_commands import WITH_CLUES
+from .puzzle_commands import CLUES_AS_OPTIONS
 
 if TYPE_CHECKING:
     import argparse
-    from collections.abc import Sequence
+    from collections.abc import Callable, Sequence
 
     from .make.clues import Clues
 
@@ -38,7 +38,7 @@ def hint(problem: Problem[Any], arguments: argparse.Namespace) -> int:
     from . import hint as hints
 
     held, dropped = choices(problem, arguments)
-    has_clues = kind_of(problem.comments) in WITH_CLUES
+    has_clues = kind_of(problem.comments) in CLUES_AS_OPTIONS
     try:
         found = hints.find(problem, held, dropped, arguments.seconds * _SHARE, has_clues=has_clues)
     except hints.NoHint as none:
@@ -78,14 +78,25 @@ def clues_of(problem: Problem[Any], arguments: argparse.Namespace) -> Clues:
     )
 
 
+def _of_problems(left: Callable[[Sequence[int]], Problem[Any]]) -> Callable[[Sequence[int], float], list[list[int]]]:
+    """What `minimal.drop` asks, where each set of clues is a problem of its own."""
+    from . import minimal as minimals
+
+    return lambda kept, deadline: minimals.solutions(left(kept), [], deadline)
+
+
 def minimal(clues: Clues, arguments: argparse.Namespace) -> int:
     from . import minimal as minimals
 
     left = arguments.seconds * _SHARE
     try:
         cells = set(clues.cells)
-        held = clues.given or [one for one in minimals.some(clues.problem, arguments.seed, left) if one in cells]
-        found = minimals.find(clues.problem, held, arguments.seed, left)
+        if clues.left is not None:
+            held = clues.given
+            found = minimals.drop(held, _of_problems(clues.left), arguments.seed, left)
+        else:
+            held = clues.given or [one for one in minimals.some(clues.problem, arguments.seed, left) if one in cells]
+            found = minimals.find(clues.problem, held, arguments.seed, left)
     except minimals.NotUnique as none:
         for line in uniqueness(clues.problem, none.solutions):
             console.say(line)

@@ -9,12 +9,13 @@ from typing import Any
 
 from . import console
 from .console import Parser, number, seconds
-from .make import KINDS
+from .make import HELPS, KINDS
 
 # The commands; `add` has what each one takes.
 NAMES = ("hint", "minimal")
-# The kinds whose clues are options.
-WITH_CLUES = ("sudoku", "kakuro")
+# The kinds with clues that can be left out, and those of them whose clues are options.
+WITH_CLUES = ("sudoku", "nonogram", "kakuro")
+CLUES_AS_OPTIONS = ("sudoku", "kakuro")
 
 
 class _KindOrProblem(argparse._SubParsersAction):  # type: ignore[type-arg]
@@ -56,7 +57,10 @@ def _add_command(
     console.add_problem(below.otherwise)
     of_kinds = []
     for kind in _asked(kinds, words):
-        own = below.add_parser(kind, help=KINDS[kind].help, description=f"{description} Of {KINDS[kind].help}.")
+        own = below.add_parser(kind, help=HELPS[kind], description=f"{description} Of {HELPS[kind]}.")
+        if words is not None and kind not in words:
+            # It is only listed.
+            continue
         KINDS[kind].add_arguments(own)
         own.set_defaults(kind=KINDS[kind])
         of_kinds.append(own)
@@ -119,8 +123,9 @@ def add(
             name,
             "drop what is given while there is one solution",
             "Drops clues, in a random order, while the puzzle has exactly one solution, and prints it; without any "
-            "clue it begins with a random solution. Of a problem the clues are the options of --with, and those that "
-            "are needed are printed. Status 1 says that there isn't one solution.",
+            "clue it begins with a random solution. Of a nonogram whole lines are dropped, and ? "
+            "stands there. Of a problem the clues are the options of --with, and those that are needed are printed. "
+            "Status 1 says that there isn't one solution.",
             WITH_CLUES,
             _add_minimal_options,
             act,

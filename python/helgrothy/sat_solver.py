@@ -15,7 +15,6 @@ import os
 import shutil
 import signal
 import subprocess
-import tempfile
 import time
 from collections.abc import Hashable, Iterable, Iterator
 from contextlib import suppress
@@ -98,6 +97,9 @@ class Asked:
         """text: the problem as `export` writes it for the engine, perhaps with more rules."""
         self.name = engine.name
         self._problem = problem
+        # A command loads this module before it knows whether it asks an engine.
+        import tempfile
+
         with tempfile.TemporaryFile() as given:
             given.writelines(text)
             self.begun = time.monotonic()

@@ -17,6 +17,14 @@ def shown(text: str) -> str:
     return text if text.isprintable() else "".join(map(_shown, text))
 
 
+def escaped(text: str) -> str:
+    """Such a text as it stands in SVG and HTML."""
+    # Few commands need it, and its table of signs is long.
+    from html import escape
+
+    return escape(shown(text))
+
+
 def _shown(character: str) -> str:
     if character.isprintable():
         return character

@@ -4,11 +4,10 @@ from __future__ import annotations
 
 from collections.abc import Iterator
 from dataclasses import dataclass
-from html import escape
 
 from .draw import Cell, Picture, check_size
 from .errors import NoPicture
-from .shown import shown
+from .shown import escaped, shown
 
 # A layer, counted from the top, a row from the back, and a column from the left.
 Cube = tuple[int, int, int]
@@ -74,7 +73,7 @@ class Solid(Picture):
         lines = [
             f'<svg xmlns="http://www.w3.org/2000/svg" width="{width}" height="{height}" '
             f'viewBox="0 0 {width} {height}" font-family="sans-serif" font-size="12" text-anchor="middle">',
-            f"<title>{escape(shown(self.title))}</title>",
+            f"<title>{escaped(self.title)}</title>",
             f'<rect width="{width}" height="{height}" fill="#fff"/>',
         ]
         if layers > 1:
@@ -150,7 +149,7 @@ class _View:
         for held in groups.values():
             at = _middle(held)
             (x, y), (to_x, to_y) = self.point(at), self.point(_added(at, (0, 1, 1)))
-            label = escape(shown(self.cubes[at].label))
+            label = escaped(self.cubes[at].label)
             yield f'<text x="{(x + to_x) / 2:g}" y="{(y + to_y) / 2 + 4.3:g}">{label}</text>'
 
 

@@ -156,7 +156,8 @@ class _Listing:
     def _give_up(self, error: OutOfTime) -> int:
         reached = max(error.found, self._shown)
         self._write_page(reached, False, [f"{error}"])
-        return fail(f"{error}; {_counted(reached)} till then")
+        beside = f", and {error.beside} had none either" if error.beside and not reached else ""
+        return fail(f"{error}; {_counted(reached)} till then{beside}")
 
     def _end(self, total: int, is_complete: bool, among: str, watch: Watch) -> int:
         """Says how many there were, and why there was none; gives the status."""

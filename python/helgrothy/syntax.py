@@ -9,7 +9,6 @@ thousand. The search for similar names takes at most a fifth of a second in all.
 
 from __future__ import annotations
 
-import difflib
 import re
 import time
 from collections.abc import Collection, Iterator
@@ -278,6 +277,9 @@ class Nearest:
 
 def _near(name: str, names: Collection[str], deadline: float) -> str | None:
     """The name that has most in common with one, as `difflib` reckons, or None where none has half."""
+    # Most texts have no wrong name.
+    import difflib
+
     likeness = difflib.SequenceMatcher()
     likeness.set_seq2(name)
     best, most = None, 0.5

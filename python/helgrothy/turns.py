@@ -11,6 +11,7 @@ import itertools
 from collections.abc import Collection, Iterable
 from dataclasses import dataclass
 
+
 Cell = tuple[int, ...]
 Form = frozenset[Cell]
 

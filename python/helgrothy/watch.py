@@ -9,7 +9,6 @@ from typing import Any
 
 from .problem import Problem
 from .programs import undisturbed
-from .sums import search
 
 # A search may show no solution for so long; the count takes as long.
 _QUIET_SECONDS = 1.0
@@ -50,6 +49,9 @@ class Watch:
         self._timer.cancel()
 
     def _count(self) -> None:
+        # Most searches show a solution before.
+        from .sums import search
+
         # Where there is no memory for it, or nobody to show it to, the search goes on all the same.
         with suppress(MemoryError, OSError):
             found = search(self._problem, _QUIET_SECONDS)

@@ -198,7 +198,14 @@ class Solving(WithEngines):
         self.program("exec /bin/sleep 1000")
         status, out, told = run("solve", self.problem, "--seconds", "1")
         self.assertEqual((status, out), (2, ""))
-        self.assertIn("0 solutions till then", told)
+        self.assertIn("0 solutions till then, and cadical had none either\n", told)
+
+    def test_one_that_would_take_too_long_to_write_to(self):
+        self.program("/bin/sleep 1")
+        self.engine(HANG)
+        with mock.patch.object(engines, "_ALONE_SECONDS", 0.0), mock.patch.object(engines, "_MOST_WRITING", 0.0):
+            told = run("solve", self.problem)[2]
+        self.assertIn(f"no solution yet; the problem is too large for cadical here; {engines._ORDER}\n", told)
 
     def test_kinds(self):
         self.after_the_engine()

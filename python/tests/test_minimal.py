@@ -1,16 +1,20 @@
 """Whether there is one solution, and clues that are dropped while there is."""
 
+import itertools
+import random
+import re
 import unittest
 from unittest import mock
 
 from folders import InFolder
 from test_commands import run
 
-from helgrothy import OutOfTime, Problem, make, minimal, puzzle_commands
+from helgrothy import OutOfTime, Problem, TableFault, make, minimal, puzzle_commands
 
 CLUES = "53..7....6..195....98....6.8...6...34..8.3..17...2...6.6....28....419..5....8..79"
 SMALL = "12.4 3.12 2.43 4.21"
 GRID = "#   4\\  16\\ #\n\\8  .   .   13\\\n\\17 .   .   .\n#   \\8  .   .\n"
+HEART = "1 1\n5\n5\n3\n1\n\n2\n4\n4\n4\n2\n"
 REGIONS = "aabb\naabb\nccdd\nccdd\n"
 
 
@@ -20,6 +24,12 @@ def is_minimal(clues):
         return False
     places = [place for place, mark in enumerate(clues) if mark not in ". \n"]
     return all(make.sudoku.problem(f"{clues[:at]}.{clues[at + 1 :]}").count(limit=2) == 2 for at in places)
+
+
+def clues_of(marks, rows, columns):
+    """The clues of a picture: those of its rows and then those of its columns."""
+    lines = [marks[r * columns : (r + 1) * columns] for r in range(rows)] + [marks[c::columns] for c in range(columns)]
+    return [tuple(len(run) for run in "".join(line).split(".") if run) for line in lines]
 
 
 class Unique(InFolder):
@@ -96,6 +106,53 @@ class Minimal(InFolder):
         again = run("minimal", "kakuro", self.file("again", f"\n{text}"))
         self.assertEqual(again[1].strip("\n"), text.strip("\n"))
 
+    def test_nonograms(self):
+        """Each clue that is left is needed, and the layout of the file stays."""
+        path = self.file("clues", HEART)
+        for seed in ("0", "5"):
+            status, text, told = run("minimal", "nonogram", path, "--seed", seed)
+            lines = text.split("\n")
+            self.assertEqual((status, len(lines)), (0, len(HEART.split("\n"))))
+            self.assertTrue(all(line in ("?", before) for line, before in zip(lines, HEART.split("\n"))))
+            left = sum(line not in ("", "?") for line in lines)
+            self.assertEqual(told, f"{left} of 10 clues are enough; none of them can go.\n")
+            self.assertEqual(make.nonogram.problem(text).count(limit=2), 1)
+            for at, line in enumerate(lines):
+                if line not in ("", "?"):
+                    fewer = "\n".join([*lines[:at], "?", *lines[at + 1 :]])
+                    self.assertEqual(make.nonogram.problem(fewer).count(limit=2), 2)
+        self.assertEqual(run("minimal", "nonogram", self.file("less", text))[1], text)
+        titled = f"title a heart\nrows\n{HEART.split(chr(10) * 2)[0]}\ncolumns\n2\n4\n4\n4\n2"
+        text = run("minimal", "nonogram", self.file("titled", titled))[1]
+        self.assertEqual([text.split("\n")[at] for at in (0, 1, 7)], ["title a heart", "rows", "columns"])
+        told = run("minimal", "nonogram", self.file("open", "?\n?\n\n1\n1\n"))
+        self.assertEqual((told[:2], told[2].splitlines()[0]), ((1, ""), "There are several solutions. Of these two:"))
+
+    def test_nonograms_with_lines_untold(self):
+        """There are as many solutions as pictures that fit what is told, by whole lines and by runs."""
+        rng = random.Random(21)
+        for number in range(40):
+            rows, columns = rng.randint(1, 3), rng.randint(1, 4)
+            pictures = list(itertools.product("#.", repeat=rows * columns))
+            told = [line if rng.random() < 0.6 else None for line in clues_of(rng.choice(pictures), rows, columns)]
+            wanted = sum(
+                all(own in (None, its) for own, its in zip(told, clues_of(one, rows, columns))) for one in pictures
+            )
+            lines = ["?" if line is None else " ".join(map(str, line)) or "0" for line in told]
+            text = "\n".join([*lines[:rows], "", *lines[rows:]])
+            with mock.patch.object(make.nonogram, "_are_shorter_by_runs", lambda lines, is_so=number % 2 > 0: is_so):
+                problem = make.nonogram.problem(text)
+            self.assertEqual(problem.count(), wanted, text)
+            drawn = problem.draw(next(problem.solve())).text()
+            self.assertEqual(drawn.count("?"), lines.count("?"))
+            again = make.nonogram.problem("\n".join(problem.comments[2:]))
+            self.assertEqual(again.count(), wanted)
+        for text, wanted in (
+            ("? 1\n1\n\n1\n1\n", "line 1: ?: no number"), ("3\n?\n\n1\n1\n", "it takes 3 squares"), ("2\n?\n\n0\n?\n", "no arrangement"),
+        ):  # fmt: skip
+            with self.assertRaisesRegex(TableFault, re.escape(wanted)):
+                make.nonogram.problem(text)
+
     def test_problems(self):
         board = make.queens.problem(6)
         path = self.file("q.dlx", board.text)
@@ -143,8 +200,8 @@ class Minimal(InFolder):
         self.assertEqual((status, len(text), make.sudoku.problem(text).count(limit=2)), (0, 82, 1))
 
     def test_mistakes(self):
-        told = run("minimal", "nonogram", "x")
-        self.assertEqual((told[0], told[2].partition(";")[0]), (2, "helgrothy minimal: nonogram: neither a problem nor sudoku or kakuro"))
+        told = run("minimal", "queens", "x")
+        self.assertEqual((told[0], told[2].partition(";")[0]), (2, "helgrothy minimal: queens: neither a problem nor sudoku, nonogram or kakuro"))
         told = run("minimal", "sudoku", CLUES, "--with", "r1c3 r1=4")
         self.assertEqual(told, (2, "", "helgrothy: the clues stand in the puzzle: without --with\n"))
 

@@ -23,7 +23,7 @@ import unittest
 import urllib.parse
 from unittest import mock
 
-from helgrothy import HelgrothyError, Problem, make
+from helgrothy import HelgrothyError, Problem, cost, make
 from helgrothy.listing import branch_of
 from helgrothy.page import answer, folders, forms, lobby, server, terms
 from helgrothy.page.document import document, frame
@@ -31,6 +31,7 @@ from helgrothy.page.examples import examples, first_of
 from helgrothy.page.record import Record
 from helgrothy.page.start import start
 from helgrothy.programs import Run
+from helgrothy.wire import OfNumbers
 from test_commands import run
 
 EVIL = [
@@ -212,7 +213,8 @@ class Forms(unittest.TestCase):
         for example in examples():
             with self.subTest(title=example["title"]):
                 self.leave()
-                ways = {name: example[name] for name in ("kind", "values", "text", "cell", "row", "column", "label")}
+                ways = {name: example[name] for name in ("kind", "values", "text", "cell", "row", "column", "label", "costs")}
+                ways["way"] = "cheapest" if example["costs"] else ""
                 lines = list(answer.answer(answer.Request("solve", limit=1, seconds=60.0, **ways)))
                 found = json.loads(lines[1])["solution"]
                 has_patterns = any(example[name] for name in ("cell", "row", "column", "label"))
@@ -320,6 +322,40 @@ class Requests(unittest.TestCase):
         with mock.patch.object(Problem, "random", lambda self, *, seconds: None, create=True):
             told = self.told(what="solve", text="a b\na\n", way="one")
         self.assertEqual(told[-1]["end"]["notes"], ["can't all be held: b", "it is in no option"])
+
+    def test_the_cheapest(self):
+        given = {"what": "solve", "text": "A B\nA\nB\nA B\n", "way": "cheapest", "seconds": 60.0}
+        _, solution, last = self.told(**given, costs="A 3\r\nB 2\r\nA B -1\r\n")
+        self.assertEqual(solution["solution"]["options"], {"3": "A B"})
+        self.assertEqual(last["end"]["total"], 1)
+        found, *wishes = last["end"]["notes"]
+        self.assertRegex(found, r"\Athe least cost is 4, as \w+ found\Z")
+        self.assertEqual(wishes, ["3 by line 1: A 3", "2 by line 2: B 2", "-1 by line 3: A B -1"])
+        with mock.patch.object(answer.cost, "least", lambda problem, costs, seconds: cost.Least(OfNumbers(problem), [2], 4, "states")):
+            self.assertEqual(self.told(**given, costs="A 4")[-1]["end"]["notes"][0], "the least cost is 4, as a sweep over states found")
+        # Negative numbers, colours, patterns, and a number for each option.
+        for text, costs, wanted in (
+            ("A B\nA\nB\nA B\n", "A B 9\nB -1\n", "-1"), ("A B\nA\nB\nA B\n", "1 2 4\n", "3"),
+            ("A | x\nA x:a\nA x:b\n", "x:a 0.5\nA 1\n", "1"), ("a1 a2\na1 a2\n", "a? 7\n", "7"),
+        ):  # fmt: skip
+            *_, last = self.told(**{**given, "text": text}, costs=costs)
+            self.assertIn(f"the least cost is {wanted}, ", last["end"]["notes"][0])
+        for costs, wanted in (("", "no costs are given"), ("A\n", "costs: line 1: A: no cost"), ("C 1", "costs: line 1: C 1: C: no such item")):
+            self.assertIn(wanted, self.told(**given, costs=costs)[-1]["error"])
+        *_, last = self.told(**{**given, "text": "A B\nA\n"}, costs="A 1")
+        self.assertEqual(last["end"], {"total": 0, "complete": True, "notes": ["can't all be held: B", "it is in no option"]})
+
+    def test_the_cheapest_of_a_kind(self):
+        table = "-     mon tue\nearly 1   1\n\nann 0:2 tue=2\nbob 0:2\n"
+        given = {"what": "solve", "kind": "roster", "values": {"table": table}, "way": "cheapest", "seconds": 60.0}
+        notes = {}
+        for costs in ("", "bob 3"):
+            with tempfile.TemporaryDirectory() as folder, contextlib.ExitStack() as stack:
+                stack.callback(os.chdir, os.getcwd())
+                os.chdir(folder)
+                notes[costs] = self.told(**given, costs=costs)[-1]["end"]["notes"]
+        self.assertEqual([text.partition(",")[0] for text in (notes[""][0], notes["bob 3"][0])], ["the least cost is 0", "the least cost is 2"])
+        self.assertEqual(notes["bob 3"][1:], ["2 by line 4 of the table: ann tue=2"])
 
     def told(self, **request):
         return [json.loads(line) for line in answer.answer(answer.Request(**request))]

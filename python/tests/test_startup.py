@@ -5,8 +5,9 @@ import subprocess
 import sys
 import unittest
 
-from helgrothy import programs
+from helgrothy import commands, programs
 from helgrothy.commands import parser_of_all
+from helgrothy.make import HELPS, KINDS
 
 PACKAGE = os.path.dirname(os.path.dirname(programs.__file__))
 SCRIPT = """\
@@ -20,8 +21,10 @@ except SystemExit as end:
     assert end.code == 0, end.code
 sys.stderr.write(" ".join(set(sys.modules) - before))
 """
-# Of Python and the package. All commands' help is told by loading all kinds.
-MOST, MORE = 125, {"--version": 80, "--help": 180, "make --help": 150, "hint --help": 150}
+# Of Python and the package: for a command's help, for a list of commands or kinds, and for one that solves.
+MOST, LISTS, SOLVES = 105, 80, 125
+# What no short command waits for.
+SLOW = ("dataclasses", "difflib", "fractions", "html", "inspect", "json")
 
 
 def loaded(*words):
@@ -37,11 +40,36 @@ class Startup(unittest.TestCase):
         parsers = parser_of_all()._subparsers._group_actions[0].choices
         self.assertLessEqual({"solve", "page", "search", "sudoku"}, set(parsers))
         every = [f"{name} --help" for name in parsers]
-        for words in ["--version", "--help", "make queens --help", *every]:
+        lists = ["--version", "--help", "make --help", "hint --help", "minimal --help"]
+        for words in [*lists, "make queens --help", *every]:
             with self.subTest(words=words):
                 modules = loaded(*words.split())
-                self.assertLess(len(modules), MORE.get(words, MOST))
+                self.assertLess(len(modules), LISTS if words in lists else MOST)
                 self.assertNotIn("helgrothy.acts", modules)
+                if words.partition(" ")[0] in KINDS:
+                    self.assertEqual([name for name in SLOW if name in modules], [])
+                if words in lists:
+                    self.assertNotIn("helgrothy.make.kind", modules)
+
+    def test_lists_are_those_of_the_parsers(self):
+        """What is told without loading a module agrees with it."""
+        self.assertEqual(HELPS, {name: kind.help for name, kind in KINDS.items()})
+        whole, listed = parser_of_all(), commands._parser(["--help"])
+        told = [[(it.dest, it.help) for it in one._subparsers._group_actions[0]._choices_actions] for one in (whole, listed)]
+        self.assertEqual(sorted(told[0]), sorted(told[1]))
+        self.assertEqual(whole.format_usage(), listed.format_usage())
+        for words in (["make"], ["hint"], ["minimal"]):
+            helps = []
+            for parser in (parser_of_all(), commands._parser([*words, "--help"])):
+                below = parser._subparsers._group_actions[0].choices[words[0]]
+                helps.append(below.format_help())
+            self.assertEqual(helps[0], helps[1])
+
+    def test_what_solves(self):
+        for words in ("queens 4", "sudoku 1234341221434321", "hint queens 6", "make queens 4"):
+            modules = loaded(*words.split())
+            self.assertLess(len(modules), SOLVES)
+            self.assertEqual([name for name in SLOW if name in modules], [])
 
     def test_what_only_other_commands_need(self):
         for words in ("solve --help", "lint --help", "why --help", "draw --help"):

@@ -71,7 +71,11 @@ class WordSearches(InFolder):
         # With two letters each one would make the word once more.
         self.assertEqual(wordsearch.filled({(1, 1): "A", (1, 2): "B", (1, 3): ""}, ["AB", "BA"], 1)[1, 3], "B")
         free = wordsearch.filled({(1, 1): "A", (1, 2): "A", (1, 3): ""}, ["AA"], 1)
-        self.assertEqual(free[1, 3], "")
+        self.assertRegex(free[1, 3], "[B-Z]$")
+        for words in ("ab", "aa", "ab ba", "\u0430\u0431"):
+            tiny = make.wordsearch.problem(words, "4x4", fill=2)
+            rows = rows_of(str(tiny.draw(next(tiny.solve()))))
+            self.assertTrue(all(len(row) == 4 and row.isalpha() for row in rows), rows)
 
     def test_commands(self):
         path = self.file("words.txt", WORDS)

@@ -602,6 +602,24 @@ class Page(Pages):
         self.assertEqual(self.tab.text("#summary"), "92 solutions; all that there are.")
         self.is_quiet()
 
+    def test_costs(self):
+        """They are asked for where they count, and the answer says what each wish cost."""
+        self.type_problem("A B\nA\nB\nA B\n")
+        self.assertFalse(self.tab.is_shown("#costs"))
+        self.tab.value("document.querySelector('#order').value = 'cheapest'")
+        self.tab.value("document.querySelector('#order').dispatchEvent(new Event('input', {bubbles: true}))")
+        self.tab.click("#costs")
+        self.tab.type("A B -1")
+        self.solve()
+        told = r"\A1 solution; there may be more\. The least cost is -1, as \w+ found\. -1 by line 1: A B -1\.\Z"
+        self.assertRegex(self.tab.text("#summary"), told)
+        self.example("A roster with wishes")
+        self.solve()
+        self.assertIn("The least cost is ", self.tab.text("#summary"))
+        self.example("Eight queens")
+        self.assertFalse(self.tab.is_shown("#costs"))
+        self.is_quiet()
+
     def test_forced_steps_and_long_options_are_folded(self):
         self.example("Sudoku")
         self.solve()

@@ -62,40 +62,41 @@ __all__ = [
     "words",
     "wordsearch",
 ]
-_IN_ORDER = (
-    "sudoku",
-    "queens",
-    "langford",
-    "polyominoes",
-    "polycubes",
-    "words",
-    "wordsearch",
-    "nonogram",
-    "kakuro",
-    "roster",
-    "roundrobin",
-    "tests",
-    "timetable",
-)
+# What each kind is, in the order of lists: told without loading any of them.
+HELPS = {
+    "sudoku": "a Sudoku from its clues",
+    "queens": "queens on a board, or in coloured regions",
+    "langford": "Langford's pairs",
+    "polyominoes": "pieces of squares that fill a region",
+    "polycubes": "pieces of cubes that fill a box",
+    "words": "words across and down in a grid",
+    "wordsearch": "words of a list hidden in a grid of letters",
+    "nonogram": "a nonogram from its clues",
+    "kakuro": "a Kakuro from its grid",
+    "roster": "shifts of people on days",
+    "roundrobin": "a round robin at home and away",
+    "tests": "tests in which values of factors come together",
+    "timetable": "lessons or exams in slots and rooms",
+}
 
 
 class _Kinds(Mapping[str, "Kind"]):
     """The kinds by their names, each with its module, which is loaded when it is first asked for."""
 
     def __getitem__(self, name: str) -> "Kind":
-        if name not in _IN_ORDER:
+        if name not in HELPS:
             raise KeyError(name)
         kind: Kind = _load(name).KIND
         return kind
 
     def __contains__(self, name: object) -> bool:
-        return name in _IN_ORDER
+        return name in HELPS
 
     def __iter__(self) -> Iterator[str]:
-        return iter(_IN_ORDER)
+        return iter(HELPS)
 
     def __len__(self) -> int:
-        return len(_IN_ORDER)
+        return len(HELPS)
 
 
 KINDS: Mapping[str, "Kind"] = _Kinds()
@@ -103,7 +104,7 @@ KINDS: Mapping[str, "Kind"] = _Kinds()
 
 def _load(name: str) -> Any:
     """The module of a kind."""
-    if name not in _IN_ORDER:
+    if name not in HELPS:
         raise AttributeError(f"module {__name__!r} has no attribute {name!r}")
     return import_module(f"{__name__}.{name}")
 

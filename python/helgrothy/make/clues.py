@@ -13,12 +13,14 @@ from ..problem import Problem
 @dataclass(frozen=True)
 class Clues:
     """problem: without clues. given: the options that are clues. cells: those that may be. write: the puzzle as it was
-    typed, with these clues."""
+    typed, with these clues. left: of a kind whose clues are no options, and have other numbers, the problem that has
+    these clues alone; `problem` has all then."""
 
     problem: Problem[Any]
     given: list[int]
     cells: list[int]
     write: Callable[[Sequence[int]], str]
+    left: Callable[[Sequence[int]], Problem[Any]] | None = None
 
 
 def options_of(problem: Problem[Any], clues: Iterable[tuple[str, str]]) -> list[int]:

@@ -14,7 +14,6 @@ Among PLACES may be wishes, `fri=3`.
 
 from __future__ import annotations
 
-import csv
 import io
 import re
 from collections import Counter
@@ -23,7 +22,6 @@ from dataclasses import dataclass, field
 from typing import NoReturn
 
 from ..amounts import number_of
-from ..data import of_csv
 from ..errors import TableFault
 from ..shown import bytes_of
 from ..syntax import MOST_NAME, MOST_USES, Nearest
@@ -387,6 +385,11 @@ def _lines(text: str) -> Iterator[_Line]:
     """The lines that aren't blank or comments. They may be parted by commas, semicolons or tabs."""
     text = text[1:] if text.startswith("\ufeff") else text
     sign = re.search(r"^[^#\n]*?([,;\t])", text, re.MULTILINE)
+    # A command that only tells its help doesn't wait for these.
+    import csv
+
+    from ..data import of_csv
+
     reader = csv.reader(io.StringIO(text, newline=""), delimiter=sign.group(1) if sign else ",", strict=True)
     while True:
         number = reader.line_num + 1

@@ -10,15 +10,16 @@ from __future__ import annotations
 
 import argparse
 import re
-from collections.abc import Iterator, Sequence
 from dataclasses import dataclass
-from itertools import groupby
+from collections.abc import Collection, Iterator, Sequence
+from itertools import chain, groupby
 from typing import Any, Optional
 
 from ..draw import Cell, Drawing, Picture, check_size
 from ..errors import TableFault
 from ..problem import Problem
 from ..syntax import MOST_USES
+from .clues import Clues
 from .kind import Counted, Kind, cut, numbered, read_text
 from .runs import EMPTY, FILLED, Clue, arrangements, count, known, steps
 
@@ -29,6 +30,9 @@ _OTHERS = ("catalogue", "title", "by", "copyright", "license", "color", "goal", 
 _NUMBER = re.compile(r"[0-9]{1,4}\Z")
 _LINE = re.compile(r"(row|col)([0-9]+)(?:/([0-9]+))?\Z")
 _CELL = re.compile(r"r([0-9]+)c([0-9]+):([#.])\Z")
+_SQUARE = re.compile(r"r([0-9]{1,3})c([0-9]{1,3})\Z")
+# What stands for the clue of a line that has none; before the name of a square without a clue in either direction.
+UNKNOWN, _FREE = "?", "free-"
 _MOST_SIDE = 100
 # Squares are ruled out by so many steps at most, which take a second or two; then the arrangements are many, not wrong.
 _MOST_STEPS = 2_000_000
@@ -38,47 +42,61 @@ _FAR_FEWER = 10
 
 @dataclass(frozen=True)
 class _Line:
-    """A row or a column: the line of the text that has its clue, and the lengths of its runs."""
+    """A row or a column: the line of the text that has its clue, and the lengths of its runs; None where it has no
+    clue."""
 
     number: int
-    clue: Clue
+    clue: Clue | None
 
     @property
     def need(self) -> int:
         """How many squares the runs take, with one between each two."""
-        return sum(self.clue) + max(len(self.clue) - 1, 0)
+        return sum(self.clue) + max(len(self.clue) - 1, 0) if self.clue else 0
 
     def __str__(self) -> str:
-        return " ".join(map(str, self.clue)) or "0"
+        return UNKNOWN if self.clue is None else " ".join(map(str, self.clue)) or "0"
 
 
 def problem(clues: str) -> Problem[Option]:
     """The nonogram of these clues: a line for each row, a blank line, a line for each column.
 
     A line has the lengths of the runs of filled squares, in their order, with blanks or commas between; 0 is a line
-    without any. Files of the format `non`, with the headings `rows` and `columns`, are read too.
+    without any, and ? one of which nothing is told. Files of the format `non`, with the headings `rows` and `columns`,
+    are read too.
 
     An option is an arrangement of a row or a column, `row3 r3c1:# r3c2:. ..`: a square has # or . as a colour. What the
     clues that cross it rule out is left out. Where the arrangements are many, an option is a run with its first square
-    and that of the next run, `row3/2 row3@2:5 row3@3:9 r3c5:# r3c6:# r3c7:. r3c8:.`. Raises `TableFault`.
+    and that of the next run, `row3/2 row3@2:5 row3@3:9 r3c5:# r3c6:# r3c7:. r3c8:.`. A square without a clue in either
+    direction has both colours, `free-r3c5 r3c5:#`. Raises `TableFault`.
     """
-    rows, columns = _read(clues)
+    return _problem(*_read(clues))
+
+
+def _problem(rows: Sequence[_Line], columns: Sequence[_Line]) -> Problem[Option]:
     _check(rows, columns)
     board = _Board(rows, columns)
     board.rule_out()
     lines = [
         _Made(name, line.clue, [board.marks[at] for at in squares], [f"r{r}c{c}" for r, c in squares])
         for name, line, squares in board.lines()
+        if line.clue is not None
     ]
+    free = [f"r{r}c{c}" for r, c in board.marks if rows[r - 1].clue is None and columns[c - 1].clue is None]
     by_runs = _are_shorter_by_runs(lines)
     options: Counted[Option] = Counted()
     for line in lines:
         for option in line.by_runs() if by_runs else line.as_wholes():
             options.add(option)
+    for square in free:
+        for mark in (FILLED, EMPTY):
+            options.add({f"{_FREE}{square}": None, square: mark})
     chains = [item for line in lines for item in line.chain] if by_runs else []
     what = "Each run and where it and the next one begin" if by_runs else "An arrangement of each row and column"
     return Problem(
-        [item for line in lines for item in (line.items if by_runs else [line.name])],
+        [
+            *(item for line in lines for item in (line.items if by_runs else [line.name])),
+            *(f"{_FREE}{square}" for square in free),
+        ],
         [*(f"r{r}c{c}" for r, c in board.marks), *chains],
         options,
         comments=[
@@ -134,7 +152,9 @@ def _number(number: int, word: str) -> int:
     return int(word)
 
 
-def _clue(number: int, words: Sequence[str]) -> Clue:
+def _clue(number: int, words: Sequence[str]) -> Clue | None:
+    if words == [UNKNOWN]:
+        return None
     lengths = tuple(_number(number, word) for word in words)
     if lengths == (0,):
         return ()
@@ -150,8 +170,8 @@ def _check(rows: Sequence[_Line], columns: Sequence[_Line]) -> None:
             if line.need > len(across):
                 reason = f"it takes {line.need} squares, and a {what} has {len(across)}"
                 raise TableFault(line.number, cut(str(line)), reason)
-    filled = [sum(sum(line.clue) for line in lines) for lines in (rows, columns)]
-    if filled[0] != filled[1]:
+    filled = [sum(sum(line.clue or ()) for line in lines) for lines in (rows, columns)]
+    if filled[0] != filled[1] and all(line.clue is not None for line in (*rows, *columns)):
         told = f"the rows have {filled[0]} filled squares in all, and the columns {filled[1]}"
         raise TableFault(columns[0].number, "", told)
 
@@ -174,15 +194,19 @@ class _Board:
     def rule_out(self) -> None:
         """Marks what each line alone says of its squares, again and again. Raises `TableFault` where none is left."""
         lines = list(self.lines())
-        waiting = dict.fromkeys(range(len(lines)))
+        clues = [line.clue for _, line, _ in lines]
+        waiting = dict.fromkeys(number for number, clue in enumerate(clues) if clue is not None)
         steps = 0
         while waiting and steps < _MOST_STEPS:
             number = next(iter(waiting))
             del waiting[number]
             _, line, squares = lines[number]
+            clue = clues[number]
+            if clue is None:
+                continue
             marks = [self.marks[at] for at in squares]
-            steps += (1 + len(line.clue)) * len(marks)
-            found = known(line.clue, marks)
+            steps += (1 + len(clue)) * len(marks)
+            found = known(clue, marks)
             if found is None:
                 kind, crossing = ("row", "columns") if number < len(self._rows) else ("column", "rows")
                 reason = f"no arrangement of this {kind} fits what the clues of the {crossing} leave"
@@ -260,7 +284,7 @@ def _are_shorter_by_runs(lines: Sequence[_Made]) -> bool:
 def drawing(problem: Problem[Any]) -> Drawing:
     """Filled squares, with the clues beside the rows and above the columns."""
     clues = _clues(problem)
-    left, top = (max(1, *map(len, clues[kind])) for kind in ("row", "col"))
+    left, top = (max(1, *(len(clue or ()) for clue in clues[kind])) for kind in ("row", "col"))
     rows, columns = len(clues["row"]), len(clues["col"])
     check_size(rows + top, columns + left, rows * columns)
 
@@ -277,7 +301,7 @@ def drawing(problem: Problem[Any]) -> Drawing:
                 cells[top + r, left + c] = Cell(group=(r // 5, c // 5))
         for kind in ("row", "col"):
             for number, clue in enumerate(clues[kind]):
-                for back, length in enumerate(reversed(clue or (0,)), 1):
+                for back, length in enumerate(reversed([UNKNOWN] if clue is None else clue or (0,)), 1):
                     at = (top + number, left - back) if kind == "row" else (top - back, left + number)
                     cells[at].label, cells[at].is_quiet = str(length), False
         for line in lines:
@@ -290,21 +314,23 @@ def drawing(problem: Problem[Any]) -> Drawing:
     return draw
 
 
-def _clues(problem: Problem[Any]) -> dict[str, list[Clue]]:
+def _clues(problem: Problem[Any]) -> dict[str, list[Clue | None]]:
     """The clues of the rows and of the columns, as options show them: whole lines, or a part of one for each run."""
     numbers = {name: found.groups("0") for name in problem.item_names if (found := _LINE.match(name))}
-    parts: dict[str, dict[int, dict[int, Clue]]] = {"row": {}, "col": {}}
-    for kind, number, _ in numbers.values():
-        parts[kind][int(number)] = {}
-    if any(max(own) > len(own) for own in parts.values()):
-        raise ValueError("a row or column has no item")
+    squares = [found.groups() for found in map(_SQUARE.match, problem.secondary_names) if found]
+    parts: dict[str, list[dict[int, Clue]]] = {
+        kind: [{} for _ in range(max(int(square[axis]) for square in squares))]
+        for axis, kind in enumerate(("row", "col"))
+    }
     for option in problem.options:
         name, *words = problem.line(option).split()
-        kind, number, part = numbers[name]
-        parts[kind][int(number)][int(part)] = _lengths(words)
+        if not name.startswith(_FREE):
+            kind, number, part = numbers[name]
+            parts[kind][int(number) - 1][int(part)] = _lengths(words)
+    # A line whose options show nothing has no clue.
     return {
-        kind: [tuple(length for _, lengths in sorted(own[n].items()) for length in lengths) for n in sorted(own)]
-        for kind, own in parts.items()
+        kind: [tuple(chain.from_iterable(own[part] for part in sorted(own))) if own else None for own in side]
+        for kind, side in parts.items()
     }
 
 
@@ -319,7 +345,7 @@ def _add_arguments(parser: argparse.ArgumentParser) -> None:
         "clues",
         metavar="CLUES",
         help="a file with a line for each row, a blank line, and a line for each column, each with the lengths of its "
-        "runs; 0 for none (- for standard input)",
+        "runs; 0 for none, ? where they aren't told (- for standard input)",
     )
 
 
@@ -327,5 +353,30 @@ def _make(arguments: argparse.Namespace) -> Problem[Option]:
     return problem(read_text(arguments.clues))
 
 
+def _dropped(arguments: argparse.Namespace) -> Clues:
+    text = read_text(arguments.clues)
+    rows, columns = _read(text)
+    lines = [*rows, *columns]
+    known = [place for place, line in enumerate(lines) if line.clue is not None]
+
+    def left(kept: Collection[int]) -> Problem[Option]:
+        less = [line if place in kept else _Line(line.number, None) for place, line in enumerate(lines)]
+        return _problem(less[: len(rows)], less[len(rows) :])
+
+    def write(kept: Sequence[int]) -> str:
+        told = {lines[place].number for place in known} - {lines[place].number for place in kept}
+        return "".join(f"{UNKNOWN if number in told else line}\n" for number, line in enumerate(text.splitlines(), 1))
+
+    return Clues(left(known), known, [], write, left)
+
+
 # A row shows all of its squares, and so do the columns.
-KIND = Kind("nonogram", "a nonogram from its clues", _add_arguments, _make, drawing, view=lambda line: line[:3])
+KIND = Kind(
+    "nonogram",
+    "a nonogram from its clues",
+    _add_arguments,
+    _make,
+    drawing,
+    clues=_dropped,
+    view=lambda line: line[:3],
+)

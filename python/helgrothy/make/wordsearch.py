@@ -5,6 +5,7 @@ from __future__ import annotations
 import argparse
 import math
 import re
+import sys
 from collections.abc import Iterable, Iterator, Mapping, Sequence
 from typing import TYPE_CHECKING, Any, Optional
 
@@ -30,6 +31,8 @@ _FORWARDS = ((0, 1), (1, 1), (1, 0), (-1, 1))
 _WAYS = _FORWARDS + tuple((-down, -right) for down, right in _FORWARDS)
 # Without a size the grid has so many squares for each letter of the list.
 _ROOM = 1.5
+# So far from one letter are others of its alphabet.
+_BESIDE = 25
 # So many letters are laid at most on squares, of which those of words that fit are uses.
 _MOST_TRIED = 2 * MOST_USES
 
@@ -144,15 +147,14 @@ def _placed(
 
 
 def filled(letters: Mapping[Square, str], words: Sequence[str], seed: int) -> dict[Square, str]:
-    """Letters with one more for each free square, of those in the words, such that none of these is there once more.
-
-    Where each letter would make a word the square stays free.
-    """
+    """Letters with one more for each free square, such that no word is there once more: of those in the words or, where
+    each of them would make one, another of the alphabet."""
     import random
 
     rng = random.Random(seed)
     known = dict(letters)
     pool = sorted("".join(words))
+    others = sorted({near for letter in set(pool) for near in _near(letter)} - set(pool))
     having: dict[str, list[tuple[str, int]]] = {}
     for word in words:
         for own, letter in enumerate(word):
@@ -163,8 +165,15 @@ def filled(letters: Mapping[Square, str], words: Sequence[str], seed: int) -> di
             if not any(_is_through(word, own, at, known) for word, own in having[letter]):
                 break
         else:
-            known[at] = ""
+            known[at] = rng.choice(others) if others else ""
     return known
+
+
+def _near(letter: str) -> Iterator[str]:
+    """The capitals beside a letter in its alphabet."""
+    for code in range(max(ord(letter) - _BESIDE, 0), min(ord(letter) + _BESIDE, sys.maxunicode) + 1):
+        if chr(code).isalpha() and chr(code).upper() == chr(code):
+            yield chr(code)
 
 
 def _is_through(word: str, own: int, at: Square, known: Mapping[Square, str]) -> bool:

@@ -24,11 +24,13 @@ from contextlib import suppress
 from dataclasses import dataclass, field, fields
 from typing import Any
 
-from .. import shuffle, symmetry, why
+from .. import cost, shuffle, symmetry, why, wishes
+from ..amounts import spelled
 from ..console import limited
 from ..draw import drawing_of
-from ..errors import HelgrothyError, NoPicture, OutOfTime, ProgramFailed, reason_of
+from ..errors import HelgrothyError, NoPicture, OutOfTime, ProgramFailed, TableFault, reason_of
 from ..lint import Remark, lint
+from ..listing import untold
 from ..make import KINDS
 from ..make.kind import kind_of
 from ..problem import Problem
@@ -45,6 +47,7 @@ _MOST_TOLD = 1 << 25
 _MOST_REMARKS = 200
 # A count has at most so many digits, as many as Python writes at once.
 _MOST_COUNTED = 10**4000
+_WAYS = ("", "random", "symmetry", "one", "cheapest")
 # For the reason why there is no solution.
 _REASON_SECONDS = 2.0
 # Of the process, and of each program that it runs.
@@ -58,8 +61,9 @@ class Request:
     """What a page asks: to `lint` a text, or to `make` or to `solve` the problem of a text or of a kind with values for
     its fields, or for the `chances` in it. `make` gives the problem's text.
 
-    way: "" for the order of the search, `random` for a random one, `symmetry` for one of each set of images, and `one`
-    for a single solution, which is any of them with the same chance.
+    way: "" for the order of the search, `random` for a random one, `symmetry` for one of each set of images, `one` for
+    a single solution, which is any of them with the same chance, and `cheapest` for that of least cost, by `costs` (as
+    `wishes.read` takes them) and the wishes of a kind's table.
     """
 
     what: str = "lint"
@@ -73,6 +77,7 @@ class Request:
     row: str = ""
     column: str = ""
     label: str = ""
+    costs: str = ""
 
     @classmethod
     def of(cls, raw: bytes) -> Request:
@@ -87,8 +92,8 @@ class Request:
         request = cls(**told)
         if request.what not in _ANSWERS:
             raise ValueError("a page asks to lint, to make or to solve, or for chances")
-        if request.way not in ("", "random", "symmetry", "one"):
-            raise ValueError("a page asks for solutions in order, in a random one, up to symmetry, or for one of them")
+        if request.way not in _WAYS:
+            raise ValueError("a page asks for solutions in some order, up to symmetry, for any one or the cheapest one")
         if not 1 <= request.limit <= MOST_LIMIT:
             raise ValueError(f"from 1 to {MOST_LIMIT} solutions are shown")
         if not 0 < request.seconds <= MOST_SECONDS:
@@ -161,7 +166,7 @@ class _Solving:
         problem = _problem(request)
         record = Record(problem, self._drawing(problem))
         yield record.problem()
-        found = self._one if request.way == "one" else self._search
+        found = {"one": self._one, "cheapest": self._cheapest}.get(request.way, self._search)
         yield from found(problem, record)
 
     def chances(self) -> Iterator[str]:
@@ -226,6 +231,38 @@ class _Solving:
         yield record.end(1, False, [])
         yield from self._count(problem)
 
+    def _cheapest(self, problem: Problem[Any], record: Record) -> Iterator[str]:
+        """The solution of least cost, what it costs, and which wishes that is by."""
+        costs = self._costs(problem)
+        try:
+            found = cost.least(problem, costs.numbers, self._left() * 0.9)
+            told = "" if found is None else f"the least cost is {spelled(found.cost)}, as {_finder(found.by)} found"
+        except cost.NotLeast as error:
+            found = error.best
+            over = f"{self._request.seconds:g} seconds are over"
+            if found is None:
+                yield record.end(0, False, [over])
+                return
+            told = f"it costs {spelled(found.cost)}; {over}, and there may be a cheaper one"
+        if found is None:
+            yield record.end(0, True, self._reasons(problem))
+            return
+        yield record.solution(1, untold(found.numbers))
+        yield record.end(1, False, [told, *costs.told(found.numbers)])
+
+    def _costs(self, problem: Problem[Any]) -> wishes.Costs:
+        """What the options cost, by what was typed and by the wishes of a kind's table. Raises `ValueError`."""
+        of_table = wishes.of_table(problem)
+        if not self._request.costs.strip():
+            if of_table is None:
+                raise ValueError("no costs are given: a line has names of items and a number, such as ann mon 3")
+            return of_table
+        try:
+            costs = wishes.read(self._request.costs.replace("\r", ""), problem)
+        except TableFault as fault:
+            raise ValueError(f"costs: {fault}") from None
+        return costs if of_table is None else costs + of_table
+
     def _found(self, problem: Problem[Any]) -> Solutions[Any]:
         limit, seconds = self._request.limit, self._left()
         if self._request.way == "random":
@@ -249,6 +286,10 @@ class _Solving:
             if conflict is not None:
                 return list(conflict.lines(problem))
         return []
+
+
+def _finder(by: str) -> str:
+    return "a sweep over states" if by == "states" else by
 
 
 _ANSWERS: dict[str, Callable[[Request], Iterator[str]]] = {

@@ -9,7 +9,8 @@ from typing import Any
 
 @dataclass(frozen=True)
 class Example:
-    """An example: a kind with values for its fields, or a text with patterns for its picture."""
+    """An example: a kind with values for its fields, or a text with patterns for its picture; and perhaps costs, for
+    the cheapest solution."""
 
     title: str
     kind: str = ""
@@ -19,6 +20,7 @@ class Example:
     row: str = ""
     column: str = ""
     label: str = ""
+    costs: str = ""
 
 
 def _dominoes(rows: int, columns: int) -> str:
@@ -93,6 +95,15 @@ _EXAMPLES = [
             "table": "-      mon tue wed\nearly  1   1   1\nlate   1   1   0:1\n\n"
             "ann    2:3\nbob    2    -tue\ncat    1:2  -late"
         },
+    ),
+    Example(
+        "A roster with wishes",
+        "roster",
+        {
+            "table": "-      mon tue wed thu\nearly  1   1   1   1\nlate   1   1   1   1\n\nann    2:3\nbob    2:3\n"
+            "cat    2:3",
+        },
+        costs="*/late ann 3\nmon/* bob 2\nwed/early cat -1\n",
     ),
     Example("A round robin of six", "roundrobin", {"teams": "ann home:1\nbob\ncat\ndan\neve\nfay away:5"}),
     Example(

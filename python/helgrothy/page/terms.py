@@ -86,7 +86,8 @@ FIELDS: dict[str, dict[str, tuple[str, str]]] = {
     "nonogram": {
         "clues": (
             "Clues",
-            "A line for each row, a blank line, and a line for each column: the lengths of its runs, 0 for none.",
+            "A line for each row, a blank line, and a line for each column: the lengths of its runs, 0 for none, ? "
+            "where they aren't told.",
         ),
     },
     "kakuro": {

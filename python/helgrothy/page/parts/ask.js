@@ -2,7 +2,7 @@
 // wanted: to let it go ends the search that gives it.
 
 const GONE = "The page's server has ended: helgrothy page begins another.";
-const FIELDS = ["cell", "row", "column", "label", "limit", "order", "seconds"];
+const FIELDS = ["cell", "row", "column", "label", "limit", "order", "seconds", "costs"];
 const PATTERNS = ["cell", "row", "column", "label"];
 
 const viewer = new Viewer("Solutions come here as they are found.");
@@ -68,7 +68,14 @@ class Form {
     }
     this.kinds.choose(value("", "kind"));
     this.sheet.put(value("", "text"));
+    this.price();
     this.show(value(false, "isKind"));
+  }
+
+  // Costs are asked for where they count.
+  price() {
+    get("priced").hidden = get("order").value !== "cheapest";
+    suit(get("costs"));
   }
 
   get isKind() {
@@ -110,6 +117,11 @@ class Form {
       for (const name of PATTERNS) fill(name, example[name]);
       get("patterns").open = PATTERNS.some((name) => example[name]);
       this.sheet.put(example.text);
+    }
+    if (example.costs || get("order").value === "cheapest") {
+      fill("costs", example.costs);
+      fill("order", example.costs ? "cheapest" : "");
+      this.price();
     }
     this.show(Boolean(example.kind));
     this.keep();
@@ -175,6 +187,7 @@ class Form {
       if (get("example").value) this.exemplify(start.examples[get("example").value]);
     });
     get("undo").addEventListener("click", () => this.undo());
+    for (const id of ["order", "costs"]) get(id).addEventListener("input", () => this.price());
     get("open").addEventListener("click", () => get("file").click());
     get("file").addEventListener("change", () => {
       if (get("file").files.length) this.open(get("file").files[0]);
@@ -238,7 +251,8 @@ class Search {
     const limit = Math.min(Math.max(parseInt(get("limit").value, 10) || 1, 1), 1000);
     get("limit").value = limit;
     const asked = { what: "solve", limit, way: get("order").value, seconds: Number(get("seconds").value) };
-    return { ...asked, ...form.request(), ...more };
+    const costs = asked.way === "cheapest" ? get("costs").value : "";
+    return { ...asked, costs, ...form.request(), ...more };
   }
 
   // more: what is asked besides what is filled in.
