@@ -50,11 +50,11 @@ class Watch:
 
     def _count(self) -> None:
         # Most searches show a solution before.
-        from .sums import search
+        from . import sums
 
         # Where there is no memory for it, or nobody to show it to, the search goes on all the same.
         with suppress(MemoryError, OSError):
-            found = search(self._problem, _QUIET_SECONDS)
+            found = sums.search(self._problem, _QUIET_SECONDS)
             if found is not None and not self._is_over:
                 self._tell(f"{found.text(self._problem.name)}: there is no solution")
                 self.has_told = True

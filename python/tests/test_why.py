@@ -9,7 +9,7 @@ import time
 import unittest
 from unittest import mock
 
-from helgrothy import OutOfTime, Problem, make, sat_solver, watch, why
+from helgrothy import OutOfTime, Problem, make, sat_solver, sums, watch, why
 from helgrothy.matching import Matching
 from helgrothy.sums import Count, Sums, search
 
@@ -162,7 +162,7 @@ class Conflicts(unittest.TestCase):
     def test_a_search_that_shows_nothing_is_counted(self):
         told = []
         # The count takes as long as the search was quiet: here longer, on a machine that does other things too.
-        long = mock.patch.object(watch, "search", lambda problem, _: search(problem, 300))
+        long = mock.patch.object(sums, "search", lambda problem, _: search(problem, 300))
         with long, mock.patch.object(watch, "_QUIET_SECONDS", 0.2), watch.Watch(jigsaw(JIGSAWS[0]), told.append):
             deadline = time.monotonic() + 300
             while not told and time.monotonic() < deadline:
