@@ -68,7 +68,7 @@ module _ (p : Puzzle) (once : HoldsOnce p) where
   pub are_once : AreOnce p
   are_once = each_from _ _ (λ w h. (known w h).2)
 
-  item_at : (i : ℕ) → IsPrimary p i → (w : Wanted) × IsIn (whole p).items w × (w.item ≡ i)
+  pub item_at : (i : ℕ) → IsPrimary p i → (w : Wanted) × IsIn (whole p).items w × (w.item ≡ i)
   item_at i primary = by_option (bounds_at p i)
       (λ e. absurd (none_at i primary e))
       (λ b e. let at = bounded p i b e in (at.0, at.1, at.2))
@@ -102,17 +102,21 @@ module _ (p : Puzzle) (once : HoldsOnce p) where
         let sum : below p s ≡ sum_by (with_this p s w.0.item) (numbered_options p) = omega (arith, split, no_none) in
         subst (λ j. below p s ≡ sum_by (with_this p s j) (numbered_options p)) w.2 sum ∙ sym (by_number s i)
 
-    -- one cover where no item is free
-    pub one_left : ((i : ℕ) → IsPrimary p i → s i ≢ None) → below p s ≡ 1
-    one_left held =
+    -- no choice where no item is free
+    pub end_left : ((i : ℕ) → IsPrimary p i → s i ≢ None) → listing (left_by p s) ≡ [] ∷ []
+    end_left held =
         let none : (left_by p s).items ≡ [] = all_held (whole p).items (λ w h. held w.item (known w h).0) in
-        ap length (listing_at (left_by p s) None (rw none refl))
+        listing_at (left_by p s) None (rw none refl)
       where
         all_held : (ws : List Wanted) → ((w : Wanted) → IsIn ws w → s w.item ≢ None)
             → filter (λ w. is_none (s w.item)) ws ≡ []
         all_held [] h = refl
         all_held (w ∷ ws) h = by_option (s w.item) (λ e. absurd (h w (inl refl) e))
             (λ c e. rw e (all_held ws (λ z k. h z (inr k))))
+
+    -- one cover, then
+    pub one_left : ((i : ℕ) → IsPrimary p i → s i ≢ None) → below p s ≡ 1
+    one_left held = ap length (end_left held)
 
 -- ---- items that no option can hold any more
 

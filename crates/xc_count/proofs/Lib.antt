@@ -4,12 +4,14 @@ pub mod Below
 pub mod ByNumber
 pub mod ByOption
 pub mod Forgetting
+pub mod Having
 pub mod HolderLemmas
 pub mod KeyLemmas
 pub mod LeftBy
 pub mod Matched
 pub mod Number
 pub mod Orders
+pub mod Passed
 pub mod PlanLemmas
 pub mod Split
 pub mod Turns

@@ -16,11 +16,13 @@ use Rattle.xc_input.proofs.Cases.{by_bool}
 use Rattle.xc_input.proofs.lists.Members.{IsIn, in-contains, contains-in, in-take, each_in, list_all-each}
 use Rattle.xc_count.specs.declared.plan.Plan.{Plan}
 use Rattle.xc_count.specs.declared.sweeping.Step.{Step}
-use Rattle.xc_count.specs.inner.Held.{Held, agree, below, holding_uses}
+use Rattle.xc_search.specs.Listing.{Residual, listing}
+use Rattle.xc_count.specs.inner.Held.{Held, agree, holding_uses, left_by}
 use Rattle.xc_count.specs.inner.Keys.{held_in, rank_of}
+use Rattle.xc_count.specs.inner.Passed.{worth_taken}
 use Rattle.xc_count.specs.inner.Plans.{IsPlan, IsStep, IsOver, options_with}
 use Rattle.xc_count.specs.inner.Worth.{holds_first, key_below, says, with_number}
-use Rattle.xc_count.proofs.Below.{below_over, below_same}
+use Rattle.xc_count.proofs.Below.{left_over, left_same}
 use Rattle.xc_count.proofs.HolderLemmas.{option_known}
 use Rattle.xc_count.proofs.KeyLemmas.{held_dropped}
 
@@ -123,12 +125,16 @@ module _ (p : Puzzle) (plan : Plan) (is : IsPlan p plan) where
         not_false false e = refl
 
     -- what is left is the same once the marks are left out that are needed no more
-    pub key_moved : IsValid p → holds_first plan (step.place + 1) step.from key ≡ true
-        → key_below p plan step.next (drop (step.next - step.from) key) ≡ key_below p plan step.from key
-    key_moved v held = below_over p v (says plan step.from key)
+    pub left_moved : IsValid p → holds_first plan (step.place + 1) step.from key ≡ true
+        → left_by p (says plan step.next (drop (step.next - step.from) key)) ≡ left_by p (says plan step.from key)
+    left_moved v held = left_over p v (says plan step.from key)
         (says plan step.next (drop (step.next - step.from) key)) past
         gone (past_primary (step.place + 1))
         (λ j c. some_not_none _ (first_held (step.place + 1) step.from key held j c)) over (λ i item. moved_says i)
+
+    pub key_moved : IsValid p → holds_first plan (step.place + 1) step.from key ≡ true
+        → key_below p plan step.next (drop (step.next - step.from) key) ≡ key_below p plan step.from key
+    key_moved v held = ap (λ r. length (listing r)) (left_moved v held)
 
     pub held_moved : holds_first plan (step.place + 1) step.from key ≡ true
         → holds_first plan (step.place + 1) step.next (drop (step.next - step.from) key) ≡ true
@@ -163,15 +169,21 @@ module _ (p : Puzzle) (plan : Plan) (is : IsPlan p plan) where
         taken None b h = cc
         taken (Some c) b h = refl
 
+    pub left_taken : (h : Residual → ℕ) → IsValid p → (new : List ℕ) (o : ℕ) (us : List Use) (b : Bool)
+        → uses_of p o ≡ us → b ≡ agree (says plan step.from key) us → b ≡ true
+        → ((i : ℕ) → IsItem p i → says plan step.from new i ≡ holding_uses us (says plan step.from key) i)
+        → h (left_by p (says plan step.from new)) ≡ worth_taken h p (says plan step.from key) o
+    left_taken h v new o us b uses test agreed is_new =
+        let s : Held = says plan step.from key in
+        ap h (left_same p v (holding_uses us s) (says plan step.from new) is_new)
+        ∙ sym (ap (λ vs. cond (agree s vs) (h (left_by p (holding_uses vs s))) 0) uses
+        ∙ ap (λ t. cond t (h (left_by p (holding_uses us s))) 0) (sym test ∙ agreed))
+
     pub below_taken : IsValid p → (new : List ℕ) (o : ℕ) (us : List Use) (b : Bool) → uses_of p o ≡ us
         → b ≡ agree (says plan step.from key) us → b ≡ true
         → ((i : ℕ) → IsItem p i → says plan step.from new i ≡ holding_uses us (says plan step.from key) i)
         → key_below p plan step.from new ≡ with_number p (says plan step.from key) o
-    below_taken v new o us b uses test agreed is_new =
-        let s : Held = says plan step.from key in
-        below_same p v (holding_uses us s) (says plan step.from new) is_new
-        ∙ sym (ap (λ vs. cond (agree s vs) (below p (holding_uses vs s)) 0) uses
-        ∙ ap (λ t. cond t (below p (holding_uses us s)) 0) (sym test ∙ agreed))
+    below_taken = left_taken (λ r. length (listing r))
 
     -- what a key says in which the uses of an option were marked
     pub taken_says : (rs old new out : List ℕ) (us : List Use) → rs ≡ ranks → old ≡ key → out ≡ new

@@ -1,2 +1,3 @@
 pub mod Number
+pub mod Occurrences
 pub mod inner

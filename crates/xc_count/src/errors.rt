@@ -12,6 +12,8 @@ pub enum CountError {
     Memory,
     /// The states would have taken more bytes than the caller allows.
     OutOfBound,
+    /// A state was not found where it was put. This is not known to happen.
+    Lost,
 }
 
 /// Why a sweep has no count.

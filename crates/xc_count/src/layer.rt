@@ -257,6 +257,19 @@ impl Layer {
         Ok(())
     }
 
+    /// The place of the state of a key, if it is found.
+    pub fn place_of(&self, key: &[u32]) -> Option<usize>
+        ensures { IfSome result (λ k. (s : State) × (slice_get self.now.states.items k ≡ Some s)
+            × (s.key.items ≡ key.now)) }
+    {
+        find(
+            self.states.as_slice(),
+            self.slots.as_slice(),
+            key,
+            hash_of(key),
+        )
+    }
+
     /// Adds ways to the state of a key, which is added if it is not there.
     pub fn add(&mut self, key: &[u32], ways: &Natural) -> Result<(), CountError>
         ensures worth { OnOk result ((f : List ℕ → ℕ) → worth_by f self.new.states.items

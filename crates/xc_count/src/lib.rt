@@ -1,11 +1,14 @@
 //! How many covers a problem has, found without making each.
 #![tactic(auto)]
 
+mod backward;
 mod branches;
 mod by_option;
+mod by_states;
 mod counting;
 mod errors;
 mod finding;
+mod forward;
 mod holders;
 mod keys;
 mod layer;

@@ -6,11 +6,13 @@
 //! sweep took a third to a sixtieth of the search's time, with no table that has to be kept, and one invariant over a
 //! list of states proves it. Queens, Langford's pairs and pentominoes leave hardly fewer states than solutions; there
 //! neither gains, and the sweep is the slower one.
-ghost use Rattle.std.specs.Prelude.{ℕ, ◌≡◌, ◌<◌, ◌≤◌, ◌+◌, ◌*◌, [], All, Contains, length, slice_index, true, None};
+ghost use Rattle.std.specs.Prelude.{ℕ, ◌≡◌, ◌<◌, ◌+◌, ◌*◌, [], Contains, length, slice_index, sum_by, true, None};
 ghost use Rattle.std.specs.Prelude.{IfOk, OnOk};
 ghost use Rattle.xc_input.specs.Problem.{IsOption, IsValid};
 ghost use Rattle.xc_search.specs.Cover.{members};
-ghost use Rattle.xc_count.specs.inner.Held.{HoldsOnce};
+ghost use Rattle.xc_search.specs.Listing.{Residual, whole};
+ghost use Rattle.xc_count.specs.inner.Held.{HoldsOnce, left_by};
+ghost use Rattle.xc_count.specs.inner.Passed.{worth_left, worth_passed, worth_taken};
 ghost use Rattle.xc_count.specs.inner.Plans.{IsPlan, IsStep, options_with};
 ghost use Rattle.xc_count.specs.inner.Worth.{EachKey, holds_first, key_below, says, with_number, worth};
 
@@ -52,6 +54,9 @@ fn add_held(
     ensures worth { OnOk result (worth problem.now.puzzle plan.now step.next layer.new.states.items
         ≡ worth problem.now.puzzle plan.now step.next layer.old.states.items
         + ways.now * key_below problem.now.puzzle plan.now step.from key.now) }
+    ensures left { OnOk result ((h : Residual → ℕ) → worth_left h problem.now.puzzle plan.now step.next
+        layer.new.states.items ≡ worth_left h problem.now.puzzle plan.now step.next layer.old.states.items
+        + ways.now * h (left_by problem.now.puzzle (says plan.now step.from key.now))) }
     ensures held { OnOk result (EachKey (holds_first plan.now (step.place + 1) step.next) layer.old.states.items
         → EachKey (holds_first plan.now (step.place + 1) step.next) layer.new.states.items) }
 {
@@ -76,6 +81,9 @@ fn take(
     ensures worth { OnOk result (worth problem.now.puzzle plan.now step.next layer.new.states.items
         ≡ worth problem.now.puzzle plan.now step.next layer.old.states.items
         + state.now.ways * with_number problem.now.puzzle (says plan.now step.from state.now.key.items) option) }
+    ensures left { OnOk result ((h : Residual → ℕ) → worth_left h problem.now.puzzle plan.now step.next
+        layer.new.states.items ≡ worth_left h problem.now.puzzle plan.now step.next layer.old.states.items
+        + state.now.ways * worth_taken h problem.now.puzzle (says plan.now step.from state.now.key.items) option) }
     ensures held { OnOk result (EachKey (holds_first plan.now (step.place + 1) step.next) layer.old.states.items
         → EachKey (holds_first plan.now (step.place + 1) step.next) layer.new.states.items) }
 {
@@ -111,6 +119,10 @@ fn split(
     ensures worth { OnOk result (worth problem.now.puzzle plan.now step.next layer.new.states.items
         ≡ worth problem.now.puzzle plan.now step.next layer.old.states.items
         + state.now.ways * key_below problem.now.puzzle plan.now step.from state.now.key.items) }
+    ensures left { OnOk result ((h : Residual → ℕ) → worth_left h problem.now.puzzle plan.now step.next
+        layer.new.states.items ≡ worth_left h problem.now.puzzle plan.now step.next layer.old.states.items
+        + state.now.ways * sum_by (worth_taken h problem.now.puzzle (says plan.now step.from state.now.key.items))
+        options.now) }
     ensures others { OnOk result (EachKey (holds_first plan.now (step.place + 1) step.next) layer.new.states.items) }
 {
     for k in 0..options.len() {
@@ -137,6 +149,9 @@ pub fn hold(
     ensures worth { OnOk result (worth problem.now.puzzle plan.now step.next layer.new.states.items
         ≡ worth problem.now.puzzle plan.now step.next layer.old.states.items
         + state.now.ways * key_below problem.now.puzzle plan.now step.from state.now.key.items) }
+    ensures left { OnOk result ((h : Residual → ℕ) → worth_left h problem.now.puzzle plan.now step.next
+        layer.new.states.items ≡ worth_left h problem.now.puzzle plan.now step.next layer.old.states.items
+        + state.now.ways * worth_passed h problem.now.puzzle plan.now step state.now.key.items) }
     ensures others { OnOk result (EachKey (holds_first plan.now (step.place + 1) step.next) layer.new.states.items) }
 {
     let item = plan.order[step.place];
@@ -205,7 +220,7 @@ fn pass(
 }
 
 /// The first layer: one state, in which no item is held.
-fn first_layer(
+pub fn first_layer(
     alloc: Global,
     problem: &Problem,
     plan: &Plan,
@@ -213,6 +228,8 @@ fn first_layer(
 ) -> Result<Layer, CountError>
     ensures worth { IfOk result (λ l. worth problem.now.puzzle plan.now 0 l.states.items
         ≡ length (members problem.now.puzzle)) }
+    ensures left { IfOk result (λ l. (h : Residual → ℕ) → worth_left h problem.now.puzzle plan.now 0 l.states.items
+        ≡ h (whole problem.now.puzzle)) }
     ensures held { IfOk result (λ l. EachKey (holds_first plan.now 0 0) l.states.items) }
 {
     let mut layer = Layer::new(alloc, bound);

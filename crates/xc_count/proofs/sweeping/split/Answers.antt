@@ -1,7 +1,9 @@
-use Rattle.std.proofs.Common.{arith, ◌+◌, ◌*◌, ap, ◌∙◌, sym, get_or, subst}
+use Rattle.std.proofs.Common.{arith, ◌≡◌, ◌+◌, ◌*◌, ap, ◌∙◌, sym, get_or, subst, refl, drop}
+use Rattle.std.proofs.lemmas.List.{drop_all}
 use Rattle.std.specs.Prelude.{sum_by, Contains}
 use Rattle.std.proofs.lemmas.Option.{slice_get-get_or}
 use Rattle.xc_input.proofs.lists.Members.{contains-in, in-slice_get}
+use Rattle.xc_count.specs.inner.Passed.{worth_taken}
 use Rattle.xc_count.specs.inner.Worth.{says, with_number, worth}
 use Rattle.xc_count.proofs.Below.{split_once}
 use Rattle.xc_count.proofs.HolderLemmas.{option_known}
@@ -21,6 +23,7 @@ loop-k-init c =
           (ap (sum_by (with_number p s)) c.requires.options
           ∙ sym (split_once p c.requires.once c.requires.valid s item
           (order_at p plan c.requires.plan step.place c.requires.step.within) c.requires.free));
+      left = λ h. refl;
       others = c.requires.others;
     }
 
@@ -41,5 +44,16 @@ loop-k-preserved c =
     record {
       worth = sum_more (with_number p s) c.loop-k.k c.args.state.now.ways _ _ _ c.args.options.now (omega arith)
           c.loop-k.invariant.worth c.in_ok-take.ensures.worth;
+      left = λ h. sum_more (worth_taken h p s) c.loop-k.k c.args.state.now.ways _ _ _ c.args.options.now (omega arith)
+          (c.loop-k.invariant.left h) (c.in_ok-take.ensures.left h);
       others = c.in_ok-take.ensures.held c.loop-k.invariant.others;
     }
+
+pub returns-clause-left : goal.returns-clause-left
+returns-clause-left c = λ h.
+    let s = says c.args.plan.now c.args.step.from c.args.state.now.key.items in
+    let f = worth_taken h c.args.problem.now.puzzle s in
+    let end : sum_by f (drop c.loop-k.k c.args.options.now) ≡ 0 =
+    ap (sum_by f) (drop_all c.loop-k.k c.args.options.now (omega arith)) in
+    let none : c.args.state.now.ways * sum_by f (drop c.loop-k.k c.args.options.now) ≡ 0 = rw end (omega arith) in
+    omega (arith, none, c.loop-k.invariant.left h)

@@ -1,5 +1,7 @@
-use Rattle.std.proofs.Common.{◌≡◌, ◌+◌, ◌*◌, drop}
+use Rattle.std.proofs.Common.{ℕ, ◌≡◌, ◌+◌, ◌*◌, drop}
 use Rattle.std.specs.Prelude.{sum_by}
+use Rattle.xc_search.specs.Listing.{Residual}
+use Rattle.xc_count.specs.inner.Passed.{worth_left, worth_taken}
 use Rattle.xc_count.specs.inner.Worth.{EachKey, holds_first, key_below, says, with_number, worth}
 use Rattle.xc_count.proofs.sweeping.split.Given as goal
 
@@ -10,5 +12,10 @@ invariant-loop-k l = record {
       (drop l.k l.options)
       ≡ worth l.problem.puzzle l.plan l.step.next l.initial.layer.states.items
       + l.state.ways * key_below l.problem.puzzle l.plan l.step.from l.state.key.items;
+  left : (h : Residual → ℕ) → worth_left h l.problem.puzzle l.plan l.step.next l.layer.states.items
+      + l.state.ways * sum_by (worth_taken h l.problem.puzzle (says l.plan l.step.from l.state.key.items))
+      (drop l.k l.options)
+      ≡ worth_left h l.problem.puzzle l.plan l.step.next l.initial.layer.states.items
+      + l.state.ways * sum_by (worth_taken h l.problem.puzzle (says l.plan l.step.from l.state.key.items)) l.options;
   others : EachKey (holds_first l.plan (l.step.place + 1) l.step.next) l.layer.states.items;
 }

@@ -1,0 +1,71 @@
+use Rattle.std.proofs.Common.{arith, ◌≡◌, ◌<◌, ◌+◌, ◌*◌, ◌∙◌, ◌∷◌, ◌++◌, [], ap, length, subst, sym}
+use Rattle.std.specs.Prelude.{All, sum_by}
+use Rattle.std.proofs.lemmas.List.Elements.{All-push}
+use Rattle.std.proofs.lemmas.List.Sums.{sum_by_push}
+use Rattle.xc_count.specs.Occurrences.{occurrences_of}
+use Rattle.xc_count.specs.declared.forward.Kept.{Kept}
+use Rattle.xc_count.specs.declared.sweeping.Step.{Step}
+use Rattle.xc_count.specs.inner.Passed.{IsKept, taken_by, taken_here, worth_left, worth_passed}
+use Rattle.xc_count.specs.inner.Worth.{EachKey, holds_first, worth_by}
+use Rattle.xc_count.proofs.Having.{having}
+use Rattle.xc_count.proofs.Passed.{layer_end, layer_parts}
+use Rattle.xc_count.proofs.forward.keep_layers.Goals as goal
+
+pub loop-place-init : goal.loop-place-init
+loop-place-init c =
+    let p = c.args.problem.now.puzzle in
+    let plan = c.args.plan.now in
+    let empty = c.new-kept.ensures.items in
+    record {
+      taken = λ x.
+          let first : worth_left (having x) p plan 0 c.in_ok-layer.layer.states.items ≡ occurrences_of p x =
+          c.in_ok-layer.ensures.left (having x) in
+          let none : sum_by (taken_by p plan x) c.new-kept.result.items ≡ 0 = ap (sum_by (taken_by p plan x)) empty in
+          omega (arith, first, none);
+      kept = λ k d h.
+          let none : length c.new-kept.result.items ≡ 0 = ap length empty in
+          absurd (omega (arith, none, h));
+      held = c.in_ok-layer.ensures.held;
+    }
+
+pub loop-place-preserved : goal.loop-place-preserved
+loop-place-preserved c =
+    let p = c.args.problem.now.puzzle in
+    let plan = c.args.plan.now in
+    let layer = c.loop-place.layer in
+    let step : Step =
+    record { place = c.loop-place.place; from = c.loop-place.from; next = c.window-next.result } in
+    let one : Kept = record { layer = layer; step = step } in
+    let pushed : c.push.new.self.items ≡ c.loop-place.kept.items ++ one ∷ [] = c.in_ok-push.ensures.items in
+    let within : step.place < length plan.order.items = omega arith in
+    let is : IsKept p plan one = record {
+      step = record { within = within; rises = c.window-next.ensures.rises; over = c.window-next.ensures.over };
+      held = c.loop-place.invariant.held;
+    } in
+    record {
+      taken = λ x.
+          let push : sum_by (taken_by p plan x) c.push.new.self.items
+          ≡ sum_by (taken_by p plan x) c.loop-place.kept.items
+          + worth_by (taken_here p plan step x) layer.states.items =
+          ap (sum_by (taken_by p plan x)) pushed ∙ sum_by_push (taken_by p plan x) c.loop-place.kept.items one in
+          let parts = layer_parts p plan c.requires.plan c.requires.once c.requires.valid x step within
+          layer.states.items in
+          let next : worth_left (having x) p plan step.next c.in_ok-more.more.states.items
+          ≡ sum_by (λ s. s.ways * worth_passed (having x) p plan step s.key.items) layer.states.items =
+          c.in_ok-more.ensures.worth (having x) in
+          omega (arith, push, parts, next, c.loop-place.invariant.taken x);
+      kept = subst (All (IsKept p plan)) (sym pushed)
+          (All-push (IsKept p plan) c.loop-place.kept.items one c.loop-place.invariant.kept is);
+      held = c.in_ok-more.ensures.held;
+    }
+
+pub returns-clause-taken : goal.returns-clause-taken
+returns-clause-taken c = λ x.
+    let p = c.args.problem.now.puzzle in
+    let plan = c.args.plan.now in
+    let last : c.loop-place.place ≡ length plan.order.items = omega arith in
+    let held = subst (λ k. EachKey (holds_first plan k c.loop-place.from) c.loop-place.layer.states.items) last
+    c.loop-place.invariant.held in
+    let none = layer_end p plan c.requires.plan c.requires.once c.requires.valid x c.loop-place.from
+    c.loop-place.layer.states.items held in
+    omega (arith, none, c.loop-place.invariant.taken x)

@@ -1,0 +1,94 @@
+//! A sweep that keeps its layers.
+ghost use Rattle.std.specs.Prelude.{ℕ, ◌≡◌, ◌+◌, ◌*◌, All, length, sum_by, IfOk};
+ghost use Rattle.xc_input.specs.Problem.{IsValid};
+ghost use Rattle.xc_search.specs.Listing.{Residual};
+ghost use Rattle.xc_count.specs.Occurrences.{occurrences_of};
+ghost use Rattle.xc_count.specs.inner.Held.{HoldsOnce};
+ghost use Rattle.xc_count.specs.inner.Passed.{IsKept, taken_by, worth_left, worth_passed};
+ghost use Rattle.xc_count.specs.inner.Plans.{IsPlan, IsStep};
+ghost use Rattle.xc_count.specs.inner.Worth.{EachKey, holds_first};
+
+use crate::errors::CountError;
+use crate::layer::Layer;
+use crate::plan::Plan;
+use crate::sweeping::{Step, first_layer, hold};
+use std::alloc::Global;
+use xc_input::Problem;
+
+/// A layer, and the step from it to the next.
+#[derive(Drop)]
+pub struct Kept {
+    pub layer: Layer,
+    pub step: Step,
+}
+
+/// The layers of a sweep but the last, and the last, in which each item of the order is held.
+#[derive(Drop)]
+pub struct Swept {
+    pub kept: Vec<Kept>,
+    pub last: Layer,
+    pub from: usize,
+}
+
+/// What the states of a layer become once the step's item is held. They take no more than so many bytes.
+fn next_layer(
+    alloc: Global,
+    problem: &Problem,
+    plan: &Plan,
+    step: Step,
+    layer: &Layer,
+    room: usize,
+) -> Result<Layer, CountError>
+    requires once { HoldsOnce problem.now.puzzle }
+    requires plan { IsPlan problem.now.puzzle plan.now }
+    requires step { IsStep problem.now.puzzle plan.now step }
+    requires valid { IsValid problem.now.puzzle }
+    requires held { EachKey (holds_first plan.now step.place step.from) layer.now.states.items }
+    ensures worth { IfOk result (λ l. (h : Residual → ℕ) → worth_left h problem.now.puzzle plan.now step.next
+        l.states.items ≡ sum_by (λ s. s.ways * worth_passed h problem.now.puzzle plan.now step s.key.items)
+        layer.now.states.items) }
+    ensures held { IfOk result (λ l. EachKey (holds_first plan.now (step.place + 1) step.next) l.states.items) }
+{
+    let mut next = Layer::new(alloc, room);
+    let mut scratch = Vec::new(alloc);
+    for state in &layer.states {
+        hold(problem, plan, step, &mut next, &mut scratch, state)?;
+    }
+    Ok(next)
+}
+
+/// The layers of a sweep. Their states take no more than so many bytes.
+pub fn keep_layers(
+    alloc: Global,
+    problem: &Problem,
+    plan: &Plan,
+    bound: usize,
+) -> Result<Swept, CountError>
+    requires once { HoldsOnce problem.now.puzzle }
+    requires plan { IsPlan problem.now.puzzle plan.now }
+    requires valid { IsValid problem.now.puzzle }
+    ensures taken { IfOk result (λ s. (x : ℕ) → sum_by (taken_by problem.now.puzzle plan.now x) s.kept.items
+        ≡ occurrences_of problem.now.puzzle x) }
+    ensures kept { IfOk result (λ s. All (IsKept problem.now.puzzle plan.now) s.kept.items) }
+    ensures held { IfOk result (λ s. EachKey (holds_first plan.now (length plan.now.order.items) s.from)
+        s.last.states.items) }
+{
+    let mut kept = Vec::new(alloc);
+    let mut layer = first_layer(alloc, problem, plan, bound)?;
+    let mut room = bound;
+    let mut from = 0;
+    for place in 0..plan.order.len() {
+        let next = plan.window(problem, place + 1, from);
+        let step = Step { place, from, next };
+        room = layer.beside(room);
+        let more = next_layer(alloc, problem, plan, step, &layer, room)?;
+        kept.push(Kept { layer, step })?;
+        layer = more;
+        from = next;
+    }
+    Ok(Swept {
+        kept,
+        last: layer,
+        from,
+    })
+}
