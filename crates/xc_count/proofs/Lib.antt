@@ -9,6 +9,7 @@ pub mod KeyLemmas
 pub mod LeftBy
 pub mod Matched
 pub mod Number
+pub mod OptionCounts
 pub mod Orders
 pub mod PlanLemmas
 pub mod Split
