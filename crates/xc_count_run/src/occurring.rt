@@ -31,8 +31,10 @@ fn lines_of(alloc: Global, numbers: &[Natural]) -> Result<Vec<u8>, AllocError>
     ensures { IfOk result (λ text. text.items ≡ flat_map option_line (enumerate_from 1 numbers.now)) }
 {
     let mut text = Vec::new(alloc);
-    for (place, number) in numbers.iter().enumerate() {
-        add_line(alloc, &mut text, place as u64 + 1, number)?;
+    let mut option: u64 = 0;
+    for number in numbers {
+        option += 1;
+        add_line(alloc, &mut text, option, number)?;
     }
     Ok(text)
 }
