@@ -1,7 +1,7 @@
 """In how many solutions each option is.
 
-Where there are few solutions one run of dlx-count goes over them. Otherwise it counts for each option the solutions that
-have it: those of the problem in which that option has a further item of its own.
+Where there are few solutions one run of dlx-count goes over them. Otherwise it counts for each option the solutions
+that have it: those of the problem in which that option has a further item of its own.
 """
 
 from __future__ import annotations

@@ -8,8 +8,6 @@ use Rattle.std.specs.Str.{byte, bytes_eq}
 use Rattle.xc_input.specs.declared.kind.Kind.{Kind}
 use Rattle.xc_list.specs.Settings.{long_number}
 use Rattle.xc_tools.specs.Judges.{numbered_kind}
-use Rattle.xc_count_run.specs.declared.asked.Question.{Question}
-use Rattle.xc_count_run.specs.declared.asked.Question.TheVariants.{HowMany, Solution, OfEachOption}
 
 -- what is asked of a problem: how many solutions it has, the solution of the number with these digits, or in how many
 -- solutions each option is
@@ -17,12 +15,6 @@ pub data Wish : Type 0 where
   how_many : Wish
   solution : List ℕ → Wish
   of_each_option : Wish
-
--- what a question means
-abbrev pub meaning : Question → Wish
-meaning HowMany = how_many
-meaning (Solution digits) = solution digits.now
-meaning OfEachOption = of_each_option
 
 -- the megabytes that a word means: the letter b and a number
 abbrev pub bound_word : List ℕ → Option ℕ

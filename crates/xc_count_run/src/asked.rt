@@ -5,7 +5,8 @@ ghost use Rattle.std.specs.List.{list_all};
 ghost use Rattle.std.specs.Str.{byte};
 ghost use Rattle.xc_list.specs.Settings.{long_number};
 ghost use Rattle.xc_tools.specs.Judges.{numbered_kind};
-ghost use Rattle.xc_count_run.specs.Words.{asked_count, asked_more, bound_word, is_positive, meaning, question_word};
+ghost use Rattle.xc_count_run.specs.Words.{asked_count, asked_more, bound_word, is_positive, question_word};
+ghost use Rattle.xc_count_run.specs.inner.Questions.{meaning};
 
 use xc_input::Kind;
 
