@@ -166,9 +166,9 @@ _dlx_place() {
         'dlx-span:2' | 'dlx-join:1')
             value='words m0 m1' ;;
         'dlx-count:2')
-            value='words b512 n1' ;;
+            value='words b512 n1 o' ;;
         'dlx-count:3')
-            value='words n1' ;;
+            value='words n1 o' ;;
         'helgrothy:1')
             value='words make solve draw lint export import why count page search status result rows hint minimal sudoku queens langford polyominoes polycubes words wordsearch nonogram kakuro roster roundrobin tests timetable' ;;
         'helgrothy make:1' | 'helgrothy hint:1')

@@ -843,8 +843,8 @@ complete -c dlx-span -n '__helgrothy_is \'dlx-span\' 2' -f -a 'm0 m1'
 complete -c dlx-join -n '__helgrothy_is \'dlx-join\' 1' -f -a 'm0 m1'
 complete -c dlx-join -n '__helgrothy_is \'dlx-join\' 2+' -F
 complete -c dlx-count -n '__helgrothy_is \'dlx-count\' 1' -f -a '1 2 3'
-complete -c dlx-count -n '__helgrothy_is \'dlx-count\' 2' -f -a 'b512 n1'
-complete -c dlx-count -n '__helgrothy_is \'dlx-count\' 3' -f -a 'n1'
+complete -c dlx-count -n '__helgrothy_is \'dlx-count\' 2' -f -a 'b512 n1 o'
+complete -c dlx-count -n '__helgrothy_is \'dlx-count\' 3' -f -a 'n1 o'
 complete -c helgrothy -n '__helgrothy_is \'helgrothy make sudoku\' 1' -F
 complete -c helgrothy -n '__helgrothy_is \'helgrothy make queens\' 1' -F
 complete -c helgrothy -n '__helgrothy_is \'helgrothy make polyominoes\' 1' -F -a 'pentominoes tetrominoes'

@@ -105,7 +105,7 @@ for until in 2 3 4 5 6 7 8 9 10 11 12 -; do
 done
 tells 'Altogether 12 solutions.' dlx_join m0 "$@" </dev/null
 rm -r "$folder"
-for words in '' 0 '1 m1' '1 b' '1 b1 b1' '1 bx' '1 n' '1 n0' '1 n00' '1 n-1' '1 n1 b1' '1 b1 n1 n1'; do
+for words in '' 0 '1 m1' '1 b' '1 b1 b1' '1 bx' '1 n' '1 n0' '1 n00' '1 n-1' '1 n1 b1' '1 b1 n1 n1' '1 o1' '1 o b1' '1 o n1' '1 o o' '1 b1 n1 o'; do
     # shellcheck disable=SC2086
     expect 1 dlx_count $words </dev/null
 done
@@ -140,7 +140,7 @@ tells 'Altogether 1 solution.' dlx_count 3 b0 <<'END'
 A
 A
 END
-tells 'Usage: dlx-count 1|2|3 [bMEGABYTES] [nNUMBER]' dlx_count 4 </dev/null
+tells 'Usage: dlx-count 1|2|3 [bMEGABYTES] [nNUMBER|o]' dlx_count 4 </dev/null
 expect 0 dlx_count 1 n2 <<'END'
 A
 A
@@ -156,8 +156,19 @@ tells 'There are fewer than 100000000000000000000 solutions.' dlx_count 3 b0 n10
 A
 A
 END
-printf 'A\nA\n' | crates/dlx_count/out/dlx_count 1 n1 >&- 2>/dev/null
-[ $? = 3 ] || { echo 'dlx_count 1 n1 >&-: another status than 3'; differ=1; }
+tells 'Altogether 1 solution.' dlx_count 2 b0 o <<'END'
+A | x
+x
+A x:r
+END
+expect 2 dlx_count 1 o <<'END'
+A
+B
+END
+for word in n1 o; do
+    printf 'A\nA\n' | crates/dlx_count/out/dlx_count 1 $word >&- 2>/dev/null
+    [ $? = 3 ] || { echo "dlx_count 1 $word >&-: another status than 3"; differ=1; }
+done
 tells 'Line 2: unknown item.' dlx_count 1 <<'END'
 A
 B

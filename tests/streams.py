@@ -59,6 +59,7 @@ def messages() -> Iterator[tuple[list[str], str, int]]:
     yield ["dlx-join", "m0"], gap(row(2, 1000), row(3, 1000)), 1
     yield ["dlx-count", "1"], "A | x\nx\nA\n", 2
     yield ["dlx-count", "3", "b0"], "A\nA\n", 1
+    yield ["dlx-count", "1", "o"], "A | x\nx\nA\n", 2
 
 
 def each_message_is_one_write() -> Iterator[str]:
@@ -202,6 +203,7 @@ CLOSED = [
     (["dlx-join", "m1"], "{text}", (3, READ), (3, WRITE), (3, "")),
     (["dlx-join", "m1", "{file}"], "", (3, READ), (3, WRITE), (3, "")),
     (["dlx-count", "1"], "A\nA\n", (3, READ), (0, "Altogether 1 solution."), (3, "")),
+    (["dlx-count", "1", "o"], "A\nA\n", (3, READ), (3, WRITE), (3, "")),
 ]
 
 

@@ -1,7 +1,7 @@
 """In how many solutions each option is.
 
-Where there are few solutions they are listed once, and the lines of each option counted. Otherwise dlx-count counts for
-each option the solutions that have it: those of the problem in which that option has a further item of its own.
+Where there are few solutions one run of dlx-count goes over them. Otherwise it counts for each option the solutions
+that have it: those of the problem in which that option has a further item of its own.
 """
 
 from __future__ import annotations
@@ -15,17 +15,17 @@ from dataclasses import dataclass
 from typing import Any
 
 from .counter import LAST_LINE, MOST_MEGABYTES, PROGRAM, read_number
-from .errors import OutOfTime
+from .errors import OutOfTime, ProgramNotFound
 from .listing import turned
 from .problem import Problem
-from .programs import Ending, Run
+from .programs import Run
 from .shown import bytes_of
 from .wire import Wire
 
 __all__ = ["Occurrences", "find"]
 
-# So many solutions are listed.
-_FEW = 100_000
+# So many solutions are gone over.
+_FEW = 1_000_000
 
 
 @dataclass(frozen=True)
@@ -42,12 +42,40 @@ def find(problem: Problem[Any], seconds: float | None = None, jobs: int | None =
         raise ValueError("jobs must be at least 1")
     deadline = time.monotonic() + (float("inf") if seconds is None else seconds)
     total = problem._count(seconds).total
-    classes = _Classes(problem)
     if total <= _FEW:
-        times = _listed(classes, problem.kind, None if seconds is None else max(0.0, deadline - time.monotonic()))
-    else:
-        times = _Counting(classes, problem.kind, deadline).run(jobs or _processors())
+        left = None if seconds is None else max(0.0, deadline - time.monotonic())
+        try:
+            return Occurrences(_told(problem, left), total)
+        except ProgramNotFound:
+            return Occurrences(_searched(problem, left), total)
+    classes = _Classes(problem)
+    times = _Counting(classes, problem.kind, deadline).run(jobs or _processors())
     return Occurrences(classes.shared(times), total)
+
+
+def _told(problem: Problem[Any], seconds: float | None) -> list[int]:
+    """By the lines of a run of dlx-count: those of the options with a primary item, in their order."""
+    found = [0] * len(problem.options)
+    kept = [place for place, option in enumerate(problem.options) if _is_kept(problem, option)]
+    text = [bytes_of(f"{line}\n") for line in Wire(problem).lines]
+    with Run(PROGRAM, [str(problem.kind), "o"], text, seconds) as run:
+        lines = b"".join(run.chunks()).splitlines()
+        if run.status() != 0 or len(lines) != len(kept):
+            raise run.failure()
+    for place, line in zip(kept, lines):
+        found[place] = read_number(line.partition(b" ")[2].decode())
+    return found
+
+
+def _searched(problem: Problem[Any], seconds: float | None) -> list[int]:
+    """By all solutions, where there is no dlx-count."""
+    times = Counter(number for one in problem.solve(seconds=seconds) for number in one.numbers)
+    return [times[number] for number in range(len(problem.options))]
+
+
+def _is_kept(problem: Problem[Any], option: Any) -> bool:
+    """Whether an option has a primary item. Programs ignore others."""
+    return any(item in problem.items for item, _ in problem._pairs(option))
 
 
 def _processors() -> int:
@@ -68,7 +96,7 @@ class _Classes:
         self.holders: dict[bytes, list[int]] = {}
         self._count = len(problem.options)
         for place, (option, line) in enumerate(zip(problem.options, wire.lines[1:])):
-            if any(item in problem.items for item, _ in problem._pairs(option)):
+            if _is_kept(problem, option):
                 self.holders.setdefault(turned(bytes_of(line)), []).append(place)
 
     def shared(self, times: dict[bytes, int]) -> list[int]:
@@ -78,24 +106,6 @@ class _Classes:
             for place in places:
                 found[place] = times.get(words, 0) // len(places)
         return found
-
-
-def _listed(classes: _Classes, kind: int, seconds: float | None) -> dict[bytes, int]:
-    """How often the options of some words are chosen in all solutions, by a listing of these."""
-    lines: Counter[bytes] = Counter()
-    with Run(f"dlx{kind}", ["m1"], classes.lines, seconds) as run:
-        rest = b""
-        for chunk in run.chunks():
-            *whole, rest = (rest + chunk).split(b"\n")
-            lines.update(whole)
-        Ending(run)
-    times: Counter[bytes] = Counter()
-    for line, count in lines.items():
-        # What is no option's is a solution's number, or a choice of none.
-        words = turned(line[1 : max(line.rfind(b" ("), 0)])
-        if words in classes.holders:
-            times[words] += count
-    return times
 
 
 class _Counting:

@@ -439,7 +439,7 @@ class Problem(Generic[Option]):
     def occurrences(self, *, seconds: float | None = None, jobs: int | None = None) -> list[int]:
         """Of each option in how many solutions it is, in the order of `options`.
 
-        Where there are few solutions all are listed once. Otherwise dlx-count counts for each option those that have
+        Where there are few solutions dlx-count goes over them once. Otherwise it counts for each option those that have
         it, by up to `jobs` processes at once (as many as there are processors). Raises `ProgramNotFound`,
         `ProgramFailed` and `OutOfTime`.
         """

@@ -77,7 +77,7 @@ def all_commands() -> Iterator[Command]:
     words = Value(("m0", "m1"))
     yield Command("dlx-span", places=[kinds, words])
     yield Command("dlx-join", places=[words, Value(files=FILE)], goes_on=True)
-    yield Command("dlx-count", places=[kinds, Value(("b512", "n1")), Value(("n1",))])
+    yield Command("dlx-count", places=[kinds, Value(("b512", "n1", "o")), Value(("n1", "o"))])
     yield from _of("dlx-progress", progress_parser())
     yield from _of("helgrothy", parser_of_all())
 

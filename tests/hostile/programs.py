@@ -100,6 +100,8 @@ def want_of_memory(folder):
     refused_in_turn("a count of colours", shim, ["dlx-count", "2"], COLOURED)
     refused_in_turn("a count with an ignored option", shim, ["dlx-count", "1"], WITH_IGNORED)
     refused_in_turn("a count of dominoes", shim, ["dlx-count", "1"], dominoes(4, 4))
+    refused_in_turn("a count of each option", shim, ["dlx-count", "1", "o"], dominoes(4, 4))
+    refused_in_turn("a count of each option by a search", shim, ["dlx-count", "3", "o"], BOUNDED)
     for name, words, text in (
         ("colours", ["dlx2", "m1"], COLOURED),
         ("bounds", ["dlx3", "m1"], BOUNDED),
@@ -172,7 +174,7 @@ def each_read_fails(shim, folder):
     file = f"{folder}/reads.dlx"
     with open(file, "wb") as it:
         it.write(text)
-    for words, given in ((["dlx1"], b"A\n" * 100000), (["dlx2", "t1"], text), (["dlx3", "t1"], text), (["dlx-count", "2", "b0", "n1"], text), (["dlxcheck", file, "2"], b"1:\n" * 100000)):
+    for words, given in ((["dlx1"], b"A\n" * 100000), (["dlx2", "t1"], text), (["dlx3", "t1"], text), (["dlx-count", "2", "b0", "n1"], text), (["dlx-count", "1", "o"], b"A\n" * 100000), (["dlxcheck", file, "2"], b"1:\n" * 100000)):
         reads = len(calls_of(shim, "read", 0, 0, words, given, stdout=subprocess.PIPE)[3])
         for n in range(1, reads + 1):
             status, out, err, calls = calls_of(shim, "read", n, ERRORS[n % len(ERRORS)], words, given, stdout=subprocess.PIPE)
@@ -386,6 +388,7 @@ def streams(folder):
     shell("standard input a folder", f"{dlx1} <{folder}", 3, b"Read failed.\n")
     counter = path("dlx-count")
     shell("a count into standard error that is full", f"{counter} 1 2>/dev/full", 3, b"")
+    shell("counts of options into standard output that is full", f"{counter} 1 o >/dev/full", 3, b"Write failed.\n")
     shell("a count of a folder", f"{counter} 1 <{folder}", 3, b"Read failed.\n")
     shell("a count of words that aren't UTF-8", f"{counter} 1 b$(printf '\\377')", 4, b"Out of memory.\n")
     ours, theirs = os.pipe()

@@ -7,3 +7,5 @@ mod counting;
 mod numbered;
 #[cfg(test)]
 mod numbers;
+#[cfg(test)]
+mod occurring;

@@ -1,5 +1,5 @@
-//! Counts the covers of an exact cover problem without making each, or prints the one of a number:
-//! `dlx-count 1|2|3 [bMEGABYTES] [nNUMBER] < PROBLEM`.
+//! Counts the covers of an exact cover problem without making each, in all or also those of each option, or prints the
+//! one of a number: `dlx-count 1|2|3 [bMEGABYTES] [nNUMBER|o] < PROBLEM`.
 #![tactic(auto)]
 
 use std::alloc::AllocError;

@@ -10,6 +10,7 @@ pub mod KeyLemmas
 pub mod LeftBy
 pub mod Matched
 pub mod Number
+pub mod OptionCounts
 pub mod Orders
 pub mod Passed
 pub mod PlanLemmas

@@ -1,4 +1,4 @@
-//! How many covers a problem has, found without making each.
+//! How many covers a problem has, and how many each of its options is in, found without making each.
 #![tactic(auto)]
 
 mod backward;
@@ -16,6 +16,7 @@ mod left;
 mod marks;
 mod metered;
 mod narrow;
+mod occurring;
 mod options;
 mod order;
 mod passing;
@@ -23,6 +24,8 @@ mod plan;
 mod ranking;
 mod rival;
 mod sweeping;
+mod times;
 
 pub use counting::{count, one_number_of_covers};
 pub use finding::nth;
+pub use occurring::occurrences;

@@ -1,1 +1,2 @@
+mod LineLemmas
 mod SolutionLemmas

@@ -5,7 +5,8 @@ ghost use Rattle.std.specs.List.{list_all};
 ghost use Rattle.std.specs.Str.{byte};
 ghost use Rattle.xc_list.specs.Settings.{long_number};
 ghost use Rattle.xc_tools.specs.Judges.{numbered_kind};
-ghost use Rattle.xc_count_run.specs.Counts.{asked_count, asked_more, bound_word, is_positive, number_word};
+ghost use Rattle.xc_count_run.specs.Words.{asked_count, asked_more, bound_word, is_positive, question_word};
+ghost use Rattle.xc_count_run.specs.inner.Questions.{meaning};
 
 use xc_input::Kind;
 
@@ -72,30 +73,41 @@ fn numbered_kind(word: &[u8]) -> Option<Kind>
     }
 }
 
-/// The digits of the number that a word means, which isn't 0.
-fn number_word(word: &[u8]) -> Option<&[u8]>
-    ensures { option_map (λ d. d.now) result ≡ number_word word.now }
+/// What is asked of a problem.
+#[derive(Clone, Copy)]
+pub enum Question<'a> {
+    /// How many solutions it has.
+    HowMany,
+    /// The solution of the number with these digits.
+    Solution(&'a [u8]),
+    /// In how many solutions each option is.
+    OfEachOption,
+}
+
+/// What a word asks.
+fn question_word(word: &[u8]) -> Option<Question<'_>>
+    ensures { option_map meaning result ≡ question_word word.now }
 {
     match word {
-        [b'n', digits @ ..] if is_positive(digits) => Some(digits),
+        b"o" => Some(Question::OfEachOption),
+        [b'n', digits @ ..] if is_positive(digits) => Some(Question::Solution(digits)),
         _ => None,
     }
 }
 
-/// The most megabytes and the digits of a number that words after the kind mean, if they are right.
-fn asked_more(words: &[Vec<u8>]) -> Option<(u64, Option<&[u8]>)>
-    ensures { option_map (λ a. (a.0, option_map (λ d. d.now) a.1)) result
-        ≡ asked_more (map (λ w. w.items) words.now) }
+/// The most megabytes and the question that words after the kind mean, if they are right.
+fn asked_more(words: &[Vec<u8>]) -> Option<(u64, Question<'_>)>
+    ensures { option_map (λ a. (a.0, meaning a.1)) result ≡ asked_more (map (λ w. w.items) words.now) }
 {
     match words {
-        [] => Some((MEGABYTES, None)),
+        [] => Some((MEGABYTES, Question::HowMany)),
         [word] => match bound_word(word.as_slice()) {
-            Some(megabytes) => Some((megabytes, None)),
-            None => Some((MEGABYTES, Some(number_word(word.as_slice())?))),
+            Some(megabytes) => Some((megabytes, Question::HowMany)),
+            None => Some((MEGABYTES, question_word(word.as_slice())?)),
         },
-        [bound, number] => {
+        [bound, question] => {
             let megabytes = bound_word(bound.as_slice())?;
-            Some((megabytes, Some(number_word(number.as_slice())?)))
+            Some((megabytes, question_word(question.as_slice())?))
         }
         _ => None,
     }
@@ -108,23 +120,23 @@ pub struct Asked<'a> {
     pub kind: Kind,
     /// The most megabytes that the states may take.
     pub megabytes: u64,
-    /// The digits of the number of the solution that is to be printed; none where the solutions are to be counted.
-    pub number: Option<&'a [u8]>,
+    /// What is asked of the problem.
+    pub question: Question<'a>,
 }
 
 /// What words ask for, if they are right.
 pub fn asked_count(words: &[Vec<u8>]) -> Option<Asked<'_>>
-    ensures { option_map (λ a. (a.kind, a.megabytes, option_map (λ d. d.now) a.number)) result
+    ensures { option_map (λ a. (a.kind, a.megabytes, meaning a.question)) result
         ≡ asked_count (map (λ w. w.items) words.now) }
 {
     let [kind, more @ ..] = words else {
         return None;
     };
     let kind = numbered_kind(kind.as_slice())?;
-    let (megabytes, number) = asked_more(more)?;
+    let (megabytes, question) = asked_more(more)?;
     Some(Asked {
         kind,
         megabytes,
-        number,
+        question,
     })
 }

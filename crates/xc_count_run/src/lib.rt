@@ -10,6 +10,7 @@
 
 mod asked;
 mod messages;
+mod occurring;
 mod running;
 mod solution;
 

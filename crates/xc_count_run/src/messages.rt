@@ -1,6 +1,6 @@
 //! What is reported of a count.
 ghost use Rattle.std.specs.Prelude.{◌≡◌, ◌==◌, ℕ, IfOk, codes, if◌then◌else◌};
-ghost use Rattle.xc_count_run.specs.Counts.{count_text};
+ghost use Rattle.xc_count_run.specs.LastLine.{count_text};
 
 use natural::Natural;
 use std::alloc::{AllocError, Global};

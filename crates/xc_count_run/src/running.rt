@@ -1,13 +1,16 @@
 //! A whole run.
-ghost use Rattle.std.specs.Prelude.{◌≡◌, map, length, codes, option_map};
+ghost use Rattle.std.specs.Prelude.{◌≡◌, map, length, codes};
 ghost use Rattle.xc_input.specs.Named.{Named};
 ghost use Rattle.xc_search.specs.Cover.{members};
 ghost use Rattle.xc_list.specs.Texts.{seen, WasTold};
 ghost use Rattle.xc_tools.specs.WholeRuns.{no_problem, sinks};
 ghost use Rattle.xc_count_run.specs.Counts.{DidAnswer, DidCount, DidCountWords, DidWarnAndAnswer, Reports};
+ghost use Rattle.xc_count_run.specs.LastLine.{Concludes};
+ghost use Rattle.xc_count_run.specs.inner.Questions.{meaning};
 
-use crate::asked::{Asked, asked_count};
+use crate::asked::{Asked, Question, asked_count};
 use crate::messages::count_line;
+use crate::occurring::tell_each;
 use crate::solution::find_solution;
 use natural::Natural;
 use std::alloc::Global;
@@ -47,6 +50,16 @@ fn no_problem<E: Sink>(error: &InputError, err: &mut E) -> u8
     }
 }
 
+/// Writes the last line.
+pub fn write_last<E: Sink>(line: &[u8], err: &mut E) -> u8
+    ensures { Concludes line.now result (E.state err.old) (E.state err.new) }
+{
+    match write_all(err, line) {
+        Ok(()) => COMPLETE,
+        Err(_) => FAILED,
+    }
+}
+
 /// Writes the number of a problem's covers.
 fn tell_count<E: Sink>(alloc: Global, problem: &Problem, covers: &Natural, err: &mut E) -> u8
     requires { covers.now ≡ length (members problem.now.puzzle) }
@@ -55,10 +68,7 @@ fn tell_count<E: Sink>(alloc: Global, problem: &Problem, covers: &Natural, err: 
     let Ok(line) = count_line(alloc, covers) else {
         return out_of_memory(err);
     };
-    match write_all(err, line.as_slice()) {
-        Ok(()) => COMPLETE,
-        Err(_) => FAILED,
-    }
+    write_last(line.as_slice(), err)
 }
 
 /// The bytes of so many megabytes, as far as there are so many.
@@ -67,16 +77,16 @@ fn bytes(megabytes: u64) -> usize {
 }
 
 /// Counts the covers of a problem.
-fn count_problem<E: Sink>(alloc: Global, problem: &Problem, megabytes: u64, err: &mut E) -> u8
+fn count_problem<E: Sink>(alloc: Global, problem: &Problem, bound: usize, err: &mut E) -> u8
     ensures did { DidCount problem.now result (E.state err.old) (E.state err.new) }
 {
-    match count(alloc, problem, bytes(megabytes)) {
+    match count(alloc, problem, bound) {
         Ok(covers) => tell_count(alloc, problem, &covers, err),
         Err(_) => out_of_memory(err),
     }
 }
 
-/// Counts the covers of a problem, or prints the solution of a number.
+/// Answers what is asked of a problem.
 fn answer<O: Sink, E: Sink>(
     alloc: Global,
     problem: &Problem,
@@ -84,12 +94,14 @@ fn answer<O: Sink, E: Sink>(
     out: &mut O,
     err: &mut E,
 ) -> u8
-    ensures did { DidAnswer (option_map (λ d. d.now) asked.now.number) result
+    ensures did { DidAnswer (meaning asked.now.question) result
         (sinks O.state E.state out.old err.old) (sinks O.state E.state out.new err.new) problem.now }
 {
-    match asked.number {
-        None => count_problem(alloc, problem, asked.megabytes, err),
-        Some(digits) => find_solution(alloc, problem, digits, bytes(asked.megabytes), out, err),
+    let bound = bytes(asked.megabytes);
+    match asked.question {
+        Question::HowMany => count_problem(alloc, problem, bound, err),
+        Question::Solution(digits) => find_solution(alloc, problem, digits, bound, out, err),
+        Question::OfEachOption => tell_each(alloc, problem, bound, out, err),
     }
 }
 
@@ -101,7 +113,7 @@ fn answer_read<O: Sink, E: Sink>(
     out: &mut O,
     err: &mut E,
 ) -> u8
-    ensures did { DidWarnAndAnswer (option_map (λ d. d.now) asked.now.number) result
+    ensures did { DidWarnAndAnswer (meaning asked.now.question) result
         (sinks O.state E.state out.old err.old) (sinks O.state E.state out.new err.new)
         read.now.problem read.now.ignored.items }
 {
@@ -111,13 +123,14 @@ fn answer_read<O: Sink, E: Sink>(
     }
 }
 
-/// A whole run: reads the words, then the problem, and counts its covers or finds the solution of a number. The words
-/// are `1`, `2` or `3` for the program that the problem is written for, perhaps `b` with the most megabytes that the
-/// states of a sweep may take, and perhaps `n` with the number of a solution. Where so much memory is not enough, a
-/// search goes on alone. Without `n` the number of covers is written to `err`, else the solution of that number to
-/// `out`, as a whole listing would have it. Messages go to `err`. It returns the status: 0 where the answer was printed,
-/// 1 for other words, 2 for a fault of the problem, 3 where a read or a write failed, 4 where memory ran out, 5 where
-/// there are fewer solutions than `n` says. Names are hashed by the input's seed.
+/// A whole run: reads the words, then the problem, and counts its covers, in all or those of each option, or finds the
+/// solution of a number. The words are `1`, `2` or `3` for the program that the problem is written for, perhaps `b` with
+/// the most megabytes that the states of a sweep may take, and perhaps `o`, or `n` with the number of a solution. Where
+/// so much memory is not enough, a search goes on alone. Without `n` the number of covers is written to `err`, with `o`
+/// after a line for each option to `out`: its number and in how many covers it is. With `n` the solution of that number
+/// is written to `out`, as a whole listing would have it. Messages go to `err`. It returns the status: 0 where the
+/// answer was printed, 1 for other words, 2 for a fault of the problem, 3 where a read or a write failed, 4 where memory
+/// ran out, 5 where there are fewer solutions than `n` says. Names are hashed by the input's seed.
 pub fn count_covers<S: Source, O: Sink, E: Sink>(
     alloc: Global,
     words: &[Vec<u8>],
@@ -132,7 +145,7 @@ pub fn count_covers<S: Source, O: Sink, E: Sink>(
     let Some(asked) = asked_count(words) else {
         return refuse(
             BAD_WORDS,
-            b"Usage: dlx-count 1|2|3 [bMEGABYTES] [nNUMBER]\n",
+            b"Usage: dlx-count 1|2|3 [bMEGABYTES] [nNUMBER|o]\n",
             err,
         );
     };

@@ -1,0 +1,109 @@
+//! In how many solutions each option is.
+ghost use Rattle.std.specs.Prelude.{ℕ, ◌≡◌, ◌≢◌, ◌+◌, ◌-◌, ◌≤◌, length, slice_index, All, AllPairs, IfOk, OnOk};
+ghost use Rattle.std.specs.Prelude.{if◌then◌else◌};
+ghost use Rattle.xc_input.specs.Problem.{IsValid};
+ghost use Rattle.xc_search.specs.Cover.{options_of};
+ghost use Rattle.xc_count.specs.inner.Held.{HoldsOnce};
+ghost use Rattle.xc_count.specs.Occurrences.{occurrences, takes};
+
+use crate::by_states::occurrences_by_states;
+use crate::counting::is_once;
+use crate::errors::CountError;
+use crate::plan::Plan;
+use crate::times::Times;
+use natural::Natural;
+use std::alloc::{AllocError, Global};
+use xc_dance::{Links, Memory};
+use xc_input::Problem;
+use xc_search::{Solution, Walk};
+
+/// So many options that were never taken.
+fn never(alloc: Global, many: u32) -> Result<Vec<Times>, AllocError>
+    ensures len { IfOk result (λ ts. length ts.items ≡ many) }
+    ensures zero { IfOk result (λ ts. All (λ t. t ≡ 0) ts.items) }
+{
+    let mut times = Vec::with_capacity(alloc, many as usize)?;
+    for _ in 0..many {
+        times.push(Times::zero(alloc))?;
+    }
+    Ok(times)
+}
+
+/// Adds one for each option of a solution.
+#[inline(always)]
+fn add_solution(
+    alloc: Global,
+    times: &mut [Times],
+    mut solution: Solution<'_, '_, Links>,
+) -> Result<(), AllocError>
+    requires known { All (λ o. (1 ≤ o) × (o ≤ length times.old)) (options_of solution) }
+    requires distinct { AllPairs (λ a b. a ≢ b) (options_of solution) }
+    ensures times { OnOk result ((o : ℕ) → 1 ≤ o → slice_index times.new (o - 1)
+        ≡ slice_index times.old (o - 1) + (if takes o solution.entry then 1 else 0)) }
+    ensures len { length times.new ≡ length times.old }
+{
+    while let Some(choice) = solution.next() {
+        if let Some(option) = choice.option {
+            times[option as usize - 1].add_one(alloc)?;
+        }
+    }
+    Ok(())
+}
+
+/// The numbers of times.
+fn numbers_of(alloc: Global, times: &[Times]) -> Result<Vec<Natural>, AllocError>
+    ensures { IfOk result (λ ns. ns.items ≡ times.now) }
+{
+    let mut numbers = Vec::new(alloc);
+    for t in times {
+        numbers.push(t.number(alloc)?)?;
+    }
+    Ok(numbers)
+}
+
+/// In how many solutions each option is, by a walk over all of them.
+fn occurrences_by_search(alloc: Global, problem: &Problem) -> Result<Vec<Natural>, Memory>
+    ensures { IfOk result (λ ns. ns.items ≡ occurrences problem.now.puzzle) }
+{
+    let mut times = never(alloc, problem.options())?;
+    let links = Links::for_search(alloc, problem)?;
+    let mut walk = match Walk::new(alloc, links, problem) {
+        Ok(walk) => walk,
+        Err((_, memory)) => return Err(memory),
+    };
+    while walk.pass(1) == 1 {
+        add_solution(alloc, times.as_mut_slice(), walk.solution())?;
+    }
+    Ok(numbers_of(alloc, times.as_slice())?)
+}
+
+/// The same by the states of a sweep, with a plan of its own.
+fn occurrences_by_plan(
+    alloc: Global,
+    problem: &Problem,
+    bound: usize,
+) -> Result<Vec<Natural>, CountError>
+    requires once { HoldsOnce problem.now.puzzle }
+    requires valid { IsValid problem.now.puzzle }
+    ensures { IfOk result (λ ns. ns.items ≡ occurrences problem.now.puzzle) }
+{
+    let plan = Plan::new(alloc, problem)?;
+    occurrences_by_states(alloc, problem, &plan, bound)
+}
+
+/// In how many solutions each option is, in the order of the file. It goes over the states of a sweep twice, so it makes
+/// no solution. If an item has other bounds than `1:1`, or the states would take more than about `bound` bytes, it
+/// searches through all solutions.
+///
+/// # Errors
+/// `Memory` where there is none for the search's tables or the numbers.
+pub fn occurrences(alloc: Global, problem: &Problem, bound: usize) -> Result<Vec<Natural>, Memory>
+    ensures { IfOk result (λ ns. ns.items ≡ occurrences problem.now.puzzle) }
+{
+    if is_once(problem) {
+        if let Ok(times) = occurrences_by_plan(alloc, problem, bound) {
+            return Ok(times);
+        }
+    }
+    occurrences_by_search(alloc, problem)
+}

@@ -1,0 +1,50 @@
+-- What the words of a count ask for.
+use Rattle.std.specs.Prelude.{ℕ, ◌==◌, List, [], ◌∷◌, Option, Some, None, codes}
+use Rattle.std.specs.Prelude.{Bool, not, ◌&&◌, option_map, option_and_then, if◌then◌else◌}
+use Rattle.std.specs.Char.{is_ascii_digit}
+use Rattle.std.specs.List.{list_all}
+use Rattle.std.specs.Option.{option_or}
+use Rattle.std.specs.Str.{byte, bytes_eq}
+use Rattle.xc_input.specs.declared.kind.Kind.{Kind}
+use Rattle.xc_list.specs.Settings.{long_number}
+use Rattle.xc_tools.specs.Judges.{numbered_kind}
+
+-- what is asked of a problem: how many solutions it has, the solution of the number with these digits, or in how many
+-- solutions each option is
+pub data Wish : Type 0 where
+  how_many : Wish
+  solution : List ℕ → Wish
+  of_each_option : Wish
+
+-- the megabytes that a word means: the letter b and a number
+abbrev pub bound_word : List ℕ → Option ℕ
+bound_word [] = None
+bound_word (b ∷ bs) = if b == byte "b" then long_number bs else None
+
+-- digits, not all of them 0
+abbrev pub is_positive : List ℕ → Bool
+is_positive ds = list_all is_ascii_digit ds && not (list_all (λ d. d == byte "0") ds)
+
+-- the digits of the number that a word means: the letter n and a number that isn't 0
+abbrev pub number_word : List ℕ → Option (List ℕ)
+number_word [] = None
+number_word (b ∷ ds) = if b == byte "n" && is_positive ds then Some ds else None
+
+-- what a word asks: the letter o, or the letter n and a number
+abbrev pub question_word : List ℕ → Option Wish
+question_word word = if bytes_eq word (codes "o") then Some of_each_option else option_map solution (number_word word)
+
+-- the bound of memory in megabytes, 512 if no word names it, and what is asked
+abbrev pub asked_more : List (List ℕ) → Option (ℕ × Wish)
+asked_more [] = Some (512, how_many)
+asked_more (word ∷ []) = option_or (option_map (λ m. (m, how_many)) (bound_word word))
+    (option_map (λ w. (512, w)) (question_word word))
+asked_more (bound ∷ question ∷ []) =
+    option_and_then (λ m. option_map (λ w. (m, w)) (question_word question)) (bound_word bound)
+asked_more _ = None
+
+-- the kind of problem, and what the words after it ask for
+abbrev pub asked_count : List (List ℕ) → Option (Kind × ℕ × Wish)
+asked_count [] = None
+asked_count (kind ∷ words) =
+    option_and_then (λ k. option_map (λ a. (k, a.0, a.1)) (asked_more words)) (numbered_kind kind)

@@ -1,0 +1,83 @@
+//! In how many solutions each option is, printed.
+ghost use Rattle.std.specs.Prelude.{◌≡◌, ◌++◌, IfOk, OnOk, flat_map, length};
+ghost use Rattle.std.specs.List.{enumerate_from};
+ghost use Rattle.xc_search.specs.Cover.{members};
+ghost use Rattle.xc_tools.specs.WholeRuns.{sinks};
+ghost use Rattle.xc_count_run.specs.Each.{DidTellEach, PrintsBoth, option_line, option_lines};
+ghost use Rattle.xc_count_run.specs.LastLine.{count_text};
+
+use crate::messages::count_line;
+use crate::running::write_last;
+use natural::Natural;
+use std::alloc::{AllocError, Global};
+use xc_count::{count, occurrences};
+use xc_dance::Memory;
+use xc_input::Problem;
+use xc_list::{Sink, write_all};
+use xc_tools::{flushed, out_of_memory, write_failed};
+
+/// Adds the line of an option.
+fn add_line(alloc: Global, text: &mut Vec<u8>, option: u64, number: &Natural) -> Result<(), AllocError>
+    ensures { OnOk result (text.new.items ≡ text.old.items ++ option_line (option, number.now)) }
+{
+    Natural::from_u64(alloc, option).write_decimal(text)?;
+    text.extend_from_slice(b" ")?;
+    number.write_decimal(text)?;
+    text.extend_from_slice(b"\n")
+}
+
+/// The lines of all options.
+fn lines_of(alloc: Global, numbers: &[Natural]) -> Result<Vec<u8>, AllocError>
+    ensures { IfOk result (λ text. text.items ≡ flat_map option_line (enumerate_from 1 numbers.now)) }
+{
+    let mut text = Vec::new(alloc);
+    let mut option: u64 = 0;
+    for number in numbers {
+        option += 1;
+        add_line(alloc, &mut text, option, number)?;
+    }
+    Ok(text)
+}
+
+/// The lines of a problem's options, and the last line of its count.
+fn texts_of(alloc: Global, problem: &Problem, bound: usize) -> Result<(Vec<u8>, Vec<u8>), Memory>
+    ensures lines { IfOk result (λ texts. texts.0.items ≡ option_lines problem.now.puzzle) }
+    ensures last { IfOk result (λ texts. texts.1.items ≡ count_text (length (members problem.now.puzzle))) }
+{
+    let numbers = occurrences(alloc, problem, bound)?;
+    let lines = lines_of(alloc, numbers.as_slice())?;
+    let covers = count(alloc, problem, bound)?;
+    let last = count_line(alloc, &covers)?;
+    Ok((lines, last))
+}
+
+/// Writes and flushes lines, and then writes the last one.
+fn print_both<O: Sink, E: Sink>(lines: &[u8], last: &[u8], out: &mut O, err: &mut E) -> u8
+    ensures { PrintsBoth lines.now last.now result
+        (sinks O.state E.state out.old err.old) (sinks O.state E.state out.new err.new) }
+{
+    if write_all(out, lines).is_err() {
+        return write_failed(err);
+    }
+    match flushed(out, err) {
+        Ok(()) => write_last(last, err),
+        Err(status) => status,
+    }
+}
+
+/// Prints of each option in how many solutions it is, and how many there are.
+pub fn tell_each<O: Sink, E: Sink>(
+    alloc: Global,
+    problem: &Problem,
+    bound: usize,
+    out: &mut O,
+    err: &mut E,
+) -> u8
+    ensures did { DidTellEach problem.now result
+        (sinks O.state E.state out.old err.old) (sinks O.state E.state out.new err.new) }
+{
+    match texts_of(alloc, problem, bound) {
+        Ok((lines, last)) => print_both(lines.as_slice(), last.as_slice(), out, err),
+        Err(_) => out_of_memory(err),
+    }
+}
