@@ -49,10 +49,10 @@ one_more q v os ts total low within two more so o some = by_bool (eqb q o)
     let was = so o some in
     let one : hit o (q ∷ os) ≡ 1 = rw e refl in
     let gone : hit o os ≡ 0 = by_bool (list_any (λ a. eqb a o) os)
-        (λ f. absurd (each_in (λ b. q ≢ b) os o two.0 (listed_in os o f) is))
-        (λ f. rw f refl) in
+    (λ f. absurd (each_in (λ b. q ≢ b) os o two.0 (listed_in os o f) is))
+    (λ f. rw f refl) in
     let new : get_or (set ts (q - 1) v) (o - 1) 0 ≡ v =
-        subst (λ j. get_or (set ts (q - 1) v) (j - 1) 0 ≡ v) is (set_here ts (q - 1) v (omega (arith, low, within))) in
+    subst (λ j. get_or (set ts (q - 1) v) (j - 1) 0 ≡ v) is (set_here ts (q - 1) v (omega (arith, low, within))) in
     let old : v ≡ get_or ts (o - 1) 0 + 1 = subst (λ j. v ≡ get_or ts (j - 1) 0 + 1) is more in
     omega (arith, was, one, gone, new, old))
     (λ e.

@@ -25,9 +25,9 @@ add_solution-requires-clause-known c =
     let old = c.loop-alloc.walk in
     let new = c.pass.new.self in
     let came = arrived c.pass.result old new c.pass.ensures.count (omega (arith, c.loop-alloc-test.true))
-        (ap (λ (s : Outlook). s.to_come) c.pass.ensures.went) (ap (λ (s : Outlook). s.shown) c.pass.ensures.went) in
+    (ap (λ (s : Outlook). s.to_come) c.pass.ensures.went) (ap (λ (s : Outlook). s.shown) c.pass.ensures.went) in
     let cover = all_head (λ m. IsCover p (options_of m)) new.shown new.to_come
-        (subst (All (λ m. IsCover p (options_of m))) came c.loop-alloc.invariant.covers) in
+    (subst (All (λ m. IsCover p (options_of m))) came c.loop-alloc.invariant.covers) in
     let many = ap length c.as_mut_slice.ensures.value ∙ c.loop-alloc.invariant.len in
     subst (λ m. All (λ o. (1 ≤ o) × (o ≤ length c.as_mut_slice.result.now)) (options_of m)) (sym c.solution.ensures)
     (options_within p (length c.as_mut_slice.result.now) (options_of new.shown) many cover)
@@ -38,9 +38,9 @@ add_solution-requires-clause-distinct c =
     let old = c.loop-alloc.walk in
     let new = c.pass.new.self in
     let came = arrived c.pass.result old new c.pass.ensures.count (omega (arith, c.loop-alloc-test.true))
-        (ap (λ (s : Outlook). s.to_come) c.pass.ensures.went) (ap (λ (s : Outlook). s.shown) c.pass.ensures.went) in
+    (ap (λ (s : Outlook). s.to_come) c.pass.ensures.went) (ap (λ (s : Outlook). s.shown) c.pass.ensures.went) in
     let cover = all_head (λ m. IsCover p (options_of m)) new.shown new.to_come
-        (subst (All (λ m. IsCover p (options_of m))) came c.loop-alloc.invariant.covers) in
+    (subst (All (λ m. IsCover p (options_of m))) came c.loop-alloc.invariant.covers) in
     subst (λ m. AllPairs (λ a b. a ≢ b) (options_of m)) (sym c.solution.ensures) cover.distinct
 
 pub loop-alloc-smaller : goal.loop-alloc-smaller
@@ -58,7 +58,7 @@ loop-alloc-preserved c =
     let new = c.pass.new.self in
     let ts = c.loop-alloc.times.items in
     let came = arrived c.pass.result old new c.pass.ensures.count (omega (arith, c.loop-alloc-test.true))
-        (ap (λ (s : Outlook). s.to_come) c.pass.ensures.went) (ap (λ (s : Outlook). s.shown) c.pass.ensures.went) in
+    (ap (λ (s : Outlook). s.to_come) c.pass.ensures.went) (ap (λ (s : Outlook). s.shown) c.pass.ensures.went) in
     let done = c.in_ok-add_solution.ensures in
     let many : length c.add_solution.new.times ≡ length ts = done.len ∙ ap length c.as_mut_slice.ensures.value in
     let written = refilled c.loop-alloc.times.len c.add_solution.new.times ts many c.loop-alloc.times.ok.0 in
