@@ -42,7 +42,7 @@ impl Times {
 
     /// Adds one.
     #[inline(always)]
-    pub fn add_one(&mut self, alloc: Global) -> Result<(), AllocError>
+    pub fn count_one(&mut self, alloc: Global) -> Result<(), AllocError>
         ensures { OnOk result (self.new ≡ self.old + 1) }
     {
         if self.few == u64::MAX {
