@@ -1,7 +1,8 @@
 """In how many solutions each option is.
 
-Where there are few solutions one run of dlx-count goes over them. Otherwise it counts for each option the solutions
-that have it: those of the problem in which that option has a further item of its own.
+One run of dlx-count reports it, by the states of its sweep or, where there are few solutions, by going over them.
+Otherwise it counts for each option the solutions that have it: those of the problem in which that option has a further
+item of its own.
 """
 
 from __future__ import annotations
@@ -10,7 +11,7 @@ import os
 import select
 import time
 from collections import Counter, deque
-from contextlib import ExitStack
+from contextlib import ExitStack, suppress
 from dataclasses import dataclass
 from typing import Any
 
@@ -20,12 +21,15 @@ from .listing import turned
 from .problem import Problem
 from .programs import Run
 from .shown import bytes_of
+from .syntax import ONCE
 from .wire import Wire
 
 __all__ = ["Occurrences", "find"]
 
 # So many solutions are gone over.
 _FEW = 1_000_000
+# So many seconds the states may take; where they have no memory dlx-count goes over the solutions, perhaps forever.
+_STATES_SECONDS = 20.0
 
 
 @dataclass(frozen=True)
@@ -42,12 +46,16 @@ def find(problem: Problem[Any], seconds: float | None = None, jobs: int | None =
         raise ValueError("jobs must be at least 1")
     deadline = time.monotonic() + (float("inf") if seconds is None else seconds)
     total = problem._count(seconds).total
+    left = None if seconds is None else max(0.0, deadline - time.monotonic())
     if total <= _FEW:
-        left = None if seconds is None else max(0.0, deadline - time.monotonic())
         try:
             return Occurrences(_told(problem, left), total)
         except ProgramNotFound:
             return Occurrences(_searched(problem, left), total)
+    if all(bounds == ONCE for bounds in problem.items.values()):
+        patience = _STATES_SECONDS if left is None else min(left / 2, _STATES_SECONDS)
+        with suppress(OutOfTime):
+            return Occurrences(_told(problem, patience), total)
     classes = _Classes(problem)
     times = _Counting(classes, problem.kind, deadline).run(jobs or _processors())
     return Occurrences(classes.shared(times), total)
