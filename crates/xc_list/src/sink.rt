@@ -147,12 +147,6 @@ impl Sink for Tray {
 
 /// How many bytes it took, its room, and how many calls failed.
 impl fmt::Debug for Tray {
-    ghost use Rattle.std.specs.Prelude.{◌++◌, Some, codes, length};
-    ghost use Rattle.std.specs.Fmt.{decimal};
-
-    ghost debug_output = { λ s. Some (codes "Tray { bytes: " ++ decimal (length s.bytes.items)
-        ++ codes ", room: " ++ decimal s.room ++ codes ", failures: " ++ decimal s.failures ++ codes " }") };
-
     fn fmt<W: fmt::Write>(&self, f: &mut fmt::Formatter<W>) -> fmt::Result {
         let bytes = self.bytes.len();
         let room = self.room;

@@ -95,12 +95,6 @@ impl Sink for VecSink {
 
 /// How many bytes it took, and how many calls failed.
 impl fmt::Debug for VecSink {
-    ghost use Rattle.std.specs.Prelude.{◌++◌, Some, codes, length};
-    ghost use Rattle.std.specs.Fmt.{decimal};
-
-    ghost debug_output = { λ s. Some (codes "VecSink { bytes: " ++ decimal (length s.bytes.items)
-        ++ codes ", failures: " ++ decimal s.failures ++ codes " }") };
-
     fn fmt<W: fmt::Write>(&self, f: &mut fmt::Formatter<W>) -> fmt::Result {
         let bytes = self.bytes.len();
         let failures = self.failures;
