@@ -40,22 +40,22 @@ examples:
 """
 
 
-# What each command but those of the kinds does, for a list of them: told without loading what does it.
+# What each command but those of the kinds does, for a list of them that loads no command.
 _HELPS = {
     "make": "write a problem",
     "solve": "solve a problem and draw what is found",
     "draw": "draw a listing",
-    "lint": "tell all faults and slips of a problem",
+    "lint": "report all faults and slips of a problem",
     "export": "write a problem for another solver",
     "import": "read another solver's answer as a listing",
-    "why": "tell which items conflict where there is no solution",
+    "why": "report which items conflict where there is no solution",
     "count": "count the solutions of a problem",
     "page": "a local page to type a problem in",
     "search": "count or list all solutions, by all processors or many machines",
-    "status": "tell how far a search is",
+    "status": "report how far a search is",
     "result": "print what a search that is done has found",
     "rows": "print rows at which a search may be cut",
-    "hint": "tell a step that is forced, and why",
+    "hint": "report a step that is forced, and why",
     "minimal": "drop what is given while there is one solution",
 }
 
