@@ -38,7 +38,7 @@ fn add_solution(
 {
     while let Some(choice) = solution.next() {
         if let Some(option) = choice.option {
-            times[option as usize - 1].add_one(alloc)?;
+            times[option as usize - 1].once_more(alloc)?;
         }
     }
     Ok(())

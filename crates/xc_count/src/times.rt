@@ -40,9 +40,9 @@ impl Times {
         }
     }
 
-    /// Adds one.
+    /// Once more.
     #[inline(always)]
-    pub fn add_one(&mut self, alloc: Global) -> Result<(), AllocError>
+    pub fn once_more(&mut self, alloc: Global) -> Result<(), AllocError>
         ensures { OnOk result (self.new ≡ self.old + 1) }
     {
         if self.few == u64::MAX {

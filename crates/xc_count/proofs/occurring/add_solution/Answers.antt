@@ -7,7 +7,7 @@ pub loop-choice-preserved-in-Continue-1 : goal.loop-choice-preserved-in-Continue
 loop-choice-preserved-in-Continue-1 c =
     let m = c.in-Some.choice in
     let q = c.in-Some-option.option in
-    let v = c.add_one.new.self in
+    let v = c.once_more.new.self in
     let d = c.index-times-option.result in
     let s = c.loop-choice.solution in
     let cs = c.next.new.self in
@@ -19,7 +19,7 @@ loop-choice-preserved-in-Continue-1 c =
     record {
       counted = then_counted m q v d s cs ts first some known
           (λ o. get_or c.args.times.now (o - 1) 0 + hit o (options_of c.args.solution)) distinct
-          c.in_ok-add_one.ensures c.loop-choice.invariant.counted;
+          c.in_ok-once_more.ensures c.loop-choice.invariant.counted;
       known = then_known m q v d s cs ts first some known;
       distinct = then_distinct m q v d s cs ts first some known distinct;
       len = length-set _ _ _ ∙ c.loop-choice.invariant.len;
