@@ -1,25 +1,24 @@
 -- Lines that are put one behind another.
-use Rattle.std.proofs.Common.{ℕ, suc, ◌≡◌, ◌<◌, ◌+◌, List, [], ◌∷◌, ◌++◌, length, drop, get_or, sym, ap, ◌∙◌, arith, subst}
-use Rattle.std.proofs.Common.{drop-cons, drop_of_length-le}
+use Rattle.std.proofs.Common.{ℕ, suc, ◌≡◌, ◌<◌, ◌+◌, List, [], ◌∷◌, ◌++◌, length, drop, get_or, sym, ap, ap₂, ◌∙◌, arith}
+use Rattle.std.proofs.Common.{subst, drop-cons, drop_of_length-le}
 use Rattle.std.specs.Prelude.{flat_map}
 use Rattle.std.specs.List.{enumerate_from}
 use Rattle.std.proofs.lemmas.List.{append-nil, append_assoc}
 
 -- the line of an element
-pub line_added : (f : ℕ × ℕ → List ℕ) (k n d : ℕ) (xs text new all : List ℕ) → k < length xs → n ≡ k + 1
-    → new ≡ text ++ f (n, get_or xs k d)
+pub line_added : (f : ℕ × ℕ → List ℕ) (k n x : ℕ) (xs text new all : List ℕ) → k < length xs → n ≡ k + 1
+    → x ≡ get_or xs k x → new ≡ text ++ f (n, x)
     → text ++ flat_map f (enumerate_from (k + 1) (drop k xs)) ≡ all
     → new ++ flat_map f (enumerate_from (k + 1 + 1) (drop (k + 1) xs)) ≡ all
-line_added f k n d xs text new all h number more so =
+line_added f k n x xs text new all h number value more so =
     let next : suc k ≡ k + 1 = omega arith in
-    let first : drop k xs ≡ get_or xs k d ∷ drop (k + 1) xs =
-    drop-cons xs k d h ∙ ap (λ j. get_or xs k d ∷ drop j xs) next in
-    let whole : text ++ f (k + 1, get_or xs k d) ++ flat_map f (enumerate_from (k + 1 + 1) (drop (k + 1) xs)) ≡ all =
+    let first : drop k xs ≡ x ∷ drop (k + 1) xs =
+    drop-cons xs k x h ∙ ap₂ (λ y j. y ∷ drop j xs) (sym value) next in
+    let whole : text ++ (f (k + 1, x) ++ flat_map f (enumerate_from (k + 1 + 1) (drop (k + 1) xs))) ≡ all =
     subst (λ ys. text ++ flat_map f (enumerate_from (k + 1) ys) ≡ all) first so in
-    let here : new ≡ text ++ f (k + 1, get_or xs k d) = more ∙ ap (λ j. text ++ f (j, get_or xs k d)) number in
+    let here : new ≡ text ++ f (k + 1, x) = more ∙ ap (λ j. text ++ f (j, x)) number in
     ap (λ t. t ++ flat_map f (enumerate_from (k + 1 + 1) (drop (k + 1) xs))) here
-    ∙ append_assoc text (f (k + 1, get_or xs k d)) (flat_map f (enumerate_from (k + 1 + 1) (drop (k + 1) xs)))
-    ∙ whole
+    ∙ append_assoc text (f (k + 1, x)) (flat_map f (enumerate_from (k + 1 + 1) (drop (k + 1) xs))) ∙ whole
 
 -- and of no more elements
 pub lines_done : (f : ℕ × ℕ → List ℕ) (k : ℕ) (xs text all : List ℕ) → k ≡ length xs

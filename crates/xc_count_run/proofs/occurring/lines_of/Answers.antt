@@ -8,9 +8,9 @@ loop-number-preserved c =
     let k = c.loop-number.number-index in
     record {
       option = omega (arith, c.loop-number.invariant.option);
-      text = line_added option_line k (c.loop-number.option + 1) 0 c.args.numbers.now c.loop-number.text.items _ _
-          (omega arith) (omega (arith, c.loop-number.invariant.option)) c.in_ok-add_line.ensures
-          c.loop-number.invariant.text;
+      text = line_added option_line k (c.loop-number.option + 1) c.number-item.result c.args.numbers.now
+          c.loop-number.text.items _ _ (omega arith) (omega (arith, c.loop-number.invariant.option)) c.number-item.is
+          c.in_ok-add_line.ensures c.loop-number.invariant.text;
     }
 
 pub returns : goal.returns
