@@ -17,7 +17,12 @@ use xc_list::{Sink, write_all};
 use xc_tools::{flushed, out_of_memory, write_failed};
 
 /// Adds the line of an option.
-fn add_line(alloc: Global, text: &mut Vec<u8>, option: u64, number: &Natural) -> Result<(), AllocError>
+fn add_line(
+    alloc: Global,
+    text: &mut Vec<u8>,
+    option: u64,
+    number: &Natural,
+) -> Result<(), AllocError>
     ensures { OnOk result (text.new.items ≡ text.old.items ++ option_line (option, number.now)) }
 {
     Natural::from_u64(alloc, option).write_decimal(text)?;
