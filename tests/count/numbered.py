@@ -1,5 +1,6 @@
 #!/usr/bin/env python3
-"""numbered.py CASES SEED: solutions by their numbers (`dlx-count K nN`) against the listings of dlx1, dlx2 and dlx3.
+"""numbered.py CASES SEED: solutions by their numbers (`dlx-count K nN`), and in how many solutions each option is
+(`dlx-count K o`), against the listings of dlx1, dlx2 and dlx3.
 
 Random problems of all kinds, up to 20 numbers of each, and one more than there are solutions. Then tilings of 8 by 8
 with dominoes, by a listing of every 500,000th. The last line is `N passed, M failed`.
@@ -10,8 +11,9 @@ import random
 import subprocess
 import sys
 import tempfile
+from collections import Counter
 
-from problems import dominoes, drawn
+from problems import Problem, dominoes, drawn
 from running import HANG, programs
 
 
@@ -47,6 +49,26 @@ def listed(kind: int, text: bytes, spacing: int = 1) -> list[bytes]:
     return solutions
 
 
+def turned(tokens: list[str]) -> tuple[str, ...]:
+    """The tokens of an option as a ring, from the least one on."""
+    least = tokens.index(min(tokens))
+    return (*tokens[least:], *tokens[:least])
+
+
+def lines_of_options(made: Problem, solutions: list[bytes]) -> bytes:
+    """The lines of `o` by a listing, where no two options are alike."""
+    lines = [line for solution in solutions for line in solution.decode().splitlines() if line.startswith(" ")]
+    times = Counter(turned(line.rpartition(" (")[0].split()) for line in lines)
+    primary = {item.rpartition("|")[2] for item in made.primary}
+    kept = [turned(option) for option in made.options if primary.intersection(option)]
+    return "".join(f"{number} {times[option]}\n" for number, option in enumerate(kept, 1)).encode()
+
+
+def are_alike(made: Problem) -> bool:
+    """Whether two options are."""
+    return len({turned(option) for option in made.options}) < len(made.options)
+
+
 def random_problems(cases: int, rng: random.Random, tally: Failed) -> None:
     for case in range(cases):
         made = drawn(rng)
@@ -56,6 +78,9 @@ def random_problems(cases: int, rng: random.Random, tally: Failed) -> None:
         right = tally.expect(
             f"problem {case}, n{last + 1}", output("dlx-count", [str(made.kind), f"n{last + 1}"], text), (5, b"")
         )
+        if not are_alike(made):
+            found = output("dlx-count", [str(made.kind), "o"], text)
+            right &= tally.expect(f"problem {case}, o", found, (0, lines_of_options(made, solutions)))
         for number in sorted(rng.sample(range(1, last + 1), min(last, 20))):
             found = output("dlx-count", [str(made.kind), f"n{number}"], text)
             right &= tally.expect(f"problem {case}, n{number}", found, (0, solutions[number - 1]))
