@@ -156,7 +156,8 @@ tells 'There are fewer than 100000000000000000000 solutions.' dlx_count 3 b0 n10
 A
 A
 END
-tells 'Altogether 1 solution.' dlx_count 2 b0 o <<'END'
+tells 'Option ignored (no primary items): line 2
+Altogether 1 solution.' dlx_count 2 b0 o <<'END'
 A | x
 x
 A x:r
