@@ -13,7 +13,7 @@ import re
 from pathlib import Path
 
 import problems
-from bench import Run
+from bench import CommandRun
 from instructions import text_of
 from page import put
 
@@ -24,7 +24,7 @@ TURNS, MOST = 3, 120
 
 def turn(program: Path, words: list[str], problem: problems.Problem) -> float:
     """The time of a run, which has to give the number of solutions."""
-    done = Run([str(program), *words], MOST, text_of(problem.name))
+    done = CommandRun([str(program), *words], MOST, text_of(problem.name))
     found = re.search(r"^Altogether (\d+) ", done.output, re.M)
     if done.seconds is None or not found or int(found.group(1)) != problem.count:
         raise SystemExit(f"{program.name} on {problem.name}: not {problem.count} solutions within {MOST} seconds")
