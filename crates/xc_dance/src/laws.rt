@@ -1,7 +1,9 @@
 //! What the tables promise of moves and their undoing, as calls whose contracts say it.
-ghost use Rattle.std.specs.Prelude.{◌≡◌, ◌<◌, ℕ, List, ◌∷◌, ◌++◌, AllPairs, IfOk, slice_get};
+ghost use Rattle.std.specs.Prelude.{◌≡◌, ◌+◌, ◌<◌, ◌↔◌, ℕ, List, ◌∷◌, ◌++◌, length, AllPairs};
+ghost use Rattle.std.specs.Prelude.{IfOk, IsOk, OnErr, slice_get};
 ghost use Rattle.xc_input.specs.Laws.{DecidesEquality, IsEqualClone};
 ghost use Rattle.xc_input.specs.Problem.{Puzzle};
+ghost use Rattle.xc_dance.specs.Cost.{cost_of};
 ghost use Rattle.xc_dance.specs.Moves.{IsLegal, listed_numbers, next_above};
 ghost use Rattle.xc_dance.specs.Same.{IsSame};
 ghost use Rattle.xc_dance.specs.declared.dance.Move.{Move};
@@ -9,11 +11,16 @@ ghost use Rattle.xc_dance.specs.declared.dance.Move.{Move};
 use crate::{Count, Dance, Field, Full, Links, Move};
 
 /// Makes a legal move and undoes it. Each field of the tables is then what it was, those of nodes
-/// that no list shows included, and both wrote as many cells. The same where the trail was full.
+/// that no list shows included, and both wrote as many cells. Where the trail is full, nothing changes.
 pub fn there_and_back(links: &mut Links, m: Move) -> Result<(Count, Count), Full>
     requires { IsLegal links.old.puzzle links.old.trail m }
     ensures same { IsSame links.old.puzzle links.old.trail links.new.puzzle links.new.trail }
-    ensures cost { IfOk result (λ counts. counts.0 ≡ counts.1) }
+    ensures cost { IfOk result
+        (λ counts. (counts.0.0 ≡ cost_of links.old.puzzle links.old.trail m) × (counts.1 ≡ counts.0)) }
+    ensures undone { IfOk result (λ counts. links.new ≡ record links.old
+        { undone = links.old.undone + 1; written = links.old.written + counts.0.0 + counts.1.0 }) }
+    ensures full { OnErr result ((links.new ≡ links.old) × (length links.old.trail ≡ links.old.room)) }
+    ensures room { IsOk result ↔ (length links.old.trail < links.old.room) }
 {
     let made = links.apply(m)?;
     let undone = links.undo();

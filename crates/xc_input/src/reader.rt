@@ -93,7 +93,7 @@ impl Reader {
 
     /// Takes one line, without its line feed. The first fault of the text is reported with its line, or
     /// lack of memory; each later call returns the same again. A line that is blank, a comment or has a NUL
-    /// byte takes no memory.
+    /// byte is never refused for lack of memory.
     pub fn line(&mut self, line: &[u8]) -> Result<(), InputError>
         requires { has 10 line.now ≡ false }
         ensures kind { self.new.kind ≡ self.old.kind }
