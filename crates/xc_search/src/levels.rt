@@ -420,8 +420,6 @@ pub fn run<'u, D: Dance, const BOUND: bool, const WAY: bool>(
         mut steps,
     } = fixed::<WAY>(task);
     let mut last = usize::MAX;
-    // A turn looks at its row and its steps where fewer than these are left: at each with a row, else at the last.
-    let watch = if until.is_some() { u64::MAX } else { 1 };
     if BOUND && steps == 0 {
         return halted(Stop::Steps, more, steps);
     }
@@ -435,19 +433,18 @@ pub fn run<'u, D: Dance, const BOUND: bool, const WAY: bool>(
             Next::Nothing => return halted(Stop::Nothing, more, steps),
         }
         if BOUND {
+            // Two tests. One for both took five instructions more a branch in the proved programs.
             steps -= 1;
-            if steps < watch {
-                if let Some(until) = until {
-                    match place_apart(stack.levels(), until) {
-                        Place::Before => {}
-                        // What is left below may reach the row, so it isn't counted at once.
-                        Place::Begins => last = usize::MAX,
-                        Place::Reached => return halted(Stop::Row, more, steps),
-                    }
+            if let Some(until) = until {
+                match place_apart(stack.levels(), until) {
+                    Place::Before => {}
+                    // What is left below may reach the row, so it isn't counted at once.
+                    Place::Begins => last = usize::MAX,
+                    Place::Reached => return halted(Stop::Row, more, steps),
                 }
-                if steps == 0 {
-                    return halted(Stop::Steps, more, steps);
-                }
+            }
+            if steps == 0 {
+                return halted(Stop::Steps, more, steps);
             }
         }
     }

@@ -1,6 +1,5 @@
 use Rattle.std.proofs.Common.{ℕ, ◌≡◌, ◌+◌, ◌<◌, true, false, not, refl, sym, ap, ◌∙◌, arith, inl, inr, List, Option}
 use Rattle.std.specs.Prelude.{nat_eq, option_map}
-use Rattle.core.specs.Option.{is_some}
 use Rattle.std.proofs.lemmas.Bool.Decides.{nat_tests}
 use Rattle.xc_input.proofs.Cases.{by_option}
 use Rattle.xc_search.specs.inner.Spanning.{BeginsBranch, IsRest, IsSeenBy}
@@ -12,7 +11,6 @@ use Rattle.xc_search.proofs.spans.Running.{stands_first, stands_more}
 use Rattle.xc_search.proofs.spans.Runs.{runs_to_steps, runs_to_member, runs_to_end, runs_to_row, seen_rest}
 use Rattle.xc_search.proofs.levels.run.Goals as goal
 use Rattle.xc_search.proofs.levels.run.Goals.{After-enter_branch, After-commit_branch}
-use Rattle.xc_search.proofs.levels.run.Goals.{then-is_some, else-is_some}
 use Rattle.xc_search.proofs.levels.run.Goals.{in-Some+in-Before, in-Some+in-Begins, in_default}
 
 pub loop-entered-init : goal.loop-entered-init
@@ -28,14 +26,6 @@ loop-entered-init g c = record {
   some = λ is. elim c.else-this-ne0.either [
     | inl both ↦ omega (arith, both.1)
     | inr zero ↦ absurd (grind (arith, nat_tests, is, zero))
-  ];
-  watched = elim c.if-is_some.branch [
-    | then-is_some w ↦ (omega (arith, w.watch-is), λ h. absurd (omega (arith, h, w.watch-is)))
-    | else-is_some w ↦ (
-      omega (arith, w.watch-is),
-      λ _. by_option c.fixed-early.result.until (λ e. e)
-          (λ v e. absurd (cc (sym (ap is_some e) ∙ sym c.is_some.ensures ∙ w.if-is_some.false))),
-    )
   ];
   pays = λ _. record { ends = refl; due = omega arith };
 }
@@ -120,10 +110,6 @@ pub loop-entered-smaller-else-steps-eq0-2 : goal.loop-entered-smaller-else-steps
 loop-entered-smaller-else-steps-eq0-2 g c =
     (begins g (goal.at.loop-entered-smaller-else-steps-eq0-2 g c).After-commit_branch _ c.loop-entered.invariant.rest).less
 
-pub loop-entered-smaller-else-steps-watch : goal.loop-entered-smaller-else-steps-watch
-loop-entered-smaller-else-steps-watch g c =
-    (begins g (goal.at.loop-entered-smaller-else-steps-watch g c).After-commit_branch _ c.loop-entered.invariant.rest).less
-
 pub loop-entered-smaller : goal.loop-entered-smaller
 loop-entered-smaller g c =
     (begins g (goal.at.loop-entered-smaller g c).After-commit_branch _ c.loop-entered.invariant.rest).less
@@ -153,28 +139,6 @@ loop-entered-preserved-else-steps-eq0-2 g c =
       far = λ h. absurd (omega (arith, h));
       same = s.same;
       some = λ _. omega (arith, c.if-steps-eq0-2.false);
-      watched = s.watched;
-      pays = λ one. Pays-trans (s.pays one) (rw c.commit_branch.ensures (c.enter_branch.ensures.entered_pays
-          c.in-Branch.entered c.in-Branch.is one));
-    }
-
-pub loop-entered-preserved-else-steps-watch : goal.loop-entered-preserved-else-steps-watch
-loop-entered-preserved-else-steps-watch g c =
-    let on = (goal.at.loop-entered-preserved-else-steps-watch g c).After-commit_branch in
-    let at = (goal.at.loop-entered-preserved-else-steps-watch g c).After-enter_branch in
-    let s = c.loop-entered.invariant in
-    let bound : not (nat_eq g.row.BOUND 0) ≡ true = grind (arith, nat_tests, c.if-this-ne0-2.true) in
-    let some : 0 < c.loop-entered.steps = going g at bound in
-    record {
-      begun = s.begun + 1;
-      count = λ is. omega (arith, s.count is, some);
-      stands = λ u is. stands_more (s.stands u is) (begins g on u (rest g at u is));
-      rest = rw (← s.same, s.watched.1 (omega (arith, c.if-steps-watch.false, c.loop-entered.auto.steps-fits, some)))
-          (rest_of_all c.commit_branch.new.self.puzzle c.enter_branch.new.stack.levels _ _);
-      far = λ h. absurd (omega (arith, h));
-      same = s.same;
-      some = λ _. omega (arith, s.watched.0, c.if-steps-watch.false);
-      watched = s.watched;
       pays = λ one. Pays-trans (s.pays one) (rw c.commit_branch.ensures (c.enter_branch.ensures.entered_pays
           c.in-Branch.entered c.in-Branch.is one));
     }
@@ -194,7 +158,6 @@ loop-entered-preserved g c =
       far = λ h. absurd (omega (arith, h));
       same = s.same;
       some = λ is. absurd (cc (is, free));
-      watched = s.watched;
       pays = λ one. Pays-trans (s.pays one) (rw c.commit_branch.ensures (c.enter_branch.ensures.entered_pays
           c.in-Branch.entered c.in-Branch.is one));
     }

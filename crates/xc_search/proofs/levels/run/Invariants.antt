@@ -1,4 +1,4 @@
-use Rattle.std.proofs.Common.{ℕ, ◌≡◌, ◌+◌, ◌-◌, ◌≤◌, ◌<◌, None, true, not, List, Option}
+use Rattle.std.proofs.Common.{ℕ, ◌≡◌, ◌+◌, ◌-◌, ◌≤◌, ◌<◌, true, not, List, Option}
 use Rattle.std.specs.Prelude.{nat_eq, option_map, ◌^◌}
 use Rattle.xc_search.specs.inner.Ahead.{ahead}
 use Rattle.xc_search.specs.inner.Due.{Pays}
@@ -18,7 +18,6 @@ invariant-loop-entered g l = record {
   far : begun ≡ 0 → 2 ^ 64 - 1 ≤ l.last;
   same : l.until ≡ l.initial.until;
   some : not (nat_eq g.row.BOUND 0) ≡ true → 0 < l.steps;
-  watched : (0 < l.watch) × (l.watch < 2 ^ 64 - 1 → l.until ≡ None);
   pays : l.first ≡ 1 → Pays l.initial.position l.initial.stack true l.initial.more l.position l.stack true l.more;
 }
 
