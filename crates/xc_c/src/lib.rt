@@ -1,8 +1,7 @@
 //! Exact cover problems for C, and for all that calls C: calls on numbers and bytes, whose header is
-//! `bindings/c/helgrothy.h`. Each returns a status: 0 where all was done, 1 for a number of no kind, 2 for a text
-//! with a fault, 3 where a listing or a number is longer than its buffer, 4 for lack of memory, 5 where a search met its limit.
-//! Names and colours are hashed by the seed, and the answer is the same by each.
-//!
+//! `bindings/c/helgrothy.h`. Each returns a status: 0 where all was done, 1 for a number of no kind, 2 for a text with
+//! a fault, 3 where a listing or a number is longer than its buffer, 4 for lack of memory, 5 where a search met its
+//! limit. Names and colours are hashed by the seed, and the answer is the same by each.
 //! A call keeps nothing: no handle to a search and the problem that it borrows can be both exported and proved
 //! (`docs/DECISIONS.md`).
 #![tactic(auto)]
@@ -86,9 +85,9 @@ pub extern "C" fn helgrothy_count(
     }
 }
 
-/// How many solutions the problem of a text has, in decimal, whatever their number: by a count of states beside a search
-/// (`xc_count::count`), whose states take about so many bytes at most. The first digits are put into the buffer, as many
-/// as there is room for, and counted; what is left of the buffer stays as it was.
+/// How many solutions the problem of a text has, in decimal, whatever their number: by a count of states beside a
+/// search (`xc_count::count`), whose states take about so many bytes at most. The first digits are put into the buffer,
+/// as many as there is room for, and counted; what is left of the buffer stays as it was.
 #[unsafe(no_mangle)]
 pub extern "C" fn helgrothy_total(
     alloc: Global,

@@ -103,7 +103,8 @@ module _ (c : Choice) (q v d : ℕ) (s cs : List Choice) (ts : List ℕ) (first 
 
 -- numbers that are, for each option, what f makes of its number
 pub of_each : (f : ℕ → ℕ) (k : ℕ) (us : List (List Use)) (ts : List ℕ) → length ts ≡ length us
-    → ((i : ℕ) → i < length us → get_or ts i 0 ≡ f (k + i)) → ts ≡ map (λ (x : Numbered). f x.number) (numbered_from k us)
+    → ((i : ℕ) → i < length us → get_or ts i 0 ≡ f (k + i))
+    → ts ≡ map (λ (x : Numbered). f x.number) (numbered_from k us)
 of_each f k [] [] e h = refl
 of_each f k [] (t ∷ ts) e h = absurd (omega (arith, e))
 of_each f k (u ∷ us) [] e h = absurd (omega (arith, e))

@@ -91,9 +91,9 @@ fn occurrences_by_plan(
     occurrences_by_states(alloc, problem, &plan, bound)
 }
 
-/// In how many solutions each option is, in the order of the file. It goes over the states of a sweep twice, so it makes
-/// no solution. If an item has other bounds than `1:1`, or the states would take more than about `bound` bytes, it
-/// searches through all solutions.
+/// In how many solutions each option is, in the order of the file. It goes over the states of a sweep twice, so it
+/// makes no solution. If an item has other bounds than `1:1`, or the states would take more than about `bound` bytes,
+/// it searches through all solutions.
 ///
 /// # Errors
 /// `Memory` where there is none for the search's tables or the numbers.

@@ -124,14 +124,14 @@ fn answer_read<O: Sink, E: Sink>(
 }
 
 /// A whole run: reads the words, then the problem, and counts its covers, in all or those of each option, or finds the
-/// solution of a number. The words are `1`, `2` or `3` for the program that the problem is written for, perhaps `b` with
-/// the most megabytes that the states of a sweep may take, and perhaps `o`, or `n` with the number of a solution. Where
-/// so much memory is not enough, a search goes on alone. Without `n` the number of covers is written to `err`, with `o`
-/// after a line for each option to `out`: its number and in how many covers it is. With `n` the solution of that number
-/// is written to `out`, as a whole listing would have it. Messages go to `err`. It returns the status: 0 where the
-/// answer was printed, 1 for other words, 2 for a fault of the problem, 3 where a read or a write failed, 4 where memory
-/// ran out, 5 where there are fewer solutions than `n` says. Names are hashed by the input's seed.
-pub fn count_covers<S: Source, O: Sink, E: Sink>(
+/// solution of a number. The words are `1`, `2` or `3` for the program that the problem is written for, perhaps `b`
+/// with the most megabytes that the states of a sweep may take, and perhaps `o`, or `n` with the number of a solution.
+/// Where so much memory is not enough, a search goes on alone. Without `n` the number of covers is written to `err`,
+/// with `o` after a line for each option to `out`: its number and in how many covers it is. With `n` the solution of
+/// that number is written to `out`, as a whole listing would have it. Messages go to `err`. It returns the status: 0
+/// where the answer was printed, 1 for other words, 2 for a fault of the problem, 3 where a read or a write failed, 4
+/// where memory ran out, 5 where there are fewer solutions than `n` says. Names are hashed by the input's seed. fn
+/// count_covers<S: Source, O: Sink, E: Sink>(
     alloc: Global,
     words: &[Vec<u8>],
     input: &mut S,

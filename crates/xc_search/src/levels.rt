@@ -2,8 +2,8 @@
 //!
 //! Walks, spans and the way to a span's first row have one loop, `run`, by two constant parameters. At each turn it
 //! looks at what is below first. A search that is at a solution finds it again, as the first that it passes over, so
-//! that no flag says whether what is left was searched. By `WAY` the large functions of the way are others than those of
-//! the search, of which each then has one call and is inlined; a parameter at run time took 2 % of a span's
+//! that no flag says whether what is left was searched. By `WAY` the large functions of the way are others than those
+//! of the search, of which each then has one call and is inlined; a parameter at run time took 2 % of a span's
 //! instructions.
 //!
 //! Where the next choice is known to be the last, its solutions are counted and not made (`SEARCH.md`). That saves 11 %

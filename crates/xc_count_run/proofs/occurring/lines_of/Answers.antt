@@ -14,5 +14,5 @@ loop-number-preserved c =
     }
 
 pub returns : goal.returns
-returns c = lines_done option_line c.loop-number.number-index c.args.numbers.now c.loop-number.text.items _ (omega arith)
-    c.loop-number.invariant.text
+returns c = lines_done option_line c.loop-number.number-index c.args.numbers.now c.loop-number.text.items _
+    (omega arith) c.loop-number.invariant.text

@@ -108,7 +108,8 @@ returns-in-Reached-clause-ran g c = rw (← c.fixed-early.ensures) (λ u is.
 
 pub loop-entered-smaller-else-steps-eq0-2 : goal.loop-entered-smaller-else-steps-eq0-2
 loop-entered-smaller-else-steps-eq0-2 g c =
-    (begins g (goal.at.loop-entered-smaller-else-steps-eq0-2 g c).After-commit_branch _ c.loop-entered.invariant.rest).less
+    let on = (goal.at.loop-entered-smaller-else-steps-eq0-2 g c).After-commit_branch in
+    (begins g on _ c.loop-entered.invariant.rest).less
 
 pub loop-entered-smaller : goal.loop-entered-smaller
 loop-entered-smaller g c =
