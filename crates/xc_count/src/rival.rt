@@ -1,5 +1,5 @@
 //! A search that counts beside a sweep, turn by turn.
-ghost use Rattle.std.specs.Prelude.{◌≡◌, length, IfOk};
+ghost use Rattle.std.specs.Prelude.{◌≡◌, ◌<◌, length, IfOk};
 ghost use Rattle.xc_search.specs.Cover.{members};
 
 use crate::metered::{Metered, SAMPLE};
@@ -14,11 +14,16 @@ use xc_search::{Halt, Span};
 // Work is told in about nanoseconds.
 
 /// The work of the sweep before the search has its first turn.
-pub const FIRST_WORK: u64 = 15_000_000;
+pub const FIRST_WORK: u64 = 17_000_000;
 /// The work of a turn of the search, about.
 const TURN_WORK: u64 = 4_000_000;
-/// How much more of the work the search does than the sweep.
+/// How much more of the work the search does than the sweep, before its own work is `LONG_WORK` and from then on. A sweep
+/// of many states takes more time than its work says, since most of them are in no cache.
 const ODDS: u64 = 5;
+
+const LONG_ODDS: u64 = 8;
+
+const LONG_WORK: u64 = 250_000_000;
 /// The branches of the first turn.
 const FIRST_BRANCHES: u64 = 64;
 /// The work of a branch beside that of going over options.
@@ -44,6 +49,8 @@ pub struct Rival<'a> {
     branches: u64,
     /// How much work the sweep does until the search has its next turn.
     left: u64,
+    /// How much work its turns were.
+    done: u64,
 }
 
 impl<'a> Model for Rival<'a> {
@@ -74,6 +81,13 @@ fn option_work(problem: &Problem) -> u64 {
     };
     let uses = problem.uses() as u64;
     (SAMPLE * use_work).saturating_mul(uses) / u64::from(problem.options()).max(1)
+}
+
+/// How much more of the work the search does than the sweep, once it did so much.
+fn odds(done: u64) -> u64
+    ensures { 0 < result }
+{
+    if done < LONG_WORK { ODDS } else { LONG_ODDS }
 }
 
 /// How many branches the next turn begins, after one of so many that was so much work.
@@ -111,6 +125,7 @@ impl<'a> Rival<'a> {
                 passed: 0,
                 branches: FIRST_BRANCHES,
                 left: FIRST_WORK,
+                done: 0,
             }),
             Err((_, memory)) => Err(memory),
         }
@@ -129,6 +144,7 @@ impl<'a> Rival<'a> {
             .saturating_mul(BRANCH_WORK)
             .saturating_add(options.saturating_mul(self.option_work));
         self.branches = next_branches(self.branches, work);
+        self.done = self.done.saturating_add(work);
         (work, went.halt == Halt::End)
     }
 
@@ -156,7 +172,7 @@ impl<'a> Rival<'a> {
             return false;
         }
         let (done, has_ended) = self.turn();
-        self.left = done / ODDS;
+        self.left = done / odds(self.done);
         has_ended
     }
 
@@ -171,6 +187,7 @@ impl<'a> Rival<'a> {
             passed,
             branches: _,
             left: _,
+            done: _,
         } = self;
         let mut count = Natural::from_u64(alloc, passed);
         loop {
