@@ -14,6 +14,7 @@ pub mod SmallRows
 pub mod SpanGoing
 pub mod SpanLemmas
 pub mod SpanWhole
+pub mod SpanWork
 pub mod TextLemmas
 pub mod Writing
 pub mod WordLemmas

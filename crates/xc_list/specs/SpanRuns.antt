@@ -1,9 +1,11 @@
 -- How far a run over a span comes, and what it wrote.
 use Rattle.std.specs.Prelude.{ℕ, ◌^◌, ◌-◌, ◌<◌, ◌≤◌, ◌≡◌, ◌⊎◌, ◌==◌, false, List, Option, Some, None, IfSome, length}
-use Rattle.std.specs.Prelude.{true, Result, Ok, Err, if◌then◌else◌}
+use Rattle.std.specs.Prelude.{◌+◌, ◌*◌, true, Result, Ok, Err, if◌then◌else◌}
 use Rattle.xc_input.specs.Problem.{Puzzle}
 use Rattle.xc_input.specs.Named.{Named}
 use Rattle.xc_search.specs.Listing.{whole}
+use Rattle.xc_search.specs.Nodes.{longest_row}
+use Rattle.xc_search.specs.Room.{room_for}
 use Rattle.xc_search.specs.Spans.{precedes, between}
 use Rattle.xc_search.specs.InSpan.{branches_along}
 use Rattle.xc_search.specs.declared.span.Went.{Went}
@@ -59,3 +61,10 @@ AnswersSpan a asked old new (Err e) = elim e [
   | Memory ↦ new ≡ old
   | WriteFailed ↦ (went : Went) × OfSpan a asked went BrokeOff old.state new.state
 ]
+
+-- A run over a span that went so took its dance from so many moves ever made to so many: for each of its steps and each
+-- number of its first row, and for each member as often as a row has numbers and twice more, no more than can be on the
+-- trail at once.
+abbrev pub SpanMakesFew : Puzzle → AskedSpan → ℕ → ℕ → Went → Type 0
+SpanMakesFew p asked old new went = new ≤ old + room_for p
+    * (2 * length asked.from + went.steps + (longest_row p + 2) * (went.members + 1) + 2)

@@ -1,5 +1,6 @@
 //! What the definitions say of worked problems and words.
 ghost use Rattle.std.specs.Prelude.{ℕ, ◌≡◌, ◌↔◌, true, ◌<◌, ◌-◌, ◌^◌, All, List, [], ◌∷◌, ◌++◌, codes, Ok, Err, Some};
+ghost use Rattle.xc_input.specs.Laws.{DecidesEquality, IsEqualClone};
 ghost use Rattle.xc_input.specs.Named.{Named, IsSound};
 ghost use Rattle.xc_list.specs.Digests.{problem_numbers};
 ghost use Rattle.xc_list.specs.Messages.{summary_text};
@@ -14,8 +15,10 @@ ghost use Rattle.xc_list.specs.declared.words.WordFault.TheVariants.{Unknown, Ba
 
 use crate::checker::{ListingFault, Verdict};
 use crate::runs::End;
+use crate::sink::WriteFailed;
 use crate::spans::SpanFault;
 use crate::words::{WordFault, Words};
+use crate::write::SinkFault;
 
 /// Two ends of runs are equal exactly if they are the same.
 pub fn equal_ends(a: &End, b: &End) -> bool
@@ -58,6 +61,22 @@ pub fn equal_span_faults(a: &SpanFault, b: &SpanFault) -> bool
 {
     a == b
 }
+
+/// Two failures of a sink are equal.
+pub fn equal_failures()
+    ensures writes { DecidesEquality ⟦<WriteFailed as PartialEq>⟧.eq }
+    ensures sinks { DecidesEquality ⟦<SinkFault as PartialEq>⟧.eq }
+{}
+
+/// A clone of a value of any of these types is equal to it.
+pub fn clones()
+    ensures ends { IsEqualClone ⟦<End as Clone>⟧.is_clone }
+    ensures verdicts { IsEqualClone ⟦<Verdict as Clone>⟧.is_clone }
+    ensures words { IsEqualClone ⟦<Words as Clone>⟧.is_clone }
+    ensures word_faults { IsEqualClone ⟦<WordFault as Clone>⟧.is_clone }
+    ensures listing_faults { IsEqualClone ⟦<ListingFault as Clone>⟧.is_clone }
+    ensures span_faults { IsEqualClone ⟦<SpanFault as Clone>⟧.is_clone }
+{}
 
 /// The outputs and the ends of worked problems.
 pub fn worked_texts()

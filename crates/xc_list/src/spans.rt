@@ -1,6 +1,7 @@
 //! A span of a listing, as far as a search of it goes.
 ghost use Rattle.std.specs.Prelude.{◌≡◌, ◌++◌, ◌-◌, ◌^◌, ◌<◌, ◌≤◌, [], All, MatchResult, map, flat_map, IfSome};
-ghost use Rattle.std.specs.Prelude.{take, codes};
+ghost use Rattle.std.specs.Prelude.{◌+◌, IfOk, take, codes};
+ghost use Rattle.xc_dance.specs.Dancing.{moves_made};
 ghost use Rattle.xc_search.specs.Room.{room_for};
 ghost use Rattle.xc_search.specs.InSpan.{left_of};
 ghost use Rattle.xc_search.specs.Listing.{whole};
@@ -13,10 +14,10 @@ ghost use Rattle.xc_list.specs.SpanTexts.{problem_part};
 ghost use Rattle.xc_list.specs.Digests.{digest_of};
 ghost use Rattle.xc_list.specs.SearchedSpans.{AreSmall};
 ghost use Rattle.xc_list.specs.SpanWords.{asked_of};
-ghost use Rattle.xc_list.specs.SpanRuns.{most_steps, OfSpan, AnswersSpan};
+ghost use Rattle.xc_list.specs.SpanRuns.{most_steps, OfSpan, AnswersSpan, SpanMakesFew};
 ghost use Rattle.xc_list.specs.inner.SpanSteps.{dotted, numbers_text, text_at, row_in, branches_in, until_text};
 ghost use Rattle.xc_list.specs.inner.SpanSteps.{counts_text, rows_text, told_text, WentOn, BeginsAt, written_text};
-ghost use Rattle.xc_list.specs.inner.SpanSteps.{SpanWritten};
+ghost use Rattle.xc_list.specs.inner.SpanSteps.{GoesFew, SpanWritten};
 
 use crate::bodies::Bodies;
 use crate::digest::problem_digest;
@@ -230,6 +231,7 @@ fn write_each<'a, D: Dance, S: Sink>(
       begun = span.new.begun;
     } }
     ensures node { IfSome span.new.row (λ row. IsRowOf (whole span.new.puzzle) row) }
+    ensures few { IfOk result (λ went. GoesFew (went.members + 1) went.steps span.old span.new) }
     ensures wrote { MatchResult result
         (λ went. WentOn span.old.puzzle span.old.until span.old.row span.new.row most went ×
         Took (S.state sink.old) (S.state sink.new)
@@ -277,6 +279,7 @@ fn write_listing<'a, D: Dance, S: Sink>(
       begun = span.new.begun;
     } }
     ensures node { IfSome span.new.row (λ row. IsRowOf (whole span.new.puzzle) row) }
+    ensures few { IfOk result (λ went. GoesFew (went.members + 1) went.steps span.old span.new) }
     ensures wrote { MatchResult result
         (λ went. WentOn span.old.puzzle span.old.until span.old.row span.new.row most went ×
         Took (S.state sink.old) (S.state sink.new)
@@ -298,6 +301,7 @@ fn count<'a, D: Dance>(span: &mut Span<'a, D>, most: u64) -> Went
       begun = span.new.begun;
     } }
     ensures node { IfSome span.new.row (λ row. IsRowOf (whole span.new.puzzle) row) }
+    ensures few { GoesFew (result.members + 1) result.steps span.old span.new }
     ensures went { WentOn span.old.puzzle span.old.until span.old.row span.new.row most result }
 {
     span.go_on(u64::MAX, most)
@@ -320,6 +324,7 @@ fn write_wanted<'a, D: Dance, S: Sink>(
     } }
     ensures node { IfSome span.new.row (λ row. IsRowOf (whole span.new.puzzle) row) }
     ensures small { words.now.steps < 2 ^ 64 }
+    ensures few { IfOk result (λ went. GoesFew (went.members + 1) went.steps span.old span.new) }
     ensures wrote { MatchResult result
         (λ went. WentOn span.old.puzzle span.old.until span.old.row span.new.row
         (most_steps words.now.steps) went × Took (S.state sink.old) (S.state sink.new)
@@ -361,6 +366,7 @@ fn write_span<'a, D: Dance, S: Sink>(
       made = span.new.made;
       begun = span.new.begun;
     } }
+    ensures few { IfOk result (λ went. GoesFew (went.members + 1) went.steps span.old span.new) }
     ensures wrote { SpanWritten texts.now.bodies (asked_of words.now) (S.state sink.old) (S.state sink.new) result }
 {
     let went = write_wanted(span, texts, words, sink)?;
@@ -387,6 +393,8 @@ pub fn list_span_over<D: Dance, S: Sink>(
     requires none { (D.state dance).trail ≡ [] }
     requires room { room_for problem.now.puzzle ≤ (D.state dance).room }
     ensures dance { D.state result.0 ≡ record (D.state dance) { undone = (D.state result.0).undone } }
+    ensures moves { IfOk result.1 (SpanMakesFew problem.now.puzzle (asked_of words.now)
+        (moves_made (D.state dance)) (moves_made (D.state result.0))) }
     ensures span { AnswersSpan problem.now (asked_of words.now)
         (seen S.state sink.old) (seen S.state sink.new) result.1 }
 {

@@ -1,6 +1,7 @@
 //! Laws of the listing: its members are the covers, each once, and those of its spans in turn.
 ghost use Rattle.std.specs.Prelude.{ℕ, ◌≡◌, ◌<◌, ◌↔◌, List, [], ◌∷◌, ◌++◌, map, count_by, length, Some, None};
 ghost use Rattle.std.specs.Prelude.{Option, IfSome, AllPairs, true, false};
+ghost use Rattle.xc_input.specs.Laws.{IsEqualClone};
 ghost use Rattle.xc_input.specs.Problem.{Puzzle, IsValid};
 ghost use Rattle.xc_search.specs.Listing.{Residual, whole, branch_item, level, listing};
 ghost use Rattle.xc_search.specs.Ends.{ends};
@@ -14,7 +15,7 @@ ghost use Rattle.xc_search.specs.Nodes.{IsRowOf, RowsGoOn, row_count};
 use crate::choice::Choice;
 use crate::marks::Mark;
 use crate::search::Step;
-use crate::span::{RowNumber, Went};
+use crate::span::{Halt, RowNumber, Went};
 
 /// The listing is one level over itself.
 pub fn listing_unrolls()
@@ -80,6 +81,16 @@ pub fn equal_row_numbers(a: &RowNumber, b: &RowNumber) -> bool
 {
     a == b
 }
+
+/// A clone of a value of any of these types is equal to it.
+pub fn clones()
+    ensures choices { IsEqualClone ⟦<Choice as Clone>⟧.is_clone }
+    ensures marks { IsEqualClone ⟦<Mark as Clone>⟧.is_clone }
+    ensures steps { IsEqualClone ⟦<Step as Clone>⟧.is_clone }
+    ensures halts { IsEqualClone ⟦<Halt as Clone>⟧.is_clone }
+    ensures ways { IsEqualClone ⟦<Went as Clone>⟧.is_clone }
+    ensures numbers { IsEqualClone ⟦<RowNumber as Clone>⟧.is_clone }
+{}
 
 /// The members of a listing are in the order of their rows.
 pub fn rows_rise()

@@ -1,12 +1,14 @@
 //! What messages say of where a fault is.
-ghost use Rattle.std.specs.Prelude.{◌≡◌, ◌<◌, ◌++◌, IfOk, OnOk, flat_map, map, option_copied};
+ghost use Rattle.std.specs.Prelude.{◌≡◌, ◌<◌, ◌++◌, IfOk, OnOk, flat_map, length, map, option_copied, slice_get};
 ghost use Rattle.xc_tools.specs.ShownNames.{hex_digit, is_unescaped, shown_byte, source_text, IsSource};
 
 use std::alloc::{AllocError, Global};
 
 /// The name of the file with this number, from 0, or none where no file is named.
 pub(crate) fn source_at(files: &[Vec<u8>], number: usize) -> Option<&[u8]>
-    ensures { IsSource (map (λ w. w.items) files.now) (option_copied result) }
+    ensures named { IsSource (map (λ w. w.items) files.now) (option_copied result) }
+    ensures numbered { number < length files.now → option_copied result
+        ≡ slice_get (map (λ w. w.items) files.now) number }
 {
     if files.is_empty() {
         return None;

@@ -4,12 +4,13 @@ use Rattle.std.specs.Prelude.{Option, Some, None, IfSome, IsSomeAnd, unwrap_or, 
 use Rattle.xc_input.specs.Problem.{Puzzle}
 use Rattle.xc_search.specs.Listing.{whole}
 use Rattle.xc_search.specs.Spans.{precedes, between}
-use Rattle.xc_search.specs.Nodes.{IsRowOf}
+use Rattle.xc_search.specs.Nodes.{IsRowOf, longest_row}
+use Rattle.xc_search.specs.Room.{room_for}
 use Rattle.xc_search.specs.InSpan.{InSpan, left_of, row_or_end, branches_along}
 use Rattle.xc_search.specs.declared.span.Halt.{Halt}
 use Rattle.xc_search.specs.declared.span.Went.{Went}
 use Rattle.xc_search.specs.declared.span.Halt.TheVariants.{Member, End, Steps}
-use Rattle.std.specs.Prelude.{Bool, IsSome, option_map, Result, MatchResult}
+use Rattle.std.specs.Prelude.{◌+◌, ◌*◌, Bool, IsSome, option_map, Result, MatchResult}
 use Rattle.xc_input.specs.Named.{Named}
 use Rattle.xc_search.specs.declared.choice.Choice.{Choice}
 use Rattle.xc_list.specs.SpanTexts.{row_text, listing_text, problem_part}
@@ -87,3 +88,8 @@ pub record BeginsAt (p : Puzzle) (from : List ℕ) (end : Option (List ℕ)) (s 
 abbrev pub SpanWritten : {E : Type 0} → Named → AskedSpan → SinkState → SinkState → Result Went E → Type 0
 SpanWritten a asked old new r = MatchResult r (λ went. OfSpan a asked went Took old new)
     (λ _. (went : Went) × OfSpan a asked went BrokeOff old new)
+
+-- From s to n a search that was asked so often to go on took so many steps, and few moves.
+pub record GoesFew (calls steps : ℕ) (s n : InSpan) : Type 0 where
+  pub moves : n.made + room_for s.puzzle * s.begun ≤ s.made + room_for s.puzzle * (n.begun + 2 * calls)
+  pub begun : n.begun ≤ s.begun + steps + longest_row s.puzzle * calls

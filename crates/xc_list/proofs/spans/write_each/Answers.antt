@@ -1,4 +1,4 @@
-use Rattle.std.proofs.Common.{◌≡◌, ◌-◌, ◌^◌, ◌∷◌, refl, arith, drop, inl, inr}
+use Rattle.std.proofs.Common.{◌≡◌, ◌-◌, ◌^◌, ◌∷◌, refl, ap, arith, drop, inl, inr}
 use Rattle.std.specs.Prelude.{All}
 use Rattle.xc_search.specs.InSpan.{left_of}
 use Rattle.xc_search.specs.declared.span.Halt.TheVariants.{Member}
@@ -10,6 +10,7 @@ use Rattle.xc_list.proofs.SpanLemmas.{texts_broke_all}
 use Rattle.xc_list.proofs.Writing.{took_nothing, then_took, if_failed}
 use Rattle.xc_list.proofs.SpanGoing.{Called, none_passed, called, to_member, to_end, to_steps}
 use Rattle.xc_list.proofs.SpanGoing.{at_most_members, halts}
+use Rattle.xc_list.proofs.SpanWork.{few_none, few_next, few_more}
 use Rattle.xc_list.proofs.spans.write_each.Goals as goal
 use Rattle.xc_list.proofs.spans.write_each.Goals.{After-go_on-went}
 
@@ -26,7 +27,13 @@ next g c is = (to_member _ _ _ _ _ _ _ _ _ _ _ c.loop-members.invariant.ahead (w
 
 pub loop-members-init : goal.loop-members-init
 loop-members-init g c =
-    record { still = refl; node = c.requires.node; ahead = none_passed _ _ _ _; taken = took_nothing _ }
+    record {
+      still = refl;
+      node = c.requires.node;
+      ahead = none_passed _ _ _ _;
+      few = few_none _;
+      taken = took_nothing _;
+    }
 
 pub write_afresh-requires-clause-known : goal.write_afresh-requires-clause-known
 write_afresh-requires-clause-known g c =
@@ -49,6 +56,8 @@ returns-in_default g c =
     record {
       still = grind arith;
       node = c.go_on-went.ensures.comes.node;
+      few = few_next _ _ _ _ _ _ _ _ (ap (λ s. s.puzzle) c.loop-members.invariant.still)
+          c.loop-members.invariant.few c.go_on-went.ensures;
       wrote = (
         elim (halts c.go_on-went.result.halt c.in_default.not-Member) [
           | inl is ↦ to_end _ _ _ _ _ _ _ _ _ _ _ ahead went is
@@ -68,6 +77,8 @@ loop-members-preserved g c =
       node = at.go_on-went.ensures.comes.node;
       ahead = (to_member _ _ _ _ _ _ _ _ _ _ _ c.loop-members.invariant.ahead (went g at)
           c.in-Member.is).1;
+      few = few_next _ _ _ _ _ _ _ _ (ap (λ s. s.puzzle) at.loop-members.invariant.still)
+          at.loop-members.invariant.few at.go_on-went.ensures;
       taken = rw (texts_next (member_text c.args.bodies.now) ms c.loop-members.members (next g at c.in-Member.is))
           (then_took
           c.loop-members.invariant.taken text);
@@ -81,3 +92,6 @@ returns-clause-wrote g c =
       rw all at
           c.loop-members.invariant.taken,
     )
+
+pub returns-clause-few : goal.returns-clause-few
+returns-clause-few g c = few_more _ _ _ _ _ (grind arith) c.loop-members.invariant.few

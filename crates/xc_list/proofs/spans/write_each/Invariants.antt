@@ -4,6 +4,7 @@ use Rattle.xc_search.specs.Nodes.{IsRowOf}
 use Rattle.xc_search.specs.InSpan.{left_of}
 use Rattle.xc_list.specs.Output.{member_text}
 use Rattle.xc_list.specs.Texts.{Took}
+use Rattle.xc_list.specs.inner.SpanSteps.{GoesFew}
 use Rattle.xc_list.proofs.Outputs.{first_texts}
 use Rattle.xc_list.proofs.SpanGoing.{IsAhead}
 use Rattle.std.proofs.Common.{◌≡◌}
@@ -16,6 +17,7 @@ invariant-loop-members g l = record {
       { row = l.span.row; shown = l.span.shown; made = l.span.made; begun = l.span.begun };
   node : IfSome l.span.row (λ row. IsRowOf (whole l.span.puzzle) row);
   ahead : IsAhead l.fn.span.puzzle l.fn.span.until l.fn.span.row l.span.row l.most l.members l.steps;
+  few : GoesFew l.members l.steps l.fn.span l.span;
   taken : Took (g.S.Sink.state l.fn.sink) (g.S.Sink.state l.sink)
       (first_texts (member_text l.bodies) (left_of l.fn.span) l.members);
 }

@@ -9,7 +9,7 @@ contains-map : {X Y : Type 0} (f : X → Y) (xs : List X) (k : ℕ) (x : X) (y :
 contains-map f xs k x y below at is =
     (k, omega (arith, length-map xs f), get_or-map f xs k x y below ∙ ap f (sym at) ∙ sym is)
 
-pub returns : goal.returns
-returns c =
+pub returns-clause-named : goal.returns-clause-named
+returns-clause-named c =
     let below : c.min.result < length c.args.files.now = grind (arith, nat_tests) in
     contains-map _ _ c.min.result _ _ below c.index-files-min.is c.as_slice.ensures.value
