@@ -1,13 +1,14 @@
-"""The solution whose options cost least in all: by clasp or, where the path hasn't it, by dlx3, or by `states`.
+"""The solution whose options cost least in all: by clasp or, where the path hasn't it, by dlx3, `prices` or `states`.
 
 dlx3 has bounds and no sums. So each item gets a price such that no option costs less than the prices of its items. What
 an option costs beyond these is its surplus; a solution costs the prices and the surpluses. If it is to cost less than
 the best one so far, the surpluses leave so much room, and at most m of its options have a surplus of more than the room
 divided by m + 1. These are bounds. Each solution that costs less narrows them; when none is left the last one is least.
 
-Where that takes more than a second, a sweep over states goes on beside it, until one of them ends. Dominoes on 8 by 8
-with random costs took dlx3 five seconds and the sweep a thirtieth of one; a roster with bounds is for the others alone.
-Whoever it is says by itself that no solution costs less; that it is a solution is judged.
+Where that takes more than a second, a sweep over states goes on beside it, and prices that may show that the best one
+so far is least, until one of them ends. Dominoes on 8 by 8 with random costs took dlx3 five seconds and the sweep a
+thirtieth of one; a roster with bounds is for the others alone. Whoever it is says by itself that no solution costs
+less; that it is a solution is judged.
 """
 
 from __future__ import annotations
@@ -23,6 +24,7 @@ from typing import Any, TypeVar, Union
 from . import answers, export, sat_solver
 from .amounts import A_NUMBER, is_number
 from .errors import AnswerFault, OutOfTime, ProgramFailed, TableFault
+from .prices import Prices
 from .problem import Problem
 from .programs import Run
 from .shown import bytes_of
@@ -48,7 +50,7 @@ class Least(Solution[Option]):
     """The solution of least cost.
 
     cost: that of its options together. by: what found it and, unless the time was over, that none costs less: `clasp`,
-    `dlx3`, or `states`, which is the module of that name.
+    `dlx3` or `states`; or `prices`, which show that of one that clasp or dlx3 found. The last two are modules.
     """
 
     __slots__ = ("by", "cost")
@@ -118,9 +120,12 @@ def least(problem: Problem[Option], costs: Sequence[Cost], seconds: float | None
     reader = OfNumbers(problem)
     best: Least[Option] | None = None
     try:
-        for _, numbers in search:
+        for beside.best, numbers in search:
             best = Least(reader, numbers, sum((exact[number] for number in numbers), Fraction(0)), by)
             beside.look()
+    except _Shown:
+        assert best is not None
+        best.by = "prices"
     except _Swept as swept:
         best = Least(reader, swept.numbers, sum((exact[number] for number in swept.numbers), Fraction(0)), "states")
     except OutOfTime:
@@ -135,7 +140,7 @@ def _judged(problem: Problem[Option], found: Least[Option]) -> Least[Option]:
     return found
 
 
-# ---- by states, beside the others
+# ---- by states and prices, beside the others
 
 
 class _Swept(Exception):
@@ -145,22 +150,33 @@ class _Swept(Exception):
         self.numbers = numbers
 
 
+class _Shown(Exception):
+    """Prices show that no solution costs less than the best one."""
+
+
 class _Beside:
-    """A sweep beside a search, which goes on while that finds nothing and between its solutions."""
+    """A sweep and prices beside a search, which go on while that finds nothing and between its solutions.
+
+    best: what the cheapest solution so far costs.
+    """
 
     def __init__(self, problem: Problem[Any], costs: Sequence[int]) -> None:
         self._problem = problem
         self._costs = costs
         self._begun = sum(os.times()[:4])
         self._sweep: Sweep | None = None
+        self._prices: Prices | None = None
+        self.best: int | None = None
 
     def look(self, run: Run | None = None) -> None:
-        """A turn, where it is time for it. Raises `_Swept` at the end of a sweep that found a solution."""
-        if self._sweep is None:
+        """A turn, where it is time for it. Raises `_Swept` where a sweep ends with a solution, and `_Shown`."""
+        if self._sweep is None or self._prices is None:
             worked = sum(os.times()[:4]) - self._begun + (0.0 if run is None else run.worked())
             if worked < _ALONE_SECONDS:
                 return
-            self._sweep = Sweep(self._problem, self._costs)
+            self._sweep, self._prices = Sweep(self._problem, self._costs), Prices(self._problem, self._costs)
+        if self.best is not None and self._prices.show(self.best, _TURN_SECONDS):
+            raise _Shown
         if not self._sweep.is_over:
             self._sweep.go_on(_TURN_SECONDS)
             if self._sweep.numbers is not None:

@@ -236,7 +236,7 @@ class _Solving:
         costs = self._costs(problem)
         try:
             found = cost.least(problem, costs.numbers, self._left() * 0.9)
-            told = "" if found is None else f"the least cost is {spelled(found.cost)}, as {_finder(found.by)} found"
+            told = "" if found is None else f"the least cost is {spelled(found.cost)}, as {_finder(found.by)}"
         except cost.NotLeast as error:
             found = error.best
             over = f"{self._request.seconds:g} seconds are over"
@@ -289,7 +289,7 @@ class _Solving:
 
 
 def _finder(by: str) -> str:
-    return "a sweep over states" if by == "states" else by
+    return {"states": "a sweep over states found", "prices": "prices of the items show"}.get(by, f"{by} found")
 
 
 _ANSWERS: dict[str, Callable[[Request], Iterator[str]]] = {
