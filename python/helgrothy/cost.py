@@ -27,6 +27,7 @@ from .errors import AnswerFault, OutOfTime, ProgramFailed, TableFault
 from .prices import Prices
 from .problem import Problem
 from .programs import Run
+from .sat_solver import NoAnswer
 from .shown import bytes_of
 from .solution import Solution, Source
 from .states import Sweep
@@ -39,8 +40,10 @@ Cost = Union[int, float, Fraction]
 
 # The programs are alone for so many seconds of a processor, and then the sweep has turns of so many seconds.
 _ALONE_SECONDS, _TURN_SECONDS = 1.0, 0.3
-# Clasp reckons with numbers of 32 bits.
-_MOST_SUM = (1 << 31) - 1
+# Clasp reckons with numbers of 32 bits. A line of it has a word for each option, and others are short.
+_MOST_SUM, _MOST_LINE, _MOST_WORD = (1 << 31) - 1, 1 << 16, 16
+# That there is no solution, where clasp reports so, is for the program to show in so many seconds.
+_NONE_SECONDS = 2.0
 # Prices are reckoned in such parts of the costs' unit, and shared among items so often.
 _PARTS, _ROUNDS = 60, 8
 _MOST_BOUNDS = 30
@@ -103,8 +106,11 @@ def read(text: str, options: int) -> list[Fraction]:
 def least(problem: Problem[Option], costs: Sequence[Cost], seconds: float | None = None) -> Least[Option] | None:
     """The solution of least cost, as dlxcheck judges it to be one; None where there is no solution.
 
-    costs: of each option in their order. Raises `NotLeast`, `ValueError` for another number of costs.
+    costs: of each option in their order. Raises `NotLeast`, `ValueError` for another number of costs, and what is
+    clasp's: `engines.Claimed` where it reports that there is no solution, and the program doesn't show that soon, and
+    `sat_solver.NoAnswer` where it gives no answer.
     """
+    deadline = None if seconds is None else time.monotonic() + seconds
     if len(costs) != len(problem.options):
         raise ValueError(f"{len(costs)} costs, and the problem has {len(problem.options)} options")
     exact = [Fraction(str(cost)) if isinstance(cost, float) else Fraction(cost) for cost in costs]
@@ -130,7 +136,11 @@ def least(problem: Problem[Option], costs: Sequence[Cost], seconds: float | None
         best = Least(reader, swept.numbers, sum((exact[number] for number in swept.numbers), Fraction(0)), "states")
     except OutOfTime:
         raise NotLeast(None if best is None else _judged(problem, best)) from None
-    return None if best is None else _judged(problem, best)
+    if best is not None:
+        return _judged(problem, best)
+    if by == "clasp":
+        _check_none(problem, deadline)
+    return None
 
 
 def _judged(problem: Problem[Option], found: Least[Option]) -> Least[Option]:
@@ -138,6 +148,20 @@ def _judged(problem: Problem[Option], found: Least[Option]) -> Least[Option]:
     if problem.check([found]) != [True]:
         raise ProgramFailed(found.by, 0, "its answer is no solution, as dlxcheck judges it")
     return found
+
+
+def _check_none(problem: Problem[Any], deadline: float | None) -> None:
+    """Has the program show that there is no solution. Raises `Claimed` and `NoAnswer`."""
+    left = _NONE_SECONDS if deadline is None else min(_NONE_SECONDS, max(deadline - time.monotonic(), 0.0))
+    try:
+        with problem._search(limit=1, seconds=left) as solutions:
+            found = next(iter(solutions), None)
+    except OutOfTime:
+        from .engines import Claimed
+
+        raise Claimed("clasp", f"dlx{problem.kind}") from None
+    if found is not None:
+        raise NoAnswer("clasp reports that there is no solution, and there is one")
 
 
 # ---- by states and prices, beside the others
@@ -189,20 +213,24 @@ class _Beside:
 def _by_clasp(
     problem: Problem[Any], costs: Sequence[int], path: str, seconds: float | None, beside: _Beside
 ) -> Iterator[tuple[int, list[int]]]:
-    """Solutions that cost less and less; the last one is least. Raises `OutOfTime`."""
+    """Solutions that cost less and less; the last one is least. Raises `OutOfTime` and `NoAnswer`."""
     deadline = None if seconds is None else time.monotonic() + seconds
     lines = export.opb(problem)
     text = [next(lines), next(lines), " ".join(["min:", *(f"{cost:+d} x{x}" for x, cost in enumerate(costs, 1)), ";"])]
     text += lines
     left = None if deadline is None else max(deadline - time.monotonic(), 0.0)
     is_over = False
-    with Run("clasp", ["-q0"], (bytes_of(f"{line}\n") for line in text), left, path) as run:
+    most = _MOST_LINE + _MOST_WORD * len(problem.options)
+    words = sat_solver.limited([path, "-q0"])
+    with Run("clasp", words[1:], (bytes_of(f"{line}\n") for line in text), left, words[0]) as run:
 
         def told() -> Iterator[bytes]:
             nonlocal is_over
             rest = b""
             for chunk in run.chunks(beside.look):
                 *whole, rest = (rest + chunk).split(b"\n")
+                if len(rest) > most:
+                    raise NoAnswer("clasp gave no answer (a line of it has no end)")
                 for line in whole:
                     is_over = is_over or line in (b"s OPTIMUM FOUND", b"s UNSATISFIABLE")
                     yield line
@@ -210,10 +238,10 @@ def _by_clasp(
         try:
             for solution in answers.solutions("clasp", problem, told()):
                 yield sum(costs[number] for number in solution.numbers), solution.numbers
-        except AnswerFault:
-            raise run.failure() from None
+        except AnswerFault as fault:
+            raise NoAnswer(f"clasp gave no answer ({run.messages() or fault})") from None
         if not is_over:
-            raise run.failure()
+            raise NoAnswer(f"clasp gave no answer ({run.messages() or 'it ended before it knew which costs least'})")
 
 
 # ---- by dlx3

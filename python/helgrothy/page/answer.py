@@ -24,7 +24,7 @@ from contextlib import suppress
 from dataclasses import dataclass, field, fields
 from typing import Any
 
-from .. import cost, shuffle, symmetry, why, wishes
+from .. import cost, engines, shuffle, symmetry, why, wishes
 from ..amounts import spelled
 from ..console import limited
 from ..draw import drawing_of
@@ -244,6 +244,9 @@ class _Solving:
                 yield record.end(0, False, [over])
                 return
             told = f"it costs {spelled(found.cost)}; {over}, and there may be a cheaper one"
+        except engines.Claimed as claim:
+            yield record.end(0, False, [str(claim)])
+            return
         if found is None:
             yield record.end(0, True, self._reasons(problem))
             return
