@@ -3,7 +3,8 @@
 dlx3 has bounds and no sums. So each item gets a price such that no option costs less than the prices of its items. What
 an option costs beyond these is its surplus; a solution costs the prices and the surpluses. If it is to cost less than
 the best one so far, the surpluses leave so much room, and at most m of its options have a surplus of more than the room
-divided by m + 1. These are bounds. Each solution that costs less narrows them; when none is left the last one is least.
+divided by m + 1. These are bounds. Each solution that costs less narrows them, and after it better prices are sought;
+when none is left the last one is least.
 
 Where that takes more than a second, a sweep over states goes on beside it, and prices that may show that the best one
 so far is least, until one of them ends. Dominoes on 8 by 8 with random costs took dlx3 five seconds and the sweep a
@@ -24,7 +25,7 @@ from typing import Any, TypeVar, Union
 from . import answers, export, sat_solver
 from .amounts import A_NUMBER, is_number
 from .errors import AnswerFault, OutOfTime, ProgramFailed, TableFault
-from .prices import Prices
+from .prices import PARTS, Prices
 from .problem import Problem
 from .programs import Run
 from .sat_solver import NoAnswer
@@ -44,8 +45,12 @@ _ALONE_SECONDS, _TURN_SECONDS = 1.0, 0.3
 _MOST_SUM, _MOST_LINE, _MOST_WORD = (1 << 31) - 1, 1 << 16, 16
 # That there is no solution, where clasp reports so, is for the program to show in so many seconds.
 _NONE_SECONDS = 2.0
-# Prices are reckoned in such parts of the costs' unit, and shared among items so often.
-_PARTS, _ROUNDS = 60, 8
+# Costs are shared among items so often.
+_ROUNDS = 8
+# Better prices may take so many seconds, and this part of the time.
+_PRICING_SECONDS, _PRICING_SHARE = 0.1, 0.5
+# A search begins again where prices leave this part of the room that it has.
+_MUCH_LESS = 0.9
 _MOST_BOUNDS = 30
 
 
@@ -178,10 +183,15 @@ class _Shown(Exception):
     """Prices show that no solution costs less than the best one."""
 
 
+class _Narrower(Exception):
+    """Prices make the bounds of a search narrower than they are."""
+
+
 class _Beside:
     """A sweep and prices beside a search, which go on while that finds nothing and between its solutions.
 
-    best: what the cheapest solution so far costs.
+    best: what the cheapest solution so far costs. floor: of a search by bounds what each solution costs at least, in
+    parts, as these take it.
     """
 
     def __init__(self, problem: Problem[Any], costs: Sequence[int]) -> None:
@@ -191,16 +201,28 @@ class _Beside:
         self._sweep: Sweep | None = None
         self._prices: Prices | None = None
         self.best: int | None = None
+        self.floor: int | None = None
+
+    @property
+    def prices(self) -> Prices:
+        if self._prices is None:
+            self._prices = Prices(self._problem, self._costs)
+        return self._prices
 
     def look(self, run: Run | None = None) -> None:
-        """A turn, where it is time for it. Raises `_Swept` where a sweep ends with a solution, and `_Shown`."""
-        if self._sweep is None or self._prices is None:
+        """A turn, where it is time for it. Raises `_Swept` where a sweep ends with a solution, `_Shown` and, during a
+        search, `_Narrower`."""
+        if self._sweep is None:
             worked = sum(os.times()[:4]) - self._begun + (0.0 if run is None else run.worked())
             if worked < _ALONE_SECONDS:
                 return
-            self._sweep, self._prices = Sweep(self._problem, self._costs), Prices(self._problem, self._costs)
-        if self.best is not None and self._prices.show(self.best, _TURN_SECONDS):
+            self._sweep = Sweep(self._problem, self._costs)
+        if self.best is not None and self.prices.show(self.best, _TURN_SECONDS):
             raise _Shown
+        if run is not None and self.best is not None and self.floor is not None:
+            gap = self.best * PARTS - self.floor
+            if self.best * PARTS - self.prices.surpluses()[1] < gap * _MUCH_LESS:
+                raise _Narrower
         if not self._sweep.is_over:
             self._sweep.go_on(_TURN_SECONDS)
             if self._sweep.numbers is not None:
@@ -252,24 +274,38 @@ def _by_bounds(
 ) -> Iterator[tuple[int, list[int]]]:
     """The same, by bounds that are narrowed."""
     deadline = None if seconds is None else time.monotonic() + seconds
-    surplus, least = _surpluses(problem, [cost * _PARTS for cost in costs])
+    begun, priced = time.monotonic(), 0.0
+    surplus, least = _surpluses(problem, [cost * PARTS for cost in costs])
     best: int | None = None
     # Options of small surplus come first, so that a cheap solution comes early. One without a primary item is in none.
     is_used = [any(item in problem.items for item, _ in problem._pairs(option)) for option in problem.options]
     order = sorted((place for place, used in enumerate(is_used) if used), key=lambda place: surplus[place])
-    while best is None or best * _PARTS > least:
-        room = None if best is None else (best - 1) * _PARTS - least
+    while best is None or (best - 1) * PARTS >= least:
+        room = None if best is None else (best - 1) * PARTS - least
         places = [place for place in order if room is None or surplus[place] <= room]
         left = None if deadline is None else max(deadline - time.monotonic(), 0.0)
-        with closing(_among(problem, places, surplus, room, left, beside)) as found:
-            for numbers in found:
-                cost = sum(costs[number] for number in numbers)
-                if best is None or cost < best:
-                    best = cost
-                    yield best, numbers
-                    break
-            else:
-                return
+        beside.floor = None if best is None else least
+        try:
+            with closing(_among(problem, places, surplus, room, left, beside)) as found:
+                for numbers in found:
+                    cost = sum(costs[number] for number in numbers)
+                    if best is None or cost < best:
+                        best = cost
+                        yield best, numbers
+                        break
+                else:
+                    return
+        except _Narrower:
+            # It begins again, with better prices.
+            assert best is not None
+        before = time.monotonic()
+        if beside.prices.show(best, _PRICING_SECONDS + _PRICING_SHARE * (before - begun) - priced):
+            return
+        priced += time.monotonic() - before
+        found_surplus, floor = beside.prices.surpluses()
+        if floor > least:
+            surplus, least = found_surplus, floor
+            order.sort(key=lambda place: surplus[place])
 
 
 def _among(

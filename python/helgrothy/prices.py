@@ -20,7 +20,7 @@ from .problem import Problem
 # Problems have so many uses of items at most, and costs are less than this.
 _MOST_USES, _MOST_COST = 200_000, 1 << 900
 # Parts of the costs' unit, in which prices are whole.
-_PARTS = 1 << 16
+PARTS = 60 << 10
 # After so many steps without a gain a step is half as long, and none is shorter than this part of the first.
 _MOST_STALE, _SHORTEST = 100, 1e-3
 
@@ -37,12 +37,12 @@ class Prices:
         number = {item: place for place, item in enumerate(bounds)}
         self._bounds = list(bounds.values())
         # One without a primary item is in no solution.
+        self._places = [place for place, option in enumerate(pairs) if any(it in problem.items for it, _ in option)]
         self._options = [
-            (cost, [number[item] for item, _ in option if item in number])
-            for cost, option in zip(costs, pairs)
-            if any(item in problem.items for item, _ in option)
+            (costs[place], [number[item] for item, _ in pairs[place] if item in number]) for place in self._places
         ]
-        self._prices = [0.0] * len(self._bounds)
+        self._all = len(pairs)
+        self._prices = self._best_prices = [0.0] * len(self._bounds)
         self._is_large = sum(map(len, pairs)) > _MOST_USES or sum(abs(cost) for cost in costs) > _MOST_COST
         self._goal: int | None = None
         self.is_over = False
@@ -77,11 +77,11 @@ class Prices:
         for price, (low, high), used in zip(prices, self._bounds, uses):
             value += min(price * low, price * high)
             slopes.append((low if price > 0 else high if price < 0 else min(max(used, low), high)) - used)
-        if value > goal - 1 and self._floor() > (goal - 1) * _PARTS:
+        if value > goal - 1 and self._reckon(prices)[1] > (goal - 1) * PARTS:
             return True
         self._stale += 1
         if value > self._best:
-            self._best, self._stale = value, 0
+            self._best, self._stale, self._best_prices = value, 0, prices
         elif self._stale >= _MOST_STALE:
             self._step, self._stale = self._step / 2, 0
         length = sum(slope * slope for slope in slopes)
@@ -91,10 +91,18 @@ class Prices:
             self._prices = [price + by * slope for price, slope in zip(prices, slopes)]
         return False
 
-    def _floor(self) -> int:
-        """What each solution costs at least, in parts, by the prices as whole numbers of these."""
-        prices = [round(price * _PARTS) for price in self._prices]
-        total = sum(min(price * low, price * high) for price, (low, high) in zip(prices, self._bounds))
-        for cost, items in self._options:
-            total += min(cost * _PARTS - sum([prices[item] for item in items]), 0)
-        return total
+    def surpluses(self) -> tuple[list[int], int]:
+        """What each option costs beyond the best prices so far, if it costs more, and what each solution costs at least
+        besides; in parts."""
+        beyond, floor = self._reckon(self._best_prices)
+        found = [0] * self._all
+        for place, more in zip(self._places, beyond):
+            found[place] = max(more, 0)
+        return found, floor
+
+    def _reckon(self, prices: Sequence[float]) -> tuple[list[int], int]:
+        """What options cost beyond prices, which are whole numbers here, and what each solution costs at least."""
+        whole = [round(price * PARTS) for price in prices]
+        beyond = [cost * PARTS - sum([whole[item] for item in items]) for cost, items in self._options]
+        floor = sum(min(price * low, price * high) for price, (low, high) in zip(whole, self._bounds))
+        return beyond, floor + sum(min(more, 0) for more in beyond)

@@ -80,6 +80,15 @@ class Shown(unittest.TestCase):
         self.assertEqual(found.cost, sum(costs[place] for place in found.numbers))
 
     @mock.patch.object(sat_solver, "path_of", lambda name: None)
+    def test_without_clasp(self):
+        """They narrow the bounds of dlx3, which came to no end in 18 seconds."""
+        problem = make.roster.problem(ROSTER)
+        costs = wishes.of_table(problem).numbers
+        found = cost.least(problem, costs)
+        self.assertEqual((found.cost, sum(costs[place] for place in found.numbers)), (-4, -4))
+
+    @mock.patch.object(sat_solver, "path_of", lambda name: None)
+    @mock.patch.object(cost, "_MUCH_LESS", 1.0)
     @mock.patch.object(cost, "_ALONE_SECONDS", 0.0)
     def test_beside_dlx3(self):
         """As without them, whoever ends first."""
@@ -90,6 +99,11 @@ class Shown(unittest.TestCase):
             wanted = min((sum(costs[place] for place in one.numbers) for one in problem.solve()), default=None)
             found = cost.least(problem, costs)
             self.assertEqual(None if found is None else found.cost, wanted)
+        board = make.queens.problem(8)
+        for _ in range(5):
+            costs = [rng.randint(1, 64) for _ in board.options]
+            wanted = min(sum(costs[place] for place in one.numbers) for one in board.solve())
+            self.assertEqual(cost.least(board, costs).cost, wanted)
 
 
 if __name__ == "__main__":
