@@ -215,7 +215,7 @@ class Minimal(InFolder):
             minimal.find(make.sudoku.problem(CLUES), [], seconds=0)
 
     def test_a_new_sudoku(self):
-        status, text, _ = run("minimal", "sudoku", "--seed", "3", "--seconds", "1")
+        status, text, _ = run("minimal", "sudoku", "--seed", "3", "--seconds", "4")
         self.assertEqual((status, len(text), make.sudoku.problem(text).count(limit=2)), (0, 82, 1))
 
     def test_mistakes(self):
