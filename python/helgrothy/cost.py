@@ -1,13 +1,15 @@
-"""The solution whose options cost least in all: by clasp or, where the path hasn't it, by dlx3, or by `states`.
+"""The solution whose options cost least in all: by clasp or, where the path hasn't it, by dlx3, `prices` or `states`.
 
 dlx3 has bounds and no sums. So each item gets a price such that no option costs less than the prices of its items. What
 an option costs beyond these is its surplus; a solution costs the prices and the surpluses. If it is to cost less than
 the best one so far, the surpluses leave so much room, and at most m of its options have a surplus of more than the room
-divided by m + 1. These are bounds. Each solution that costs less narrows them; when none is left the last one is least.
+divided by m + 1. These are bounds. Each solution that costs less narrows them, and after it better prices are sought;
+when none is left the last one is least.
 
-Where that takes more than a second, a sweep over states goes on beside it, until one of them ends. Dominoes on 8 by 8
-with random costs took dlx3 five seconds and the sweep a thirtieth of one; a roster with bounds is for the others alone.
-Whoever it is says by itself that no solution costs less; that it is a solution is judged.
+Where that takes more than a second, a sweep over states goes on beside it, and prices that may show that the best one
+so far is least, until one of them ends. Dominoes on 8 by 8 with random costs took dlx3 five seconds and the sweep a
+thirtieth of one; a roster with bounds is for the others alone. Whoever it is says by itself that no solution costs
+less; that it is a solution is judged.
 """
 
 from __future__ import annotations
@@ -23,8 +25,10 @@ from typing import Any, TypeVar, Union
 from . import answers, export, sat_solver
 from .amounts import A_NUMBER, is_number
 from .errors import AnswerFault, OutOfTime, ProgramFailed, TableFault
+from .prices import PARTS, Prices
 from .problem import Problem
 from .programs import Run
+from .sat_solver import NoAnswer
 from .shown import bytes_of
 from .solution import Solution, Source
 from .states import Sweep
@@ -37,10 +41,16 @@ Cost = Union[int, float, Fraction]
 
 # The programs are alone for so many seconds of a processor, and then the sweep has turns of so many seconds.
 _ALONE_SECONDS, _TURN_SECONDS = 1.0, 0.3
-# Clasp reckons with numbers of 32 bits.
-_MOST_SUM = (1 << 31) - 1
-# Prices are reckoned in such parts of the costs' unit, and shared among items so often.
-_PARTS, _ROUNDS = 60, 8
+# Clasp reckons with numbers of 32 bits. A line of it has a word for each option, and others are short.
+_MOST_SUM, _MOST_LINE, _MOST_WORD = (1 << 31) - 1, 1 << 16, 16
+# That there is no solution, where clasp reports so, is for the program to show in so many seconds.
+_NONE_SECONDS = 2.0
+# Costs are shared among items so often.
+_ROUNDS = 8
+# Better prices may take so many seconds, and this part of the time.
+_PRICING_SECONDS, _PRICING_SHARE = 0.1, 0.5
+# A search begins again where prices leave this part of the room that it has.
+_MUCH_LESS = 0.9
 _MOST_BOUNDS = 30
 
 
@@ -48,7 +58,7 @@ class Least(Solution[Option]):
     """The solution of least cost.
 
     cost: that of its options together. by: what found it and, unless the time was over, that none costs less: `clasp`,
-    `dlx3`, or `states`, which is the module of that name.
+    `dlx3` or `states`; or `prices`, which show that of one that clasp or dlx3 found. The last two are modules.
     """
 
     __slots__ = ("by", "cost")
@@ -101,8 +111,11 @@ def read(text: str, options: int) -> list[Fraction]:
 def least(problem: Problem[Option], costs: Sequence[Cost], seconds: float | None = None) -> Least[Option] | None:
     """The solution of least cost, as dlxcheck judges it to be one; None where there is no solution.
 
-    costs: of each option in their order. Raises `NotLeast`, `ValueError` for another number of costs.
+    costs: of each option in their order. Raises `NotLeast`, `ValueError` for another number of costs, and what is
+    clasp's: `engines.Claimed` where it reports that there is no solution, and the program doesn't show that soon, and
+    `sat_solver.NoAnswer` where it gives no answer.
     """
+    deadline = None if seconds is None else time.monotonic() + seconds
     if len(costs) != len(problem.options):
         raise ValueError(f"{len(costs)} costs, and the problem has {len(problem.options)} options")
     exact = [Fraction(str(cost)) if isinstance(cost, float) else Fraction(cost) for cost in costs]
@@ -118,14 +131,21 @@ def least(problem: Problem[Option], costs: Sequence[Cost], seconds: float | None
     reader = OfNumbers(problem)
     best: Least[Option] | None = None
     try:
-        for _, numbers in search:
+        for beside.best, numbers in search:
             best = Least(reader, numbers, sum((exact[number] for number in numbers), Fraction(0)), by)
             beside.look()
+    except _Shown:
+        assert best is not None
+        best.by = "prices"
     except _Swept as swept:
         best = Least(reader, swept.numbers, sum((exact[number] for number in swept.numbers), Fraction(0)), "states")
     except OutOfTime:
         raise NotLeast(None if best is None else _judged(problem, best)) from None
-    return None if best is None else _judged(problem, best)
+    if best is not None:
+        return _judged(problem, best)
+    if by == "clasp":
+        _check_none(problem, deadline)
+    return None
 
 
 def _judged(problem: Problem[Option], found: Least[Option]) -> Least[Option]:
@@ -135,7 +155,21 @@ def _judged(problem: Problem[Option], found: Least[Option]) -> Least[Option]:
     return found
 
 
-# ---- by states, beside the others
+def _check_none(problem: Problem[Any], deadline: float | None) -> None:
+    """Has the program show that there is no solution. Raises `Claimed` and `NoAnswer`."""
+    left = _NONE_SECONDS if deadline is None else min(_NONE_SECONDS, max(deadline - time.monotonic(), 0.0))
+    try:
+        with problem._search(limit=1, seconds=left) as solutions:
+            found = next(iter(solutions), None)
+    except OutOfTime:
+        from .engines import Claimed
+
+        raise Claimed("clasp", f"dlx{problem.kind}") from None
+    if found is not None:
+        raise NoAnswer("clasp reports that there is no solution, and there is one")
+
+
+# ---- by states and prices, beside the others
 
 
 class _Swept(Exception):
@@ -145,22 +179,50 @@ class _Swept(Exception):
         self.numbers = numbers
 
 
+class _Shown(Exception):
+    """Prices show that no solution costs less than the best one."""
+
+
+class _Narrower(Exception):
+    """Prices make the bounds of a search narrower than they are."""
+
+
 class _Beside:
-    """A sweep beside a search, which goes on while that finds nothing and between its solutions."""
+    """A sweep and prices beside a search, which go on while that finds nothing and between its solutions.
+
+    best: what the cheapest solution so far costs. floor: of a search by bounds what each solution costs at least, in
+    parts, as these take it.
+    """
 
     def __init__(self, problem: Problem[Any], costs: Sequence[int]) -> None:
         self._problem = problem
         self._costs = costs
         self._begun = sum(os.times()[:4])
         self._sweep: Sweep | None = None
+        self._prices: Prices | None = None
+        self.best: int | None = None
+        self.floor: int | None = None
+
+    @property
+    def prices(self) -> Prices:
+        if self._prices is None:
+            self._prices = Prices(self._problem, self._costs)
+        return self._prices
 
     def look(self, run: Run | None = None) -> None:
-        """A turn, where it is time for it. Raises `_Swept` at the end of a sweep that found a solution."""
+        """A turn, where it is time for it. Raises `_Swept` where a sweep ends with a solution, `_Shown` and, during a
+        search, `_Narrower`."""
         if self._sweep is None:
             worked = sum(os.times()[:4]) - self._begun + (0.0 if run is None else run.worked())
             if worked < _ALONE_SECONDS:
                 return
             self._sweep = Sweep(self._problem, self._costs)
+        if self.best is not None and self.prices.show(self.best, _TURN_SECONDS):
+            raise _Shown
+        if run is not None and self.best is not None and self.floor is not None:
+            gap = self.best * PARTS - self.floor
+            if self.best * PARTS - self.prices.surpluses()[1] < gap * _MUCH_LESS:
+                raise _Narrower
         if not self._sweep.is_over:
             self._sweep.go_on(_TURN_SECONDS)
             if self._sweep.numbers is not None:
@@ -173,20 +235,24 @@ class _Beside:
 def _by_clasp(
     problem: Problem[Any], costs: Sequence[int], path: str, seconds: float | None, beside: _Beside
 ) -> Iterator[tuple[int, list[int]]]:
-    """Solutions that cost less and less; the last one is least. Raises `OutOfTime`."""
+    """Solutions that cost less and less; the last one is least. Raises `OutOfTime` and `NoAnswer`."""
     deadline = None if seconds is None else time.monotonic() + seconds
     lines = export.opb(problem)
     text = [next(lines), next(lines), " ".join(["min:", *(f"{cost:+d} x{x}" for x, cost in enumerate(costs, 1)), ";"])]
     text += lines
     left = None if deadline is None else max(deadline - time.monotonic(), 0.0)
     is_over = False
-    with Run("clasp", ["-q0"], (bytes_of(f"{line}\n") for line in text), left, path) as run:
+    most = _MOST_LINE + _MOST_WORD * len(problem.options)
+    words = sat_solver.limited([path, "-q0"])
+    with Run("clasp", words[1:], (bytes_of(f"{line}\n") for line in text), left, words[0]) as run:
 
         def told() -> Iterator[bytes]:
             nonlocal is_over
             rest = b""
             for chunk in run.chunks(beside.look):
                 *whole, rest = (rest + chunk).split(b"\n")
+                if len(rest) > most:
+                    raise NoAnswer("clasp gave no answer (a line of it has no end)")
                 for line in whole:
                     is_over = is_over or line in (b"s OPTIMUM FOUND", b"s UNSATISFIABLE")
                     yield line
@@ -194,10 +260,10 @@ def _by_clasp(
         try:
             for solution in answers.solutions("clasp", problem, told()):
                 yield sum(costs[number] for number in solution.numbers), solution.numbers
-        except AnswerFault:
-            raise run.failure() from None
+        except AnswerFault as fault:
+            raise NoAnswer(f"clasp gave no answer ({run.messages() or fault})") from None
         if not is_over:
-            raise run.failure()
+            raise NoAnswer(f"clasp gave no answer ({run.messages() or 'it ended before it knew which costs least'})")
 
 
 # ---- by dlx3
@@ -208,24 +274,38 @@ def _by_bounds(
 ) -> Iterator[tuple[int, list[int]]]:
     """The same, by bounds that are narrowed."""
     deadline = None if seconds is None else time.monotonic() + seconds
-    surplus, least = _surpluses(problem, [cost * _PARTS for cost in costs])
+    begun, priced = time.monotonic(), 0.0
+    surplus, least = _surpluses(problem, [cost * PARTS for cost in costs])
     best: int | None = None
     # Options of small surplus come first, so that a cheap solution comes early. One without a primary item is in none.
     is_used = [any(item in problem.items for item, _ in problem._pairs(option)) for option in problem.options]
     order = sorted((place for place, used in enumerate(is_used) if used), key=lambda place: surplus[place])
-    while best is None or best * _PARTS > least:
-        room = None if best is None else (best - 1) * _PARTS - least
+    while best is None or (best - 1) * PARTS >= least:
+        room = None if best is None else (best - 1) * PARTS - least
         places = [place for place in order if room is None or surplus[place] <= room]
         left = None if deadline is None else max(deadline - time.monotonic(), 0.0)
-        with closing(_among(problem, places, surplus, room, left, beside)) as found:
-            for numbers in found:
-                cost = sum(costs[number] for number in numbers)
-                if best is None or cost < best:
-                    best = cost
-                    yield best, numbers
-                    break
-            else:
-                return
+        beside.floor = None if best is None else least
+        try:
+            with closing(_among(problem, places, surplus, room, left, beside)) as found:
+                for numbers in found:
+                    cost = sum(costs[number] for number in numbers)
+                    if best is None or cost < best:
+                        best = cost
+                        yield best, numbers
+                        break
+                else:
+                    return
+        except _Narrower:
+            # It begins again, with better prices.
+            assert best is not None
+        before = time.monotonic()
+        if beside.prices.show(best, _PRICING_SECONDS + _PRICING_SHARE * (before - begun) - priced):
+            return
+        priced += time.monotonic() - before
+        found_surplus, floor = beside.prices.surpluses()
+        if floor > least:
+            surplus, least = found_surplus, floor
+            order.sort(key=lambda place: surplus[place])
 
 
 def _among(

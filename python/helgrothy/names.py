@@ -4,7 +4,6 @@ from __future__ import annotations
 
 import itertools
 import re
-import string
 from collections.abc import Callable, Hashable, Iterable, Iterator
 
 from .shown import bytes_of, text_of
@@ -28,7 +27,7 @@ def colour_names(colours: Iterable[Hashable]) -> dict[Hashable, str]:
 
 def codes() -> Iterator[str]:
     """Names as short as can be, without end, of all bytes that may be in one. None of the first 200,000 is `null`."""
-    alphabet = sorted(map(text_of, _IN_NAME), key=lambda letter: letter not in string.ascii_letters + string.digits)
+    alphabet = sorted(map(text_of, _IN_NAME), key=lambda letter: not (letter.isascii() and letter.isalnum()))
     for length in itertools.count(1):
         for letters in itertools.product(alphabet, repeat=length):
             yield "".join(letters)

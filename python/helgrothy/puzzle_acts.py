@@ -2,6 +2,7 @@
 
 from __future__ import annotations
 
+import time
 from typing import TYPE_CHECKING, Any
 
 from . import console
@@ -16,6 +17,7 @@ if TYPE_CHECKING:
     from collections.abc import Callable, Sequence
 
     from .make.clues import Clues
+    from .minimal import Minimal
 
 # Of the time that a command is given, so that what was found by then can be printed.
 _SHARE = 0.9
@@ -85,18 +87,35 @@ def _of_problems(left: Callable[[Sequence[int]], Problem[Any]]) -> Callable[[Seq
     return lambda kept, deadline: minimals.solutions(left(kept), [], deadline)
 
 
+def _least(clues: Clues, seed: int, seconds: float) -> tuple[list[int], Minimal]:
+    """The clues that it begins with, and what is left of them. Raises what `minimal.find` does."""
+    from . import minimal as minimals
+
+    deadline = time.monotonic() + seconds
+
+    def some() -> list[int]:
+        cells = set(clues.cells)
+        return [one for one in minimals.some(clues.problem, seed, seconds) if one in cells]
+
+    if clues.left is None:
+        held = clues.given or some()
+        return held, minimals.find(clues.problem, held, seed, deadline - time.monotonic())
+    held, solutions = clues.given, _of_problems(clues.left)
+    try:
+        return held, minimals.drop(held, solutions, seed, seconds)
+    except minimals.NotUnique as none:
+        # Sums alone, as of a new Kakuro, have the digits of one of their solutions beside them.
+        if not none.solutions or not clues.cells or set(held) & set(clues.cells):
+            raise
+    held = [*held, *some()]
+    return held, minimals.drop(held, solutions, seed, deadline - time.monotonic())
+
+
 def minimal(clues: Clues, arguments: argparse.Namespace) -> int:
     from . import minimal as minimals
 
-    left = arguments.seconds * _SHARE
     try:
-        cells = set(clues.cells)
-        if clues.left is not None:
-            held = clues.given
-            found = minimals.drop(held, _of_problems(clues.left), arguments.seed, left)
-        else:
-            held = clues.given or [one for one in minimals.some(clues.problem, arguments.seed, left) if one in cells]
-            found = minimals.find(clues.problem, held, arguments.seed, left)
+        held, found = _least(clues, arguments.seed, arguments.seconds * _SHARE)
     except minimals.NotUnique as none:
         for line in uniqueness(clues.problem, none.solutions):
             console.say(line)

@@ -123,7 +123,7 @@ def add(
             name,
             "drop what is given while there is one solution",
             "Drops clues, in a random order, while the puzzle has exactly one solution, and prints it; without any "
-            "clue it begins with a random solution. Of a nonogram whole lines are dropped, and ? "
+            "clue it begins with a random solution. Of a nonogram whole lines are dropped, of a Kakuro sums too, and ? "
             "stands there. Of a problem the clues are the options of --with, and those that are needed are printed. "
             "Status 1 says that there isn't one solution.",
             WITH_CLUES,

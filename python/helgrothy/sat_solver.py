@@ -105,8 +105,7 @@ class Asked:
             self.begun = time.monotonic()
             output = _OUTPUT + 2 * given.tell()
             given.seek(0)
-            limits = [str(_MEMORY >> 10), str(output // _BLOCK)]
-            command = ["/bin/sh", "-c", _LIMITED, "sh", *limits, engine.path, *SOLVERS[engine.name]]
+            command = limited([engine.path, *SOLVERS[engine.name]], str(output // _BLOCK))
             self._told = tempfile.TemporaryFile()
             self._begin(command, given)
 
@@ -184,6 +183,11 @@ class Asked:
     def _ended(self) -> Any:
         """How the engine ended, if it has. Its number stays its own until it is waited for."""
         return os.waitid(os.P_PID, self._process.pid, os.WEXITED | os.WNOHANG | os.WNOWAIT)
+
+
+def limited(command: list[str], blocks: str = "unlimited") -> list[str]:
+    """A command with the limits of an engine; blocks: of each file that it writes."""
+    return ["/bin/sh", "-c", _LIMITED, "sh", str(_MEMORY >> 10), blocks, *command]
 
 
 def text(engine: Engine, problem: Problem[Any]) -> Iterator[bytes]:

@@ -2,6 +2,9 @@
 
 from __future__ import annotations
 
+# The module `html` has a table of all names of signs, for which each picture would wait.
+_MARKUP = str.maketrans({"&": "&amp;", "<": "&lt;", ">": "&gt;", '"': "&quot;", "'": "&#x27;"})
+
 
 def text_of(raw: bytes) -> str:
     """Bytes as text; those that aren't UTF-8 come back as they were by `bytes_of`."""
@@ -19,10 +22,7 @@ def shown(text: str) -> str:
 
 def escaped(text: str) -> str:
     """Such a text as it stands in SVG and HTML."""
-    # Few commands need it, and its table of signs is long.
-    from html import escape
-
-    return escape(shown(text))
+    return shown(text).translate(_MARKUP)
 
 
 def _shown(character: str) -> str:

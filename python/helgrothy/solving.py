@@ -34,6 +34,7 @@ _REASON_SECONDS = 2.0
 # Of the time that a command is given, so that what was found by then can be printed; a page is put together at the end.
 SHARE = 0.9
 _SHARE_OF_PAGE = 0.7
+_MAY_SAY = "`helgrothy why` may say which items conflict"
 
 
 def solve(problem: Problem[Any], arguments: argparse.Namespace) -> int:
@@ -117,7 +118,7 @@ class _Listing:
         except OutOfTime as error:
             return self._give_up(error)
         except engines.Claimed as claim:
-            told = f"{claim}; `helgrothy why` may say which items conflict"
+            told = f"{claim}; {_MAY_SAY}"
             console.say(told)
             self._write_page(0, False, [told])
             return 1
@@ -306,6 +307,9 @@ def _show_least(asked: Given[Any], costs: Costs, arguments: argparse.Namespace) 
         found = Found(asked.problem, numbers, f"helgrothy: {told}; {proof}")
         show_found(found, arguments, list(costs.told(numbers)))
         return 2
+    except engines.Claimed as claim:
+        console.say(f"{claim}; {_MAY_SAY}")
+        return 1
     if least is None:
         for line in ["Altogether 0 solutions.", *_reasons(asked, deadline)]:
             console.say(line)

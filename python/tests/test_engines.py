@@ -13,7 +13,7 @@ from unittest import mock
 from folders import InFolder
 from test_commands import run, run_until
 
-from helgrothy import Problem, acts, console, engines, make, programs, sat_solver
+from helgrothy import Problem, acts, console, cost, engines, make, programs, sat_solver
 
 # A problem with one solution, options 1, 4 and 5; and one without, of which no sum says so.
 TEXT = "A B C D | x\nA C x:1\nA B x:2\nC D x:1\nB\nD\n"
@@ -258,6 +258,62 @@ class Solving(WithEngines):
                 self.assertIn(f"{name} found a solution", told)
                 self.assertIn(f"{name} reports that there is no solution", run("solve", self.none)[2])
             os.remove(os.path.join(self.folder, "path", name))
+
+
+# What clasp does in place of an answer with costs, and what is told of it.
+FALSE_COSTS = {
+    "nonsense": ("echo hello", "gave no answer (line 1: hello: no line of an answer"),
+    "nonsense, and hangs": ("echo hello; exec /bin/sleep 1000", "gave no answer (line 1: hello: no line of an answer"),
+    "nonsense, and goes on unheard": ("echo hello; exec /bin/sleep 1000 >&-", "gave no answer (line 1: hello"),
+    "nothing": ("exit 0", "gave no answer (line 1: there is no answer"),
+    "a wrong solution": ("echo v x1 x2 x3 x4 x5; echo s OPTIMUM FOUND; exit 30", "no solution, as dlxcheck judges it"),
+    "an answer, and dies": ("echo v x1 -x2 -x3 x4 x5; echo o 2; kill -9 $$", "before it knew which costs least"),
+    "none, where there is one": ("echo s UNSATISFIABLE; exit 20", "reports that there is no solution, and there is one"),
+    "dies": ("kill -9 $$", "gave no answer (line 1: there is no answer"),
+    "a flood without an end of its line": ("exec /usr/bin/tr '\\0' c < /dev/zero", "gave no answer (a line of it has no end)"),
+    "swells": ("x=0123456789abcdef; while :; do x=$x$x; done", "gave no answer ("),
+}
+
+
+class Costs(WithEngines):
+    """The same for the solution of least cost, which is asked of clasp from the beginning."""
+
+    def setUp(self) -> None:
+        super().setUp()
+        self.costs = self.file("costs", "A 3\nB -1\n")
+
+    def test_a_right_one(self):
+        self.engine("echo v x1 -x2 -x3 x4 x5; echo s OPTIMUM FOUND; exit 30", "clasp")
+        status, out, told = run("solve", self.problem, "--cost", self.costs)
+        self.assertEqual((status, out, told.splitlines()[0]), (0, FOUND, "The least cost is 2."))
+
+    def test_false_ones(self):
+        for name, (script, wanted) in FALSE_COSTS.items():
+            with self.subTest(name):
+                self.engine(script, "clasp")
+                status, out, told = run("solve", self.problem, "--cost", self.costs)
+                self.assertEqual((status, out), (2, ""), told)
+                self.assertIn(wanted, told)
+                self.assertEqual(len(told.splitlines()), 1)
+                self.nothing_is_left()
+
+    def test_one_that_hangs_or_floods(self):
+        for script in (HANG, FALSE["floods"][0], "exec /usr/bin/yes 'v x1 -x2'"):
+            self.engine(script, "clasp")
+            status, out, told = run("solve", self.problem, "--cost", self.costs, "--seconds", "1")
+            self.assertEqual((status, out, told), (2, "", "helgrothy: no solution was found in 1 seconds\n"))
+            self.nothing_is_left()
+
+    def test_none_is_a_claim_where_the_program_does_not_show_it(self):
+        self.engine("echo s UNSATISFIABLE; exit 20", "clasp")
+        none = self.file("costs", "r1 1\n")
+        status, out, told = run("solve", self.none, "--cost", none)
+        self.assertEqual((status, out, told.splitlines()[0]), (1, "", "Altogether 0 solutions."))
+        self.program("exec /bin/sleep 1000")
+        with mock.patch.object(cost, "_NONE_SECONDS", 0.5):
+            status, out, told = run("solve", self.none, "--cost", none)
+        hint = "`helgrothy why` may say which items conflict"
+        self.assertEqual((status, out, told), (1, "", f"clasp reports that there is no solution; dlx1 hasn't proved it; {hint}\n"))
 
 
 class Whys(WithEngines):

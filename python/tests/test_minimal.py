@@ -14,6 +14,7 @@ from helgrothy import OutOfTime, Problem, TableFault, make, minimal, puzzle_comm
 CLUES = "53..7....6..195....98....6.8...6...34..8.3..17...2...6.6....28....419..5....8..79"
 SMALL = "12.4 3.12 2.43 4.21"
 GRID = "#   4\\  16\\ #\n\\8  .   .   13\\\n\\17 .   .   .\n#   \\8  .   .\n"
+SUMS = "#    17\\  24\\  #\n\\16  .    .    15\\\n\\23  .    .    .\n#    \\17  .    .\n"
 HEART = "1 1\n5\n5\n3\n1\n\n2\n4\n4\n4\n2\n"
 REGIONS = "aabb\naabb\nccdd\nccdd\n"
 
@@ -96,15 +97,33 @@ class Minimal(InFolder):
         self.assertEqual(told, (1, "", "There is no solution.\n"))
 
     def test_kakuro(self):
-        path = self.file("grid", GRID)
-        status, text, told = run("minimal", "kakuro", path)
-        self.assertEqual((status, [len(line) for line in text.split("\n")]), (0, [len(line) for line in GRID.split("\n")]))
-        self.assertEqual(make.kakuro.problem(text).count(), 1)
-        digits = [word for word in text.split() if word in set("123456789")]
-        self.assertGreater(make.kakuro.problem(GRID).count(), 1)
-        self.assertEqual(told, f"{len(digits)} of 7 clues {'is' if len(digits) == 1 else 'are'} enough; none of them can go.\n")
-        again = run("minimal", "kakuro", self.file("again", f"\n{text}"))
-        self.assertEqual(again[1].strip("\n"), text.strip("\n"))
+        """Sums and digits are clues: each that is left is needed, and the layout of the file stays."""
+        for grid, count in ((SUMS, 6), (SUMS.replace(".", "9", 1), 7), (GRID, 13)):
+            for seed in ("0", "4"):
+                path = self.file("grid", f"\n{grid}")
+                status, text, told = run("minimal", "kakuro", path, "--seed", seed)
+                clues = list(re.finditer(r"\d+", text))
+                enough = f"{len(clues)} of {count} clues are enough; none of them can go.\n"
+                self.assertEqual((status, told, re.sub(r"\S+", "", text)), (0, enough, re.sub(r"\S+", "", f"\n{grid}")))
+                for left, before in zip(text.split(), grid.split()):
+                    if "\\" in before:
+                        self.assertRegex(before, re.escape(left).replace(r"\?", r"\d+") + r"\Z")
+                    else:
+                        self.assertIn(before, (".", left) if left != "." else (".", "9"))
+                self.assertEqual(make.kakuro.problem(text).count(limit=2), 1)
+                for clue in clues:
+                    begin, end = clue.span()
+                    mark = "." if not text[begin - 1 : end + 1].strip(" \n0123456789") else "?"
+                    fewer = f"{text[:begin]}{mark}{text[end:]}"
+                    self.assertEqual(make.kakuro.problem(fewer).count(limit=2), 2)
+                self.assertEqual(run("minimal", "kakuro", self.file("less", text))[1], text)
+        self.assertGreater(make.kakuro.problem(GRID).count(limit=2), 1)
+        told = run("minimal", "kakuro", self.file("several", GRID.replace(".", "1", 1)))
+        self.assertEqual((told[:2], told[2].splitlines()[0]), ((1, ""), "There are several solutions. Of these two:"))
+        # A digit without a sum beside it stays.
+        status, text, told = run("minimal", "kakuro", self.file("beside", "5 # #\n# \\3 3\n"))
+        self.assertEqual((status, told), (0, "1 of 2 clues is enough; none of them can go.\n"))
+        self.assertIn(text, ("5 # #\n# \\? 3\n", "5 # #\n# \\3 .\n"))
 
     def test_nonograms(self):
         """Each clue that is left is needed, and the layout of the file stays."""
@@ -196,7 +215,7 @@ class Minimal(InFolder):
             minimal.find(make.sudoku.problem(CLUES), [], seconds=0)
 
     def test_a_new_sudoku(self):
-        status, text, _ = run("minimal", "sudoku", "--seed", "3", "--seconds", "1")
+        status, text, _ = run("minimal", "sudoku", "--seed", "3", "--seconds", "4")
         self.assertEqual((status, len(text), make.sudoku.problem(text).count(limit=2)), (0, 82, 1))
 
     def test_mistakes(self):

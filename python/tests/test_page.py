@@ -590,6 +590,9 @@ class Served(unittest.TestCase):
                     self.assertEqual(process.wait(120), status)
                     self.wait(lambda: not members(group))
                     self.assertEqual(os.listdir(place), [name] if number == signal.SIGKILL else [])
+                    # The page is told of no other end.
+                    with contextlib.suppress(ConnectionResetError):
+                        self.assertNotIn(b"error", b"".join(iter(lambda: connection.recv(1 << 16), b"")))
                     connection.close()
 
     def test_few_files(self):

@@ -270,6 +270,16 @@ class Kakuro(Puzzles):
         self.assertEqual(make.kakuro.problem("# 7\\\n# .\n").count(), 1)
         self.assertEqual(make.kakuro.problem("# # #\n# . #\n").count(), 9)
 
+    def test_sums_that_are_not_told(self):
+        for grid, wanted in (
+            ("\\? . .\n", 72), ("\\? . 3\n", 8), ("\\? .\n", 9), ("# 3\\ ?\\\n\\? . .\n/? . .\n", 114), ("\\? . . . . . . . . 9\n", 40320),
+        ):  # fmt: skip
+            problem = make.kakuro.problem(grid)
+            self.assertEqual(problem.count(), wanted, grid)
+            drawn = str(problem.draw(next(problem.solve())))
+            self.assertEqual(drawn.count("?"), 0 if wanted == 40320 else grid.count("?"))
+            self.assertEqual(make.kakuro.problem("\n".join(problem.comments[2:])).text, problem.text)
+
     def test_bad_grids(self):
         top = "# 4\\ 3\\\n"
         self.refused(
@@ -297,6 +307,7 @@ class Kakuro(Puzzles):
                 top + "\\4 . .\n\\4 . .\n": "line 1: the sums across are 8 in all and those down 7, of the cells that are connected "
                 "with r2c2".replace("line 1", "line 2"),
                 top + "\\4 . .\n\\3 . .\n# # 5\\\n": "line 4: 5\\: there is no white cell below it that would have the sum 5",
+                top + "\\4 . .\n\\3 . .\n# # ?\\\n": "line 4: ?\\: there is no white cell below it that would have a sum",
                 "\\9 4 4 .\n": "line 1: 4: given twice in the run to the right from r1c2 on",
                 "\\9 8 . .\n": "line 1: 8: given in the run to the right from r1c2 on, whose sum can't be 9 with it",
             },

@@ -21,8 +21,8 @@ except SystemExit as end:
     assert end.code == 0, end.code
 sys.stderr.write(" ".join(set(sys.modules) - before))
 """
-# Of Python and the package: for a command's help, for a list of commands or kinds, and for one that solves.
-MOST, LISTS, SOLVES = 120, 90, 140
+# Of Python and the package: for a command's help, for a list of commands or kinds, for one that solves, for a page.
+MOST, LISTS, SOLVES, PAGES = 120, 90, 140, 160
 # What no short command waits for.
 SLOW = ("csv", "difflib", "fractions", "html", "json")
 
@@ -70,6 +70,13 @@ class Startup(unittest.TestCase):
             modules = loaded(*words.split())
             self.assertLess(len(modules), SOLVES)
             self.assertEqual([name for name in SLOW if name in modules], [])
+
+    def test_what_draws(self):
+        """A picture waits for no table of signs, and a page for nothing that is for addresses."""
+        for words, most in (("queens 4 --svg", SOLVES), ("queens 4 --html", PAGES)):
+            modules = loaded(*words.split())
+            self.assertLess(len(modules), most)
+            self.assertEqual([name for name in ("html", "pathlib", "string", "urllib.parse") if name in modules], [])
 
     def test_what_only_other_commands_need(self):
         for words in ("solve --help", "lint --help", "why --help", "draw --help"):

@@ -64,9 +64,10 @@ class States(unittest.TestCase):
             found = cost.least(problem, costs)
             self.assertEqual((found.by, len(found)), ("states", 32))
             self.assertEqual(found.cost, sum(costs[place] for place in found.numbers))
-            # Bounds are for the programs.
+            # Bounds are for the others.
             bounded = Problem({"a": (1, 2), "b": (0, 2)}, options=["a", "ab", "b"])
-            self.assertEqual(cost.least(bounded, [2, 1, 0]).by, "dlx3")
+            found = cost.least(bounded, [2, 1, 0])
+            self.assertEqual((found.by in ("dlx3", "prices"), found.cost), (True, 1))
             self.assertIsNone(cost.least(dominoes(3, 3), [1] * 12))
 
 

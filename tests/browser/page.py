@@ -615,7 +615,14 @@ class Page(Pages):
         self.assertRegex(self.tab.text("#summary"), told)
         self.example("A roster with wishes")
         self.solve()
-        self.assertIn("The least cost is ", self.tab.text("#summary"))
+        self.assertRegex(self.tab.text("#summary"), r"The least cost is -1, as \w+ found\. -1 by line 3: wed/early cat -1\.\Z")
+        # What is wrong is seen at once, although the form is longer than the window.
+        self.tab.value("document.querySelector('#costs').value = 'mon/noon ann 3'")
+        self.solve()
+        self.assertIn("costs: line 1: mon/noon ann 3: ", self.tab.text("#state"))
+        box = "document.querySelector('#state').getBoundingClientRect()"
+        top, bottom, height = self.tab.value(f"[{box}.top, {box}.bottom, innerHeight]")
+        self.assertTrue(0 <= top < bottom <= height, (top, bottom, height))
         self.example("Eight queens")
         self.assertFalse(self.tab.is_shown("#costs"))
         self.is_quiet()

@@ -17,12 +17,12 @@ use xc_search::{Halt, Span};
 pub const FIRST_WORK: u64 = 17_000_000;
 /// The work of a turn of the search, about.
 const TURN_WORK: u64 = 4_000_000;
-/// How much more of the work the search does than the sweep, before its own work is `LONG_WORK` and from then on. A sweep
-/// of many states takes more time than its work says, since most of them are in no cache.
+/// How much more of the work the search does than the sweep.
 const ODDS: u64 = 5;
-
+/// The same once its own work is `LONG_WORK`: a sweep of many states takes more time than the work that it tells, since
+/// most of them are in no cache.
 const LONG_ODDS: u64 = 8;
-
+/// The work of a long search.
 const LONG_WORK: u64 = 250_000_000;
 /// The branches of the first turn.
 const FIRST_BRANCHES: u64 = 64;

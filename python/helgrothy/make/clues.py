@@ -1,4 +1,4 @@
-"""Puzzles whose clues are options that are given: each with the problem that has none of them."""
+"""Puzzles whose clues can be left out, most of them options that are given."""
 
 from __future__ import annotations
 
@@ -13,8 +13,8 @@ from ..problem import Problem
 @dataclass(frozen=True)
 class Clues:
     """problem: without clues. given: the options that are clues. cells: those that may be. write: the puzzle as it was
-    typed, with these clues. left: of a kind whose clues are no options, and have other numbers, the problem that has
-    these clues alone; `problem` has all then."""
+    typed, with these clues. left: of a kind with clues that are no options, which have other numbers, the problem that
+    has these clues alone; `problem` has all then."""
 
     problem: Problem[Any]
     given: list[int]

@@ -6,14 +6,14 @@ import argparse
 import itertools
 import re
 from collections import Counter
-from collections.abc import Iterator, Mapping, Sequence
+from collections.abc import Collection, Iterable, Iterator, Mapping, Sequence
 from dataclasses import dataclass, field
 from typing import Any
 
 from ..draw import Cell, Drawing, Picture, check_size
 from ..errors import TableFault
 from ..problem import Problem
-from .clues import Clues, options_of
+from .clues import Clues
 from .kind import Counted, Kind, check_items, cut, picture, read_text
 
 Square = tuple[int, int]
@@ -21,23 +21,25 @@ Square = tuple[int, int]
 DIGITS = range(1, 10)
 _ACROSS, _DOWN = "across", "down"
 _STEPS = {_ACROSS: (0, 1), _DOWN: (1, 0)}
-_WHITE, _BLACK = "._", "#"
-_SUMS = re.compile(r"([0-9]{0,4})[\\/]([0-9]{0,4})\Z")
+_WHITE, _BLACK, _UNTOLD = "._", "#", "?"
+_SUMS = re.compile(r"([0-9]{0,4}|\?)[\\/]([0-9]{0,4}|\?)\Z")
 _SUM = re.compile(r"[0-9]{2,4}\Z")
 _RUN = re.compile(r"(across|down)-r([0-9]+)c([0-9]+)\Z")
 _HELD = re.compile(r"(?:across|down)-r[0-9]+c[0-9]+=([1-9])\Z")
-_WORD, _GIVEN = re.compile(r"\S+"), re.compile(r"(?<!\S)[1-9](?!\S)")
+# A cell of the picture, and a sum in one.
+_WORD, _TOLD = re.compile(r"\S+"), re.compile(r"[0-9]+")
 _CELL = re.compile(r"r([0-9]+)c([0-9]+)\Z")
 
 
 @dataclass
 class _Run:
-    """White cells in a row or a column, the sum that is asked of them, and the digits that they may have for it."""
+    """White cells in a row or a column, the sum that is asked of them, if it is told, and the digits that they may have
+    for it."""
 
     name: str
     way: str
     line: int
-    total: int
+    total: int | None
     cells: list[Square]
     sets: list[frozenset[int]] = field(default_factory=list)
 
@@ -46,7 +48,7 @@ def problem(grid: str) -> Problem[list[str]]:
     """The Kakuro of this picture: cells with blanks between them, a row in each line.
 
     A dot is a white cell, a digit one that is given, # a black one. `17\\24` is a black cell with the sum 17 below it
-    and 24 to its right; either may be missing. Each run of two cells or more has a sum.
+    and 24 to its right; either may be missing. Each run of two cells or more has a sum, or ? where it isn't told.
 
     To write digit 5 in a cell is the option `r2c2 across-r2c2=5 down-r1c2=5`; a run takes the digits that it doesn't
     have, `across-r2c2 across-r2c2=1 ..`. So each digit of a run is taken once, and its cells have the sum. Raises
@@ -133,12 +135,13 @@ def _runs(rows: Sequence[tuple[int, list[str]]], marks: dict[Square, str]) -> It
                 cells.append(at)
                 at = at[0] + down, at[1] + right
             found = _SUMS.match(mark)
-            total = found.group(1 if way == _DOWN else 2) if found else ""
-            if not total and len(cells) > 1:
+            asked = found.group(1 if way == _DOWN else 2) if found else ""
+            if not asked and len(cells) > 1:
                 told = f"no sum for the {len(cells)} cells {_where(way)} from {_name(cells[0])} on"
                 raise TableFault(number, mark, told)
-            if total:
-                run = _Run(f"{way}-{_name(cells[0])}" if cells else "", way, number, int(total), cells)
+            if asked:
+                total = None if asked == _UNTOLD else int(asked)
+                run = _Run(f"{way}-{_name(cells[0])}" if cells else "", way, number, total, cells)
                 run.sets = list(_sets(run, mark))
                 yield run
 
@@ -156,16 +159,17 @@ def _sets(run: _Run, mark: str) -> Iterator[frozenset[int]]:
     """The digits that a run may have. Raises `TableFault` where there are none."""
     count, beside = len(run.cells), "to its right" if run.way == _ACROSS else "below it"
     if not count:
-        raise TableFault(run.line, mark, f"there is no white cell {beside} that would have the sum {run.total}")
+        which = "a sum" if run.total is None else f"the sum {run.total}"
+        raise TableFault(run.line, mark, f"there is no white cell {beside} that would have {which}")
     if count > len(DIGITS):
         raise TableFault(run.line, mark, f"{count} cells {beside}, and there are nine digits")
     least, most = sum(DIGITS[:count]), sum(DIGITS[-count:])
-    if not least <= run.total <= most:
+    if run.total is not None and not least <= run.total <= most:
         what = "digit" if count == 1 else "digits that differ"
         bounds = f"{least} at least and {most} at most"
         raise TableFault(run.line, mark, f"the sum {run.total} is asked of {count} {what} {beside}: {bounds}")
     for digits in itertools.combinations(DIGITS, count):
-        if sum(digits) == run.total:
+        if run.total in (None, sum(digits)):
             yield frozenset(digits)
 
 
@@ -185,11 +189,17 @@ def _check_totals(rows: Sequence[tuple[int, list[str]]], runs: Sequence[_Run]) -
                 joined.add(at)
                 waiting += [other for own in (across, down) if at in own for other in own[at].cells]
         if joined <= set(across) and joined <= set(down):
-            totals = [sum({id(own[at]): own[at].total for at in joined}.values()) for own in (across, down)]
-            if totals[0] != totals[1]:
+            totals = [_sum_of(own[at] for at in joined) for own in (across, down)]
+            if None not in totals and totals[0] != totals[1]:
                 told = f"the sums across are {totals[0]} in all and those down {totals[1]}"
                 which = f"of the cells that are connected with {_name(first)}"
                 raise TableFault(rows[first[0] - 1][0], "", f"{told}, {which}")
+
+
+def _sum_of(runs: Iterable[_Run]) -> int | None:
+    """The sum of all cells of runs, each taken once, if it is told."""
+    totals = {id(run): run.total for run in runs}.values()
+    return None if None in totals else sum(total or 0 for total in totals)
 
 
 def _check_given(
@@ -215,7 +225,7 @@ def _check_given(
 def drawing(problem: Problem[Any]) -> Drawing:
     """The grid with its digits, as it is written."""
     board = [(int(found.group(1)), int(found.group(2))) for found in map(_CELL.match, problem.item_names) if found]
-    sums: dict[Square, list[str]] = {}
+    totals: dict[Square, tuple[set[int], set[int]]] = {}
     for option in problem.options:
         name, *words = problem.line(option).split()
         run = _RUN.match(name)
@@ -223,12 +233,12 @@ def drawing(problem: Problem[Any]) -> Drawing:
             way, r, c = run.group(1), int(run.group(2)), int(run.group(3))
             missing = sum(int(found.group(1)) for found in map(_HELD.match, words) if found)
             head = (r, c - 1) if way == _ACROSS else (r - 1, c)
-            sums.setdefault(head, ["", ""])[way == _ACROSS] = str(sum(DIGITS) - missing)
+            totals.setdefault(head, (set(), set()))[way == _ACROSS].add(sum(DIGITS) - missing)
     rows, columns = max(r for r, _ in board), max(c for _, c in board)
     check_size(rows, columns, len(board))
 
     def black(at: Square) -> Cell:
-        below, right = sums.get(at, ("", ""))
+        below, right = map(_label, totals.get(at, ((), ())))
         own = (below, right) if below or right else None
         return Cell("" if own else _BLACK, "black", "#d4d0c8", is_quiet=True, sums=own)
 
@@ -245,6 +255,11 @@ def drawing(problem: Problem[Any]) -> Drawing:
     return draw
 
 
+def _label(totals: Collection[int]) -> str:
+    """What stands for a run whose digits may have these sums."""
+    return _UNTOLD if len(totals) > 1 else "".join(map(str, totals))
+
+
 def _cut(line: str) -> tuple[Square | None, str | None]:
     """The cell and the digit of an option, if it is that of a cell."""
     words = line.split()
@@ -258,7 +273,8 @@ def _add_arguments(parser: argparse.ArgumentParser) -> None:
         "grid",
         metavar="GRID",
         help="a file with a picture, blanks between its cells: a dot a white cell, a digit a given one, # a black one, "
-        "17\\24 a black one with the sum 17 below it and 24 to its right (- for standard input)",
+        "17\\24 a black one with the sum 17 below it and 24 to its right; ? stands for a sum that isn't told (- for "
+        "standard input)",
     )
 
 
@@ -267,29 +283,37 @@ def _make(arguments: argparse.Namespace) -> Problem[list[str]]:
 
 
 def _clues(arguments: argparse.Namespace) -> Clues:
+    """Digits, by their options, and sums, by numbers from that of the last option on, in the order of the file."""
     grid = read_text(arguments.grid)
-    problem(grid)
-    empty = problem(_GIVEN.sub(".", grid))
-    lines = [empty.line(option) for option in empty.options]
-    cells = {place: at for place, at in enumerate(map(_cut, lines)) if at[0] is not None and at[1] is not None}
+    whole = problem(grid)
+    marks = _marks([(number, line.split()) for number, line in picture(grid)])
+    cells = {place: own for place, own in enumerate(map(_cut, map(whole.line, whole.options))) if None not in own}
+    given = [place for place, (at, _) in cells.items() if at is not None and marks[at].isdigit()]
+    # A cell without a run is of no clue.
+    places = {at for at, _ in cells.values()}
+    count = sum(len(_TOLD.findall(mark)) for mark in marks.values() if not mark.isdigit())
+    sums = range(len(whole.options), len(whole.options) + count)
     first = picture(grid)[0][0]
 
-    def write(kept: Sequence[int]) -> str:
-        digits = dict(cells[place] for place in kept)
+    def write(kept: Collection[int]) -> str:
+        digits = {at: digit for place, (at, digit) in cells.items() if place in kept}
+        numbers = itertools.count(len(whole.options))
+
+        def sum_of(found: re.Match[str]) -> str:
+            return found.group() if next(numbers) in kept else _UNTOLD
+
+        def cell(at: Square, word: str) -> str:
+            if at in places:
+                return digits.get(at) or (_WHITE[0] if word.isdigit() else word)
+            return word if word.isdigit() else _TOLD.sub(sum_of, word)
+
         rows = []
         for r, line in enumerate(grid.splitlines(), 2 - first):
             columns = itertools.count(1)
-            rows.append(_WORD.sub(lambda found: _shown(digits, (r, next(columns)), found.group()), line) + "\n")
+            rows.append(_WORD.sub(lambda found: cell((r, next(columns)), found.group()), line) + "\n")
         return "".join(rows)
 
-    marks = _marks([(number, line.split()) for number, line in picture(grid)])
-    held = [(_name(at), f"*={mark}") for at, mark in marks.items() if mark.isdigit()]
-    return Clues(empty, options_of(empty, held), list(cells), write)
-
-
-def _shown(digits: dict[Square | None, str | None], at: Square, word: str) -> str:
-    """What stands in a cell where these digits are given."""
-    return digits.get(at) or (_WHITE[0] if word.isdigit() or word in _WHITE else word)
+    return Clues(whole, [*given, *sums], list(cells), write, lambda kept: problem(write(kept)))
 
 
 KIND = Kind("kakuro", "a Kakuro from its grid", _add_arguments, _make, drawing, clues=_clues)

@@ -24,7 +24,7 @@ from contextlib import suppress
 from dataclasses import dataclass, field, fields
 from typing import Any
 
-from .. import cost, shuffle, symmetry, why, wishes
+from .. import cost, engines, shuffle, symmetry, why, wishes
 from ..amounts import spelled
 from ..console import limited
 from ..draw import drawing_of
@@ -236,7 +236,7 @@ class _Solving:
         costs = self._costs(problem)
         try:
             found = cost.least(problem, costs.numbers, self._left() * 0.9)
-            told = "" if found is None else f"the least cost is {spelled(found.cost)}, as {_finder(found.by)} found"
+            told = "" if found is None else f"the least cost is {spelled(found.cost)}, as {_finder(found.by)}"
         except cost.NotLeast as error:
             found = error.best
             over = f"{self._request.seconds:g} seconds are over"
@@ -244,6 +244,9 @@ class _Solving:
                 yield record.end(0, False, [over])
                 return
             told = f"it costs {spelled(found.cost)}; {over}, and there may be a cheaper one"
+        except engines.Claimed as claim:
+            yield record.end(0, False, [str(claim)])
+            return
         if found is None:
             yield record.end(0, True, self._reasons(problem))
             return
@@ -289,7 +292,7 @@ class _Solving:
 
 
 def _finder(by: str) -> str:
-    return "a sweep over states" if by == "states" else by
+    return {"states": "a sweep over states found", "prices": "prices of the items show"}.get(by, f"{by} found")
 
 
 _ANSWERS: dict[str, Callable[[Request], Iterator[str]]] = {

@@ -7,14 +7,13 @@ from __future__ import annotations
 
 import base64
 import hashlib
+import os
 import re
 from collections.abc import Iterable
-from html import escape
-from pathlib import Path
 
-from ..shown import shown
+from ..shown import escaped
 
-_PARTS = Path(__file__).parent / "parts"
+_PARTS = os.path.join(os.path.dirname(__file__), "parts")
 _STYLE = "look.css"
 _MARK = re.compile(r"\{\{(\w+)\}\}")
 _LESS = {"<": "\\u003c", ">": "\\u003e", "&": "\\u0026"}
@@ -29,14 +28,14 @@ def document(
     """
     before, between, behind = frame(bodies, scripts, connects)
     told = _in_script(f"[{','.join(data)}]")
-    return f"{before}{escape(shown(title))}{between}{told}{behind}"
+    return f"{before}{escaped(title)}{between}{told}{behind}"
 
 
 def frame(bodies: Iterable[str], scripts: Iterable[str], connects: bool = False) -> list[str]:
     """Such a document without its title and its data: what stands before, between and after these."""
     scripts = list(scripts)
     given = {
-        "policy": escape(policy(scripts, connects)),
+        "policy": escaped(policy(scripts, connects)),
         "style": _part(_STYLE),
         "body": "".join(map(_part, bodies)),
         "script": _script(scripts),
@@ -76,4 +75,6 @@ def _hash(text: str) -> str:
 
 
 def _part(name: str) -> str:
-    return (_PARTS / name).read_text(encoding="utf-8")
+    # Without pathlib, which loads what is for addresses: a page is written at each `--html`.
+    with open(os.path.join(_PARTS, name), encoding="utf-8") as file:
+        return file.read()

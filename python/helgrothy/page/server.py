@@ -182,7 +182,9 @@ class Server:
         try:
             if not is_closed:
                 connection.sendall(head(200, "application/x-ndjson"))
-                _pass_on(connection, answer)
+                # The server's own end is told by that of the connection.
+                if _pass_on(connection, answer) and not self._is_closed:
+                    connection.sendall(_NO_END)
         finally:
             answer.close()
             with self._lock:
@@ -218,20 +220,19 @@ def _body(connection: socket.socket, begun: bytes, length: int) -> bytes:
     return bytes(body)
 
 
-def _pass_on(connection: socket.socket, answer: Answer) -> None:
-    """Passes an answer on as it comes, as long as anybody is there for it."""
+def _pass_on(connection: socket.socket, answer: Answer) -> bool:
+    """Passes an answer on as it comes, as long as anybody is there for it. Returns whether it breaks off."""
     deadline = time.monotonic() + MOST_SECONDS + _MORE_SECONDS
     while True:
         ready = select.select([answer.out, connection], [], [], max(deadline - time.monotonic(), 0))[0]
         if connection in ready:
             # Whoever asked is gone, or says more than is wanted.
-            return
+            return False
         chunk = answer.read() if ready else b""
         if not chunk:
             break
         connection.sendall(chunk)
-    if not (ready and answer.is_whole()):
-        connection.sendall(_NO_END)
+    return not (ready and answer.is_whole())
 
 
 class Answer:
