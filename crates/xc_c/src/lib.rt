@@ -2,6 +2,7 @@
 //! `bindings/c/helgrothy.h`. Each returns a status: 0 where all was done, 1 for a number of no kind, 2 for a text with
 //! a fault, 3 where a listing or a number is longer than its buffer, 4 for lack of memory, 5 where a search met its
 //! limit. Names and colours are hashed by the seed, and the answer is the same by each.
+//!
 //! A call keeps nothing: no handle to a search and the problem that it borrows can be both exported and proved
 //! (`docs/DECISIONS.md`).
 #![tactic(auto)]

@@ -130,8 +130,8 @@ fn answer_read<O: Sink, E: Sink>(
 /// with `o` after a line for each option to `out`: its number and in how many covers it is. With `n` the solution of
 /// that number is written to `out`, as a whole listing would have it. Messages go to `err`. It returns the status: 0
 /// where the answer was printed, 1 for other words, 2 for a fault of the problem, 3 where a read or a write failed, 4
-/// where memory ran out, 5 where there are fewer solutions than `n` says. Names are hashed by the input's seed. fn
-/// count_covers<S: Source, O: Sink, E: Sink>(
+/// where memory ran out, 5 where there are fewer solutions than `n` says. Names are hashed by the input's seed.
+pub fn count_covers<S: Source, O: Sink, E: Sink>(
     alloc: Global,
     words: &[Vec<u8>],
     input: &mut S,
