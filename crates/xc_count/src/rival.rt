@@ -23,7 +23,7 @@ const ODDS: u64 = 5;
 /// most of them are in no cache.
 const LONG_ODDS: u64 = 8;
 /// The work of a long search.
-const LONG_WORK: u64 = 250_000_000;
+const LONG_WORK: u64 = 100_000_000;
 /// The branches of the first turn.
 const FIRST_BRANCHES: u64 = 64;
 /// The work of a branch beside that of going over options.
