@@ -24,11 +24,11 @@ from typing import NamedTuple
 
 from instructions import OUT, SETS, Run, ending, mean, taken
 from page import put
-from unproved import built, crates_of, kit_name
+from unproved import built, crates_of
 
 HERE = Path(__file__).resolve().parent
 TOP = HERE.parent.parent
-HEAD = "| Form | Instead | Where | Counted on | Ratio | Kit |"
+HEAD = "| Form | Instead | Where | Counted on | Ratio |"
 LINE = re.compile(r"(# (?:form|instead|set)|file|old|new):(?: (.*))?")
 NAMED = re.compile(r"\b(?:fn|struct|enum|impl|trait|const(?! fn)) +(\w+)")
 
@@ -144,7 +144,7 @@ def main() -> None:
     forms = [it for it in read_all() if not given.name or it.name in given.name]
     if (faults := stale(forms)) or given.check:
         sys.exit("\n".join(faults) or 0)
-    lines, failed = [HEAD, "|---|---|---|---|---|---|"], 0
+    lines, failed = [HEAD, "|---|---|---|---|---|"], 0
     print("\n".join(lines), flush=True)
     for form in forms:
         try:
@@ -153,7 +153,7 @@ def main() -> None:
             print(f"{form.name}: {fault}", file=sys.stderr, flush=True)
             failed += 1
             continue
-        cells = [form.stands, form.instead, place(form), form.set, found, kit_name()]
+        cells = [form.stands, form.instead, place(form), form.set, found]
         lines.append("| " + " | ".join(cells) + " |")
         print(lines[-1], flush=True)
     for name in sorted({it.set for it in forms}):

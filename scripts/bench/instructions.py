@@ -21,7 +21,7 @@ from pathlib import Path
 from typing import NamedTuple
 
 import problems
-from larger import LARGER
+from larger import ENDLESS, LARGER
 from page import put
 
 OUT = Path(__file__).resolve().parent / "out"
@@ -70,7 +70,8 @@ def text_of(name: str) -> Path:
         file.parent.mkdir(parents=True, exist_ok=True)
         near = file.with_suffix(f".{os.getpid()}")
         with open(near, "w") as made:
-            primary, secondary, options = next(it for it in [*problems.PROBLEMS, *LARGER] if it.name == name).make()
+            made_so = next(it for it in [*problems.PROBLEMS, *LARGER, *ENDLESS] if it.name == name)
+            primary, secondary, options = made_so.make()
             problems.write(primary, secondary, options, made)
         os.replace(near, file)
     return file

@@ -58,6 +58,9 @@ LARGER = [
     larger("trominoes9x9", 1193600, "the solver", lambda: placed(["XX X."], 9, 9)),
     larger("tetrominoes6x8", 22483347, "the solver", lambda: placed(list(TETROMINOES.values()), 6, 8)),
     larger("bricks4x4x4", 5051532105, "a transfer matrix", lambda: bricks(4)),
+]
+# No search ends on these.
+ENDLESS = [
     larger("dominoes12x12", 53060477521960000, "Kasteleyn 1961", lambda: placed(["XX"], 12, 12)),
     larger("dominoes16x16", 2444888770250892795802079170816, "Kasteleyn 1961", lambda: placed(["XX"], 16, 16)),
     larger(

@@ -39,21 +39,10 @@ HEAD = """\
 |---|---|---|---|---|---|---|---|"""
 
 
-def langford(n):
-    options = [(str(k), f"s{j}", f"s{j + k + 1}") for k in range(1, n + 1) for j in range(1, 2 * n - k)]
-    return [str(k) for k in range(1, n + 1)] + [f"s{j}" for j in range(1, 2 * n + 1)], [], options
-
-
 MADE = {case.name: (case.kind, case.make) for case in problems.PROBLEMS}
 CASES = {
-    "pentominoes6x10": MADE["pentominoes6x10"],
     "squares4": MADE["squares4"],
     "queens16": (1, lambda: problems.queens(16)),
-    "langford15": (1, lambda: langford(15)),
-    "planes3": MADE["planes3"],
-    "prism20": MADE["prism20"],
-    "queens20": (1, lambda: problems.queens(20)),
-    "queens24": (1, lambda: problems.queens(24)),
     "sudoku_many": MADE["sudoku_many"],
     "dominoes2x30": MADE["dominoes2x30"],
 }

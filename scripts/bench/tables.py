@@ -57,8 +57,10 @@ def main() -> None:
             put(given.page, lines)
     if given.no_times:
         return
-    # The page has no such table yet.
-    print("\n".join(counts.table(folders[1])), end="\n\n", flush=True)
+    lines = counts.table(folders[1])
+    print("\n".join(lines), end="\n\n", flush=True)
+    if given.page:
+        put(given.page, lines)
     for problem in problems.PROBLEMS:
         text_of(problem.name)
     command = [sys.executable, str(HERE / "bench.py"), str(OUT / "problems"), "--ours", str(folders[1]), "--c-alone"]
