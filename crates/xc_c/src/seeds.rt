@@ -1,5 +1,5 @@
 //! The seed by which a call hashes names and colours.
-ghost use Rattle.std.specs.Prelude.{◌≡◌};
+ghost use Rattle.std.specs.Prelude.{◌≡◌, ◌≢◌, ◌*◌, ◌%◌, ◌^◌, ◌/◌};
 
 use xc_input::Seed;
 
@@ -10,6 +10,7 @@ const MIXED: u128 = 0x9e37_79b9_7f4a_7c15_d1b5_4a32_d192_ed03;
 // A number, since an export can't draw one: to ask the system for random bytes takes a handle.
 pub(crate) fn seed_by_number(number: u64) -> Seed
     ensures fixed { number ≡ 0 → result ≡ Seed.FIXED }
+    ensures other { number ≢ 0 → result.state ≡ number * MIXED % 2 ^ 128 / 2 ^ 64 }
 {
     if number == 0 {
         return Seed::FIXED;
