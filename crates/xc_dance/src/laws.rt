@@ -8,7 +8,7 @@ ghost use Rattle.xc_dance.specs.Moves.{IsLegal, listed_numbers, next_above};
 ghost use Rattle.xc_dance.specs.Same.{IsSame};
 ghost use Rattle.xc_dance.specs.declared.dance.Move.{Move};
 
-use crate::{Count, Dance, Field, Full, Links, Move};
+use crate::{Count, Dance, Field, Full, Links, Memory, Move};
 
 /// Makes a legal move and undoes it. Each field of the tables is then what it was, those of nodes
 /// that no list shows included, and both wrote as many cells. Where the trail is full, nothing changes.
@@ -34,16 +34,20 @@ pub fn lists_rise()
         0 ∷ listed_numbers p t i ≡ front ++ o ∷ back → next_above o (listed_numbers p t i) ≡ slice_get back 0 }
 {}
 
-/// Two moves, counts or fields are equal exactly if `==` says so.
+/// Two values of any of these types are equal exactly if `==` says so.
 pub fn equality()
     ensures moves { DecidesEquality ⟦<Move as PartialEq>⟧.eq }
     ensures counts { DecidesEquality ⟦<Count as PartialEq>⟧.eq }
     ensures fields { DecidesEquality ⟦<Field as PartialEq>⟧.eq }
+    ensures full { DecidesEquality ⟦<Full as PartialEq>⟧.eq }
+    ensures memory { DecidesEquality ⟦<Memory as PartialEq>⟧.eq }
 {}
 
-/// A clone of a move, a count or a field is equal to it.
+/// A clone of a value of any of these types is equal to it.
 pub fn clones()
     ensures moves { IsEqualClone ⟦<Move as Clone>⟧.is_clone }
     ensures counts { IsEqualClone ⟦<Count as Clone>⟧.is_clone }
     ensures fields { IsEqualClone ⟦<Field as Clone>⟧.is_clone }
+    ensures full { IsEqualClone ⟦<Full as Clone>⟧.is_clone }
+    ensures memory { IsEqualClone ⟦<Memory as Clone>⟧.is_clone }
 {}
