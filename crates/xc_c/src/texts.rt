@@ -6,9 +6,12 @@ ghost use Rattle.xc_input.specs.Readings.{IsErrorFor};
 ghost use Rattle.xc_input.specs.Lines.{lines_of};
 ghost use Rattle.xc_input.specs.FirstFault.{content, first_fault};
 ghost use Rattle.xc_input.specs.Text.{StandsFor};
+ghost use Rattle.xc_dance.specs.Dancing.{moves_made};
+ghost use Rattle.xc_dance.specs.Linked.{dancing_of};
 ghost use Rattle.xc_search.specs.Cover.{members, EachMemberCovers, EachCoverIsListedOnce};
 ghost use Rattle.natural.specs.Numerals.{numeral};
 ghost use Rattle.xc_c.specs.Answers.{IsFilled, IsSearched, Lists, Totals};
+ghost use Rattle.xc_c.specs.inner.Counting.{CountMakesFew};
 ghost use Rattle.xc_c.specs.inner.Statuses.{listing_status};
 
 use crate::numbers::{DONE, LIMIT, NO_ROOM};
@@ -89,15 +92,18 @@ pub(crate) fn first_fault(
     }
 }
 
-/// How many solutions a problem has, up to a limit.
-fn count_members(alloc: Global, problem: &Problem, limit: u64) -> Result<u64, Memory>
-    ensures count { IfOk result (λ count. count ≡ min limit (length (members problem.now.puzzle))) }
+/// How many solutions a problem has, up to a limit, and the tables that were searched for them, which tell the work.
+fn count_members(alloc: Global, problem: &Problem, limit: u64) -> Result<(Links, u64), Memory>
+    ensures count { IfOk result (λ counted. counted.1 ≡ min limit (length (members problem.now.puzzle))) }
+    ensures moves { IfOk result
+        (λ counted. CountMakesFew problem.now.puzzle limit (moves_made (dancing_of counted.0))) }
     ensures right { OnOk result (EachMemberCovers problem.now.puzzle) }
     ensures complete { OnOk result (EachCoverIsListedOnce problem.now.puzzle) }
 {
     let links = Links::for_search(alloc, problem)?;
     let mut search = Search::begin(alloc, links, problem)?;
-    Ok(search.pass(limit))
+    let count = search.pass(limit);
+    Ok((search.close(), count))
 }
 
 /// How many solutions the problem of a text has, up to a limit.
@@ -115,7 +121,7 @@ pub(crate) fn count_solutions(
 {
     let read = read_text(alloc, kind, text, seed)?;
     match count_members(alloc, &read.problem, limit) {
-        Ok(count) => Ok(count),
+        Ok((_, count)) => Ok(count),
         Err(_) => Err(InputError::Memory),
     }
 }
