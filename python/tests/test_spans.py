@@ -576,6 +576,27 @@ class FewWorkers(unittest.TestCase):
             self.assertEqual({came.get(timeout=60).text for _ in range(3)}, {span.run(task).text})
             self.assertEqual(own._working, 2)
 
+    def test_stopped_as_a_worker_begins(self):
+        right, begun = threading.Thread.start, []
+
+        def start(thread):
+            right(thread)
+            begun.append(thread)
+            if len(begun) == 2:
+                raise KeyboardInterrupt
+
+        own, came = workers.Own(2), queue.SimpleQueue()
+        task = span.Task(1, False, QUEENS, "-", "-", 0, 0)
+        with mock.patch.object(threading.Thread, "start", start):
+            own.submit(task, came.put)
+            with self.assertRaises(KeyboardInterrupt):
+                own.submit(task, came.put)
+        closing = threading.Thread(target=own.close, daemon=True)
+        closing.start()
+        for thread in (closing, *begun):
+            thread.join(60)
+            self.assertFalse(thread.is_alive())
+
     def test_no_more_than_there_can_be(self):
         self.assertEqual(self.problem.count(jobs=workers.MOST_JOBS), 92)
         with self.assertRaisesRegex(ValueError, "jobs must be at most 4096"):

@@ -52,7 +52,7 @@ class Join:
         self._threads: list[threading.Thread] = []
         try:
             for act in (self._feed, self._print) if out == subprocess.PIPE else (self._feed,):
-                self._threads.append(begin(partial(self._try, act)))
+                begin(partial(self._try, act), self._threads)
         except BaseException:
             self._close()
             raise
@@ -90,7 +90,8 @@ class Join:
         self._process.kill()
         self._process.wait()
         for thread in self._threads:
-            thread.join()
+            if thread.is_alive():
+                thread.join()
         for pipe in (self._process.stdin, self._process.stdout, self._process.stderr):
             if pipe is not None:
                 with suppress(OSError):

@@ -120,7 +120,7 @@ class Own(Workers):
         if is_new:
             self._threads = [thread for thread in self._threads if thread.is_alive()]
             try:
-                self._threads.append(begin(self._work))
+                begin(self._work, self._threads)
             except SearchFault:
                 if not self._is_too_much():
                     raise
@@ -161,7 +161,8 @@ class Own(Workers):
         for _ in self._threads:
             self._tasks.put(None)
         for thread in self._threads:
-            thread.join()
+            if thread.is_alive():
+                thread.join()
 
 
 def _nothing() -> None:
