@@ -54,9 +54,9 @@ class Occurrences(InFolder):
         self.assertEqual(times[0], 12988816 // 2)
 
     def test_what_stops_it(self):
-        with self.assertRaisesRegex(OutOfTime, "it was counted of [0-9]+ of 264 options in how many"):
+        with self.assertRaisesRegex(OutOfTime, "it was counted of [0-9]+ of 480 options in how many"):
             with mock.patch.object(Problem, "_count", lambda self, seconds: mock.Mock(total=10**9)):
-                dominoes(12).occurrences(seconds=0.05, jobs=1)
+                dominoes(16).occurrences(seconds=0.05, jobs=1)
         with self.assertRaises(ValueError):
             dominoes(4).occurrences(jobs=0)
         known = programs.find
