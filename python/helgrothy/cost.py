@@ -10,6 +10,8 @@ Where that takes more than a second, a sweep over states goes on beside it, and 
 so far is least, until one of them ends. Dominoes on 8 by 8 with random costs took dlx3 five seconds and the sweep a
 thirtieth of one; a roster with bounds is for the others alone. Whoever it is says by itself that no solution costs
 less; that it is a solution is judged.
+
+Where clasp fails, dlx3 goes on from the best solution of it. Where it takes too long, that solution is what there is.
 """
 
 from __future__ import annotations
@@ -17,10 +19,10 @@ from __future__ import annotations
 import math
 import os
 import time
-from collections.abc import Generator, Hashable, Iterator, Sequence
+from collections.abc import Callable, Generator, Hashable, Iterator, Sequence
 from contextlib import closing
 from fractions import Fraction
-from typing import Any, TypeVar, Union
+from typing import Any, Generic, TypeVar, Union
 
 from . import answers, export, sat_solver
 from .amounts import A_NUMBER, is_number
@@ -28,7 +30,7 @@ from .errors import AnswerFault, OutOfTime, ProgramFailed, TableFault
 from .prices import PARTS, Prices
 from .problem import Problem
 from .programs import Run
-from .sat_solver import NoAnswer
+from .sat_solver import Engine, Heard, NoAnswer
 from .shown import bytes_of
 from .solution import Solution, Source
 from .states import Sweep
@@ -38,11 +40,18 @@ __all__ = ["Cost", "Least", "NotLeast", "least", "read"]
 
 Option = TypeVar("Option", bound=Any)
 Cost = Union[int, float, Fraction]
+# Solutions that cost less and less: what each costs, and its options.
+_Cheaper = Generator[tuple[int, list[int]], None, None]
 
-# The programs are alone for so many seconds of a processor, and then the sweep has turns of so many seconds.
-_ALONE_SECONDS, _TURN_SECONDS = 1.0, 0.3
-# Clasp reckons with numbers of 32 bits. A line of it has a word for each option, and others are short.
-_MOST_SUM, _MOST_LINE, _MOST_WORD = (1 << 31) - 1, 1 << 16, 16
+# The programs are alone for so many seconds of a processor, or by the clock where they have had less; then the sweep
+# has turns of so many seconds.
+_ALONE_SECONDS, _MOST_ALONE, _TURN_SECONDS = 1.0, 10.0, 0.3
+# Without seconds of its own clasp may take so long, by the clock.
+MOST_SECONDS = sat_solver.MOST_SECONDS
+# Clasp reckons with numbers of 32 bits.
+_MOST_SUM = (1 << 31) - 1
+# What it reports at its end, without a solution and with one.
+_NONE, _LEAST = b"s UNSATISFIABLE", b"s OPTIMUM FOUND"
 # That there is no solution, where clasp reports so, is for the program to show in so many seconds.
 _NONE_SECONDS = 2.0
 # Costs are shared among items so often.
@@ -108,12 +117,17 @@ def read(text: str, options: int) -> list[Fraction]:
     return costs
 
 
-def least(problem: Problem[Option], costs: Sequence[Cost], seconds: float | None = None) -> Least[Option] | None:
+def least(
+    problem: Problem[Option],
+    costs: Sequence[Cost],
+    seconds: float | None = None,
+    tell: Callable[[str], object] = lambda line: None,
+) -> Least[Option] | None:
     """The solution of least cost, as dlxcheck judges it to be one; None where there is no solution.
 
-    costs: of each option in their order. Raises `NotLeast`, `ValueError` for another number of costs, and what is
-    clasp's: `engines.Claimed` where it reports that there is no solution, and the program doesn't show that soon, and
-    `sat_solver.NoAnswer` where it gives no answer.
+    costs: of each option in their order. tell: gets a line that says what clasp did wrong. Raises `NotLeast`, also
+    without seconds where clasp has taken `MOST_SECONDS`; `ValueError` for another number of costs; and
+    `engines.Claimed` where clasp reports that there is no solution, and the program doesn't show that soon.
     """
     deadline = None if seconds is None else time.monotonic() + seconds
     if len(costs) != len(problem.options):
@@ -121,38 +135,87 @@ def least(problem: Problem[Option], costs: Sequence[Cost], seconds: float | None
     exact = [Fraction(str(cost)) if isinstance(cost, float) else Fraction(cost) for cost in costs]
     unit = math.lcm(1, *(cost.denominator for cost in exact))
     whole = [int(cost * unit) for cost in exact]
-    beside = _Beside(problem, whole)
+    search = _Search(problem, exact, whole)
     path = sat_solver.path_of("clasp")
     if path is not None and sum(abs(cost) for cost in whole) <= _MOST_SUM and problem.options:
-        search: Iterator[tuple[int, list[int]]] = _by_clasp(problem, whole, path, seconds, beside)
-        by = "clasp"
-    else:
-        search, by = _by_bounds(problem, whole, seconds, beside), "dlx3"
-    reader = OfNumbers(problem)
-    best: Least[Option] | None = None
-    try:
-        for beside.best, numbers in search:
-            best = Least(reader, numbers, sum((exact[number] for number in numbers), Fraction(0)), by)
-            beside.look()
-    except _Shown:
-        assert best is not None
-        best.by = "prices"
-    except _Swept as swept:
-        best = Least(reader, swept.numbers, sum((exact[number] for number in swept.numbers), Fraction(0)), "states")
-    except OutOfTime:
-        raise NotLeast(None if best is None else _judged(problem, best)) from None
-    if best is not None:
-        return _judged(problem, best)
-    if by == "clasp":
-        _check_none(problem, deadline)
-    return None
+        try:
+            search.by_clasp(Engine("clasp", path), deadline)
+            return search.best
+        except NoAnswer as error:
+            tell(f"{error}; dlx3 goes on")
+    search.by_bounds(deadline)
+    return search.best
 
 
-def _judged(problem: Problem[Option], found: Least[Option]) -> Least[Option]:
-    """The solution, which dlxcheck has to take."""
-    if problem.check([found]) != [True]:
-        raise ProgramFailed(found.by, 0, "its answer is no solution, as dlxcheck judges it")
-    return found
+class _Search(Generic[Option]):
+    """The cheapest solution so far, in the end as dlxcheck judges it to be one."""
+
+    def __init__(self, problem: Problem[Option], exact: Sequence[Fraction], costs: Sequence[int]) -> None:
+        self._problem = problem
+        self._reader = OfNumbers(problem)
+        self._exact = exact
+        self._costs = costs
+        self._beside = _Beside(problem, costs)
+        self.best: Least[Option] | None = None
+
+    def by_clasp(self, clasp: Engine, deadline: float | None) -> None:
+        """Raises `NotLeast`, `Claimed` and `NoAnswer`; of that the best solution is left, where it is one."""
+        left = MOST_SECONDS if deadline is None else max(deadline - time.monotonic(), 0.0)
+        try:
+            self._take(_by_clasp(self._problem, self._costs, clasp, left, self._beside), clasp.name)
+        except OutOfTime:
+            self._judge()
+            if deadline is None and self.best is None:
+                raise NoAnswer.in_time(clasp.name) from None
+            raise NotLeast(self.best) from None
+        except NoAnswer:
+            self._judge()
+            raise
+        self._judge()
+        if self.best is None:
+            _check_none(self._problem, deadline)
+
+    def by_bounds(self, deadline: float | None) -> None:
+        """Raises `NotLeast`."""
+        try:
+            self._take(_by_bounds(self._problem, self._costs, deadline, self._beside), "dlx3")
+        except OutOfTime:
+            self._check()
+            raise NotLeast(self.best) from None
+        self._check()
+
+    def _take(self, found: _Cheaper, by: str) -> None:
+        """Takes solutions that cost less and less, until whoever it is has said that the last one is least."""
+        try:
+            with closing(found) as solutions:
+                for self._beside.best, numbers in solutions:
+                    self._set(numbers, by)
+                    self._beside.look()
+            if self.best is not None:
+                self.best.by = by
+        except _Shown:
+            assert self.best is not None
+            self.best.by = "prices"
+        except _Swept as swept:
+            self._set(swept.numbers, "states")
+
+    def _set(self, numbers: Sequence[int], by: str) -> None:
+        cost = sum((self._exact[number] for number in numbers), Fraction(0))
+        self.best = Least(self._reader, numbers, cost, by)
+
+    def _check(self) -> None:
+        """Raises `ProgramFailed` where the best solution is none."""
+        if self.best is not None and self._problem.check([self.best]) != [True]:
+            raise ProgramFailed(self.best.by, 0, "its answer is no solution, as dlxcheck judges it")
+
+    def _judge(self) -> None:
+        """The same of what clasp called a solution, which is forgotten. Raises `NoAnswer`."""
+        try:
+            if self.best is not None:
+                sat_solver.judge("clasp" if self.best.by == "prices" else self.best.by, self._problem, self.best)
+        except NoAnswer:
+            self.best = self._beside.best = None
+            raise
 
 
 def _check_none(problem: Problem[Any], deadline: float | None) -> None:
@@ -197,7 +260,7 @@ class _Beside:
     def __init__(self, problem: Problem[Any], costs: Sequence[int]) -> None:
         self._problem = problem
         self._costs = costs
-        self._begun = sum(os.times()[:4])
+        self._begun, self._worked = time.monotonic(), sum(os.times()[:4])
         self._sweep: Sweep | None = None
         self._prices: Prices | None = None
         self.best: int | None = None
@@ -209,12 +272,12 @@ class _Beside:
             self._prices = Prices(self._problem, self._costs)
         return self._prices
 
-    def look(self, run: Run | None = None) -> None:
+    def look(self, run: Run | Heard | None = None) -> None:
         """A turn, where it is time for it. Raises `_Swept` where a sweep ends with a solution, `_Shown` and, during a
         search, `_Narrower`."""
         if self._sweep is None:
-            worked = sum(os.times()[:4]) - self._begun + (0.0 if run is None else run.worked())
-            if worked < _ALONE_SECONDS:
+            worked = sum(os.times()[:4]) - self._worked + (0.0 if run is None else run.worked())
+            if worked < _ALONE_SECONDS and time.monotonic() - self._begun < _MOST_ALONE:
                 return
             self._sweep = Sweep(self._problem, self._costs)
         if self.best is not None and self.prices.show(self.best, _TURN_SECONDS):
@@ -233,50 +296,49 @@ class _Beside:
 
 
 def _by_clasp(
-    problem: Problem[Any], costs: Sequence[int], path: str, seconds: float | None, beside: _Beside
-) -> Iterator[tuple[int, list[int]]]:
+    problem: Problem[Any], costs: Sequence[int], clasp: Engine, seconds: float, beside: _Beside
+) -> _Cheaper:
     """Solutions that cost less and less; the last one is least. Raises `OutOfTime` and `NoAnswer`."""
-    deadline = None if seconds is None else time.monotonic() + seconds
+    begun = time.monotonic()
     lines = export.opb(problem)
     text = [next(lines), next(lines), " ".join(["min:", *(f"{cost:+d} x{x}" for x, cost in enumerate(costs, 1)), ";"])]
     text += lines
-    left = None if deadline is None else max(deadline - time.monotonic(), 0.0)
-    is_over = False
-    most = _MOST_LINE + _MOST_WORD * len(problem.options)
-    words = sat_solver.limited([path, "-q0"])
-    with Run("clasp", words[1:], (bytes_of(f"{line}\n") for line in text), left, words[0]) as run:
+    best: int | None = None
+    status = b""
+    with Heard(clasp, ["-q0"], problem, (bytes_of(f"{line}\n") for line in text)) as engine:
 
         def told() -> Iterator[bytes]:
-            nonlocal is_over
-            rest = b""
-            for chunk in run.chunks(beside.look):
-                *whole, rest = (rest + chunk).split(b"\n")
-                if len(rest) > most:
-                    raise NoAnswer("clasp gave no answer (a line of it has no end)")
-                for line in whole:
-                    is_over = is_over or line in (b"s OPTIMUM FOUND", b"s UNSATISFIABLE")
-                    yield line
+            nonlocal status
+            for line in engine.lines(seconds - (engine.begun - begun), beside.look):
+                yield line
+                status = line if line.startswith(b"s ") else status
+                if status == (_NONE if best is None else _LEAST):
+                    return
 
         try:
-            for solution in answers.solutions("clasp", problem, told()):
-                yield sum(costs[number] for number in solution.numbers), solution.numbers
+            for solution in answers.solutions(clasp.name, problem, told()):
+                cost = sum(costs[number] for number in solution.numbers)
+                if best is None or cost < best:
+                    best = cost
+                    engine.found_better()
+                    yield cost, solution.numbers
         except AnswerFault as fault:
-            raise NoAnswer(f"clasp gave no answer ({run.messages() or fault})") from None
-        if not is_over:
-            raise NoAnswer(f"clasp gave no answer ({run.messages() or 'it ended before it knew which costs least'})")
+            raise NoAnswer(f"clasp gave no answer ({engine.messages() or fault})") from None
+        if status != (_NONE if best is None else _LEAST):
+            told_too = f" ({engine.messages()})" if engine.messages() else ""
+            raise NoAnswer(f"clasp ended before it knew which costs least{told_too}")
 
 
 # ---- by dlx3
 
 
 def _by_bounds(
-    problem: Problem[Any], costs: Sequence[int], seconds: float | None, beside: _Beside
-) -> Iterator[tuple[int, list[int]]]:
-    """The same, by bounds that are narrowed."""
-    deadline = None if seconds is None else time.monotonic() + seconds
+    problem: Problem[Any], costs: Sequence[int], deadline: float | None, beside: _Beside
+) -> _Cheaper:
+    """The same, by bounds that are narrowed; each costs less than the best one so far."""
     begun, priced = time.monotonic(), 0.0
     surplus, least = _surpluses(problem, [cost * PARTS for cost in costs])
-    best: int | None = None
+    best = beside.best
     # Options of small surplus come first, so that a cheap solution comes early. One without a primary item is in none.
     is_used = [any(item in problem.items for item, _ in problem._pairs(option)) for option in problem.options]
     order = sorted((place for place, used in enumerate(is_used) if used), key=lambda place: surplus[place])

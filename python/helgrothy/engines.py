@@ -36,7 +36,7 @@ _ALONE_SECONDS, _ALONE_SHARE = 2.0, 0.25
 # Then the engine is, for so many seconds of a processor, or by the clock where it has had less; and both are.
 _TURN_SECONDS, _MOST_TURN = 2.0, 10.0
 # The engine may take so long, and the writing of the problem for it.
-_MOST_SECONDS, _MOST_WRITING = 600.0, 8.0
+_MOST_SECONDS, _MOST_WRITING = sat_solver.MOST_SECONDS, 8.0
 # After so many seconds without a solution, and without an engine, a line says what would help.
 _LONG_SECONDS = 10.0
 _HELP = "no solution yet; cadical or clasp, if it were on the path, would look for one too"
@@ -148,7 +148,7 @@ class _Beside:
             if asked.has_ended():
                 self._end(asked.name, asked.numbers())
             elif passed > _MOST_SECONDS:
-                raise NoAnswer(f"{asked.name} gave no answer in its time")
+                raise NoAnswer.in_time(asked.name)
             elif passed > _MOST_TURN or asked.worked() > _TURN_SECONDS:
                 run.go_on()
         except NoAnswer as error:

@@ -131,21 +131,16 @@ class Run:
     """A run of a program over a text. As a context manager it leaves no process behind, however it is left.
 
     The text goes through a file without a name, so that neither side waits for the other. `seconds` bounds the
-    time of the whole run. `path` is where a program is that isn't one of these.
+    time of the whole run.
     """
 
     def __init__(
-        self,
-        program: str,
-        words: Sequence[str],
-        text: Iterable[bytes],
-        seconds: float | None = None,
-        path: str | None = None,
+        self, program: str, words: Sequence[str], text: Iterable[bytes], seconds: float | None = None
     ) -> None:
         # A search in spans needs none of what this loads.
         import tempfile
 
-        path = find(program) if path is None else path
+        path = find(program)
         self.program = program
         # Whether its output came to an end.
         self.has_ended = False
@@ -174,7 +169,7 @@ class Run:
         meanwhile: is called with this run some times a second while neither prints anything.
         """
         out = self.fileno()
-        _widen(out)
+        widen(out)
         is_watched = self._deadline is not None or meanwhile is not None or until is not None
         while True:
             if is_watched and not self._is_first(until, meanwhile):
@@ -283,7 +278,7 @@ class Ending:
         self.complete = told.group(2) is None
 
 
-def _widen(pipe: int) -> None:
+def widen(pipe: int) -> None:
     """A pipe of 1 MB lets the program go on while its output is read; where that isn't to be had, it stays as it is."""
     try:
         import fcntl

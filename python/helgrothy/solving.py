@@ -297,13 +297,16 @@ def _show_least(asked: Given[Any], costs: Costs, arguments: argparse.Namespace) 
     deadline = None if arguments.seconds is None else time.monotonic() + arguments.seconds
     seconds = None if arguments.seconds is None else arguments.seconds * SHARE
     try:
-        least = cost.least(asked.inner, [costs.numbers[place] for place in asked.places], seconds)
+        least = cost.least(asked.inner, [costs.numbers[place] for place in asked.places], seconds, console.say)
     except cost.NotLeast as error:
+        most = cost.MOST_SECONDS if arguments.seconds is None else arguments.seconds
         if error.best is None:
-            return fail(f"no solution was found in {arguments.seconds:g} seconds")
+            return fail(f"no solution was found in {most:g} seconds")
         numbers = asked.numbers(error.best.numbers)
         told = f"{spelled(error.best.cost)} is the least cost that was found"
-        proof = f"in {arguments.seconds:g} seconds it wasn't proved that there is no less"
+        proof = f"in {most:g} seconds it wasn't proved that there is no less"
+        if arguments.seconds is None:
+            proof += "; --seconds gives more"
         found = Found(asked.problem, numbers, f"helgrothy: {told}; {proof}")
         show_found(found, arguments, list(costs.told(numbers)))
         return 2

@@ -2,6 +2,7 @@
 
 import os
 import shutil
+import signal
 import stat
 import subprocess
 import sys
@@ -260,19 +261,33 @@ class Solving(WithEngines):
             os.remove(os.path.join(self.folder, "path", name))
 
 
-# What clasp does in place of an answer with costs, and what is told of it.
+# An answer that is right, one that costs more, and what clasp does in place of a search, with what is told of it.
+GOOD, WORSE = "echo v x1 -x2 -x3 x4 x5; echo o 2", "echo v x1 x2 -x3 -x4 x5; echo o 5"
 FALSE_COSTS = {
     "nonsense": ("echo hello", "gave no answer (line 1: hello: no line of an answer"),
     "nonsense, and hangs": ("echo hello; exec /bin/sleep 1000", "gave no answer (line 1: hello: no line of an answer"),
     "nonsense, and goes on unheard": ("echo hello; exec /bin/sleep 1000 >&-", "gave no answer (line 1: hello"),
     "nothing": ("exit 0", "gave no answer (line 1: there is no answer"),
-    "a wrong solution": ("echo v x1 x2 x3 x4 x5; echo s OPTIMUM FOUND; exit 30", "no solution, as dlxcheck judges it"),
-    "an answer, and dies": ("echo v x1 -x2 -x3 x4 x5; echo o 2; kill -9 $$", "before it knew which costs least"),
+    "a wrong solution": ("echo v x1 x2 x3 x4 x5; echo s OPTIMUM FOUND; exit 30", "is none, as dlxcheck judges it"),
+    "a wrong solution, and dies": ("echo v x1 -x2 -x3 -x4 -x5; echo o 1; exit 3", "is none, as dlxcheck judges it"),
+    "an answer, and dies": (f"{GOOD}; kill -9 $$", "before it knew which costs least"),
+    "an answer, and none": (f"{GOOD}; echo s UNSATISFIABLE; exit 20", "before it knew which costs least"),
     "none, where there is one": ("echo s UNSATISFIABLE; exit 20", "reports that there is no solution, and there is one"),
     "dies": ("kill -9 $$", "gave no answer (line 1: there is no answer"),
+    "fails": ("echo '*** ERROR: too large' >&2; exit 1", "gave no answer (*** ERROR: too large)"),
     "a flood without an end of its line": ("exec /usr/bin/tr '\\0' c < /dev/zero", "gave no answer (a line of it has no end)"),
+    "an answer without an end": ("printf 'v x1 -x2'; exec /usr/bin/tr '\\0' ' ' < /dev/zero", "(a line of it has no end)"),
+    "a flood of lines": (FALSE["floods"][0], "writes on and on, and no better answer"),
+    "a flood of ends of lines": ("exec /usr/bin/yes ''", "writes on and on, and no better answer"),
+    "a flood of values": ("exec /usr/bin/yes 'v x1 -x2'", "writes on and on, and no better answer"),
+    "a flood of an answer": (f"while :; do {GOOD}; done", "writes on and on, and no better answer"),
+    "a flood of worse answers": (f"{GOOD}; while :; do {WORSE}; done", "writes on and on, and no better answer"),
+    "a flood of standard error": ("while :; do echo $$ $$ $$ $$ $$ $$ $$ $$ >&2; done", "gave no answer ("),
     "swells": ("x=0123456789abcdef; while :; do x=$x$x; done", "gave no answer ("),
+    "leaves a child": ("/bin/sleep 1000 & echo $! >> PIDS; exit 3", "there is no answer"),
+    "leaves a child of a deaf one": (f"(trap '' TERM; echo $$ >> PIDS; /bin/sleep 1000) & {GOOD}; exit 3", "costs least"),
 }
+LEAST = "The least cost is 2."
 
 
 class Costs(WithEngines):
@@ -283,26 +298,86 @@ class Costs(WithEngines):
         self.costs = self.file("costs", "A 3\nB -1\n")
 
     def test_a_right_one(self):
-        self.engine("echo v x1 -x2 -x3 x4 x5; echo s OPTIMUM FOUND; exit 30", "clasp")
-        status, out, told = run("solve", self.problem, "--cost", self.costs)
-        self.assertEqual((status, out, told.splitlines()[0]), (0, FOUND, "The least cost is 2."))
+        for end in ("exit 30", "exec /bin/sleep 1000", "while :; do echo; done", "/bin/sleep 1000 & echo $! >> PIDS"):
+            self.engine(f"{GOOD}; echo s OPTIMUM FOUND; {end}", "clasp")
+            status, out, told = run("solve", self.problem, "--cost", self.costs)
+            self.assertEqual((status, out, told.splitlines()[0]), (0, FOUND, LEAST))
+            self.nothing_is_left()
 
     def test_false_ones(self):
         for name, (script, wanted) in FALSE_COSTS.items():
             with self.subTest(name):
                 self.engine(script, "clasp")
-                status, out, told = run("solve", self.problem, "--cost", self.costs)
-                self.assertEqual((status, out), (2, ""), told)
-                self.assertIn(wanted, told)
-                self.assertEqual(len(told.splitlines()), 1)
-                self.nothing_is_left()
+                for words in ([], ["--seconds", "600"]):
+                    status, out, told = run("solve", self.problem, "--cost", self.costs, *words)
+                    first, *rest = told.splitlines()
+                    self.assertEqual((status, out, rest[:1]), (0, FOUND, [LEAST]), told)
+                    self.assertIn(wanted, first)
+                    self.assertTrue(first.endswith("; dlx3 goes on"), told)
+                    self.assertLess(len(first), 400)
+                    self.nothing_is_left()
 
-    def test_one_that_hangs_or_floods(self):
-        for script in (HANG, FALSE["floods"][0], "exec /usr/bin/yes 'v x1 -x2'"):
+    def test_one_that_leaves_a_child_out_of_reach(self):
+        """It isn't waited for, though it holds the output."""
+        other = os.path.join(self.folder, "other")
+        self.engine(f"setsid /bin/sleep 1000 & echo $! > {other}; {GOOD}; exit 3", "clasp")
+        with mock.patch.dict(os.environ, PATH=f"{os.environ['PATH']}:/usr/bin:/bin"):
+            status, out, told = run("solve", self.problem, "--cost", self.costs)
+        with open(other) as file:
+            os.kill(int(file.read()), signal.SIGKILL)
+        self.assertEqual((status, out, told.splitlines()[1]), (0, FOUND, LEAST))
+
+    def test_one_that_hangs(self):
+        """Without seconds it has a time of its own."""
+        deaf = "trap '' XFSZ; while :; do echo $$ $$ $$ $$ $$ $$ $$ $$ $$ $$ >&2; done 2> /dev/null"
+        for script in (HANG, f"/bin/sleep 1000 & echo $! >> PIDS; {HANG}", deaf):
             self.engine(script, "clasp")
+            with mock.patch.object(cost, "MOST_SECONDS", 0.5):
+                status, out, told = run("solve", self.problem, "--cost", self.costs)
+            self.assertEqual((status, out), (0, FOUND))
+            self.assertEqual(told.splitlines()[:2], ["clasp gave no answer in its time; dlx3 goes on", LEAST])
             status, out, told = run("solve", self.problem, "--cost", self.costs, "--seconds", "1")
             self.assertEqual((status, out, told), (2, "", "helgrothy: no solution was found in 1 seconds\n"))
             self.nothing_is_left()
+
+    def test_one_that_hangs_after_an_answer(self):
+        """What was found is shown, if it is a solution."""
+        with mock.patch.object(cost, "MOST_SECONDS", 0.5):
+            for hang in (HANG, "while :; do echo c; /bin/sleep 0.1; done"):
+                self.engine(f"{GOOD}; {hang}", "clasp")
+                status, out, told = run("solve", self.problem, "--cost", self.costs)
+                self.assertEqual((status, out), (2, FOUND))
+                self.assertEqual(
+                    told.splitlines()[0],
+                    "helgrothy: 2 is the least cost that was found; in 0.5 seconds it wasn't proved that there is no less; "
+                    "--seconds gives more",
+                )
+            self.engine(f"{WORSE}; {HANG}", "clasp")
+            status, out, told = run("solve", self.problem, "--cost", self.costs)
+            self.assertEqual((status, out, told.splitlines()[1]), (0, FOUND, LEAST))
+            self.assertEqual(told.splitlines()[0], "what clasp calls a solution is none, as dlxcheck judges it; dlx3 goes on")
+
+    def test_one_that_hangs_beside_a_sweep(self):
+        """The sweep begins by the clock, where clasp takes no time of a processor."""
+        self.engine(HANG, "clasp")
+        with mock.patch.object(cost, "_MOST_ALONE", 0.2):
+            status, out, told = run("solve", self.problem, "--cost", self.costs)
+        self.assertEqual((status, sorted(out.splitlines())), (0, FOUND.splitlines()))
+        self.assertEqual(told.splitlines()[0], LEAST)
+
+    def test_memory(self):
+        """A flood takes no more than an answer does, and a little."""
+        code = "from helgrothy import cost; cost.MOST_SECONDS = 1.0; from helgrothy.__main__ import main; main()"
+        where = {**os.environ, "PYTHONPATH": os.path.dirname(os.path.dirname(engines.__file__))}
+        words = [sys.executable, "-c", code, "solve", self.problem, "--cost", self.costs]
+        used = {}
+        for name in ("nothing", *(name for name in FALSE_COSTS if "flood" in name or name.endswith("without an end"))):
+            self.engine(FALSE_COSTS[name][0], "clasp")
+            command = subprocess.Popen(words, env=where, stdout=subprocess.DEVNULL, stderr=subprocess.DEVNULL)
+            _, command.returncode, used_by = os.wait4(command.pid, 0)
+            self.assertEqual(command.returncode, 0)
+            used[name] = used_by.ru_maxrss >> 10
+        self.assertLess(max(used.values()), used["nothing"] + 60, used)
 
     def test_none_is_a_claim_where_the_program_does_not_show_it(self):
         self.engine("echo s UNSATISFIABLE; exit 20", "clasp")

@@ -331,8 +331,15 @@ class Requests(unittest.TestCase):
         found, *wishes = last["end"]["notes"]
         self.assertRegex(found, r"\Athe least cost is 4, as \w+ found\Z")
         self.assertEqual(wishes, ["3 by line 1: A 3", "2 by line 2: B 2", "-1 by line 3: A B -1"])
-        with mock.patch.object(answer.cost, "least", lambda problem, costs, seconds: cost.Least(OfNumbers(problem), [2], 4, "states")):
-            self.assertEqual(self.told(**given, costs="A 4")[-1]["end"]["notes"][0], "the least cost is 4, as a sweep over states found")
+
+        def least(problem, costs, seconds, tell):
+            tell("clasp gave no answer in its time; dlx3 goes on")
+            return cost.Least(OfNumbers(problem), [2], 4, "states")
+
+        with mock.patch.object(answer.cost, "least", least):
+            first, second, *_ = self.told(**given, costs="A 4")[-1]["end"]["notes"]
+        self.assertEqual(first, "clasp gave no answer in its time; dlx3 goes on")
+        self.assertEqual(second, "the least cost is 4, as a sweep over states found")
         # Negative numbers, colours, patterns, and a number for each option.
         for text, costs, wanted in (
             ("A B\nA\nB\nA B\n", "A B 9\nB -1\n", "-1"), ("A B\nA\nB\nA B\n", "1 2 4\n", "3"),

@@ -234,24 +234,25 @@ class _Solving:
     def _cheapest(self, problem: Problem[Any], record: Record) -> Iterator[str]:
         """The solution of least cost, what it costs, and which wishes that is by."""
         costs = self._costs(problem)
+        notes: list[str] = []
         try:
-            found = cost.least(problem, costs.numbers, self._left() * 0.9)
+            found = cost.least(problem, costs.numbers, self._left() * 0.9, notes.append)
             told = "" if found is None else f"the least cost is {spelled(found.cost)}, as {_finder(found.by)}"
         except cost.NotLeast as error:
             found = error.best
             over = f"{self._request.seconds:g} seconds are over"
             if found is None:
-                yield record.end(0, False, [over])
+                yield record.end(0, False, [*notes, over])
                 return
             told = f"it costs {spelled(found.cost)}; {over}, and there may be a cheaper one"
         except engines.Claimed as claim:
-            yield record.end(0, False, [str(claim)])
+            yield record.end(0, False, [*notes, str(claim)])
             return
         if found is None:
-            yield record.end(0, True, self._reasons(problem))
+            yield record.end(0, True, [*notes, *self._reasons(problem)])
             return
         yield record.solution(1, untold(found.numbers))
-        yield record.end(1, False, [told, *costs.told(found.numbers)])
+        yield record.end(1, False, [*notes, told, *costs.told(found.numbers)])
 
     def _costs(self, problem: Problem[Any]) -> wishes.Costs:
         """What the options cost, by what was typed and by the wishes of a kind's table. Raises `ValueError`."""
