@@ -16,6 +16,19 @@ class Pieces(InFolder):
         pieces = self.file("p.txt", "IIII\n\nIIII\n\nOO\nOO\n\nOO\nOO\n")
         self.assertEqual(run("polyominoes", pieces, "2x4", "--some", "--all")[2], "Altogether 2 solutions.\n")
 
+    def test_squares_that_are_too_few_or_too_many(self):
+        """That is told first: of pieces of several sizes the sums don't show it."""
+        pieces = self.file("p.txt", "IIII\n\nIIII\n\nOOO\nOO\n")
+        for region, words, wanted in (
+            ("2x7", [], "The pieces have 13 squares, and the region has 14.\n"),
+            ("2x7", ["--some"], "The pieces have 13 squares, and the region has 14.\n"),
+            ("3x4", [], "The pieces have 13 squares, and the region has 12; --some lets pieces be left over.\n"),
+            ("3x4", ["--some"], ""),
+            ("1x13", [], ""),
+        ):
+            self.assertEqual(run("make", "polyominoes", pieces, region, *words)[2], wanted)
+        self.assertTrue(run("polyominoes", pieces, "2x7")[2].startswith("The pieces have 13 squares"))
+
     def test_pieces_that_are_alike(self):
         told = "Pieces C and G are alike: each solution comes with them exchanged too; give them one letter.\n"
         pieces = self.file("p.txt", "CCC\nC..\n\n..G\nGGG\n")

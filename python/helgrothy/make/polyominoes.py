@@ -149,6 +149,28 @@ def _middle(held: Sequence[Square]) -> Square:
     return min(held, key=lambda at: ((at[0] - r) ** 2 + (at[1] - c) ** 2, at))
 
 
+def _remarks(problem: Problem[Any]) -> list[str]:
+    return [*_area(problem), *alike(problem, _CELL)]
+
+
+def _area(problem: Problem[Any]) -> list[str]:
+    """That the pieces have too few squares for the region or, where none may be left over, too many."""
+    sizes = {option[0]: len(option) - 1 for option in map(str.split, map(problem.line, problem.options))}
+    items = dict(zip(problem.item_names, problem.items.values()))
+    pieces = {name: bounds for name, bounds in items.items() if not _CELL.match(name)}
+    # How large a piece is that fits nowhere isn't known here; that it is in no option is told.
+    if not sizes.keys() >= pieces.keys():
+        return []
+    cells = len(items) - len(pieces)
+    least = sum(sizes[name] * low for name, (low, _) in pieces.items())
+    most = sum(size * (pieces[name].high if name in pieces else 1) for name, size in sizes.items())
+    if most < cells:
+        return [f"The pieces have {most} squares, and the region has {cells}."]
+    if least > cells:
+        return [f"The pieces have {least} squares, and the region has {cells}; --some lets pieces be left over."]
+    return []
+
+
 def _add_arguments(parser: argparse.ArgumentParser) -> None:
     parser.add_argument(
         "pieces",
@@ -181,5 +203,5 @@ KIND = Kind(
     _make,
     drawing,
     cell=r"r(\d+)c(\d+)",
-    remarks=lambda problem: alike(problem, _CELL),
+    remarks=_remarks,
 )
