@@ -1,5 +1,5 @@
 #!/usr/bin/env python3
-"""search.py [--rounds K] [--only NAME,..] [--dask] [--four] [--page PAGE]: what `helgrothy search` takes.
+"""search.py [--rounds K] [--only NAME/..] [--dask] [--four] [--page PAGE]: what `helgrothy search` takes.
 
 For each problem the program, and the command by one, two and four workers, take turns K times (5). Printed is a row:
 the elapsed seconds of the program, the median; of each number of workers the elapsed seconds and, in brackets, their
@@ -23,9 +23,10 @@ import tempfile
 import time
 from collections.abc import Iterator
 from pathlib import Path
-from typing import NamedTuple
+from typing import NamedTuple, TextIO
 
 from page import put
+from problems import Dice, Made, write
 
 TOP = Path(__file__).resolve().parent.parent.parent
 BIN = TOP / "bin"
@@ -35,6 +36,7 @@ PROBLEMS = {
     "pentominoes 6x10": ["polyominoes", "pentominoes", "6x10"],
     "16 queens": ["queens", "16"],
 }
+WIDE = "2 items of 9,000 options"
 WORKERS = (1, 2, 4)
 ENVIRONMENT = {
     **{name: value for name, value in os.environ.items() if name != "PYTHONDONTWRITEBYTECODE"},
@@ -49,6 +51,21 @@ class Took(NamedTuple):
     elapsed: float
     used: float
     told: str
+
+
+def wide(options: int) -> Made:
+    """Two items with so many options each, and one more, each option with 20 of 300 secondary items: a first level of
+    many branches, with few levels below."""
+    dice, secondary = Dice(5), [f"s{k}" for k in range(300)]
+    made = [[item, *dice.sample(secondary, 20)] for item in ("A", "B") for _ in range(options + (item == "B"))]
+    return ["A", "B"], secondary, made
+
+
+def make(name: str, file: TextIO) -> None:
+    if name == WIDE:
+        write(*wide(9000), file)
+    else:
+        subprocess.run([str(BIN / "helgrothy"), "make", *PROBLEMS[name]], stdout=file, check=True, env=ENVIRONMENT)
 
 
 def start(command: list[str], given: Path) -> subprocess.Popen[str]:
@@ -131,7 +148,7 @@ def cluster(count: int) -> Iterator[str]:
 def main() -> None:
     parser = argparse.ArgumentParser(description=__doc__, formatter_class=argparse.RawDescriptionHelpFormatter)
     parser.add_argument("--rounds", type=int, default=5)
-    parser.add_argument("--only", default=",".join(PROBLEMS))
+    parser.add_argument("--only", default="/".join([*PROBLEMS, WIDE]))
     parser.add_argument("--dask", action="store_true")
     parser.add_argument("--four", action="store_true")
     parser.add_argument("--page")
@@ -146,11 +163,10 @@ def main() -> None:
     with tempfile.TemporaryDirectory() as folder:
         addresses = cluster(4) if given.dask else iter([None])
         address = next(addresses)
-        for name in given.only.split(","):
+        for name in given.only.split("/"):
             problem = Path(folder) / f"{name.replace(' ', '-')}.dlx"
             with open(problem, "w") as file:
-                command = [str(BIN / "helgrothy"), "make", *PROBLEMS[name]]
-                subprocess.run(command, stdout=file, check=True, env=ENVIRONMENT)
+                make(name, file)
             lines.append(measure(name, problem, given.rounds, address, given.four))
             print(lines[-1], flush=True)
         next(addresses, None)

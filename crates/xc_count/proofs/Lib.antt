@@ -16,4 +16,5 @@ pub mod Passed
 pub mod PlanLemmas
 pub mod Split
 pub mod Turns
+pub mod MembersPassed
 pub mod WorthLemmas

@@ -1,8 +1,9 @@
 -- In how many solutions each option is.
-use Rattle.std.proofs.Common.{ℕ, zero, suc, ◌≡◌, ◌≢◌, ◌≤◌, ◌<◌, ◌+◌, ◌-◌, true, eqb, cond, List, [], ◌∷◌, ◌++◌, Some}
+use Rattle.std.proofs.Common.{ℕ, zero, suc, ◌≡◌, ◌≢◌, ◌≤◌, ◌<◌, ◌+◌, ◌-◌, true, eqb, cond, List, [], ◌∷◌, ◌++◌, Some, None}
 use Rattle.std.proofs.Common.{length, get_or, set, map, take, drop, refl, sym, ap, ap₂, ◌∙◌, arith, subst}
 use Rattle.std.proofs.Common.{eqb-true, eq-eqb, length-set}
 use Rattle.std.proofs.Math.ListN.{drop_of_length-le}
+use Rattle.std.proofs.Math.Seq.{drop-cons}
 use Rattle.std.specs.Prelude.{All, AllPairs, count_by, min}
 use Rattle.std.specs.List.{list_any}
 use Rattle.std.proofs.lemmas.List.{append-nil, get_or_default, take_all}
@@ -15,7 +16,7 @@ use Rattle.xc_input.proofs.lists.EachTwo.{EachTwo, AllPairs-from_each_two, each_
 use Rattle.xc_input.proofs.lists.Members.{IsIn, each_in}
 use Rattle.xc_search.specs.declared.choice.Choice.{Choice}
 use Rattle.xc_search.specs.Cover.{IsCover, members, options_of}
-use Rattle.xc_search.specs.Outlook.{Outlook, shown_after}
+use Rattle.xc_search.specs.Outlook.{shown_after}
 use Rattle.xc_count.specs.Occurrences.{occurrences, occurrences_of, takes}
 
 -- 1 if option o is one of these
@@ -63,6 +64,17 @@ one_more q v os ts total low within two more so o some = by_bool (eqb q o)
 option_first : (c : Choice) (q : ℕ) (cs : List Choice) → c.option ≡ Some q → options_of (c ∷ cs) ≡ q ∷ options_of cs
 option_first c q cs e = rw e refl
 
+-- a choice without an option counts for none
+pub none_first : (c : Choice) (cs : List Choice) → c.option ≡ None → options_of (c ∷ cs) ≡ options_of cs
+none_first c cs e = rw e refl
+
+-- the choice at place k of a solution, and those after it
+pub first_taken : (s : List Choice) (k : ℕ) (d : Choice) → k < length s
+    → drop k s ≡ get_or s k d ∷ drop (k + 1) s
+first_taken s k d h =
+    let same : suc k ≡ k + 1 = omega arith in
+    drop-cons s k d h ∙ ap (λ j. get_or s k d ∷ drop j s) same
+
 pub all_head : {X : Type 0} (P : X → Type 0) (x : X) (xs : List X) → All P (x ∷ xs) → P x
 all_head P x xs a = a 0 x (omega arith)
 
@@ -78,7 +90,7 @@ module _ (c : Choice) (q v d : ℕ) (s cs : List Choice) (ts : List ℕ) (first 
   all_known : All (λ o. (1 ≤ o) × (o ≤ length ts)) (q ∷ options_of cs)
   all_known = subst (λ os. All (λ o. (1 ≤ o) × (o ≤ length ts)) os) options known
 
-  within : (1 ≤ q) × (q ≤ length ts)
+  pub within : (1 ≤ q) × (q ≤ length ts)
   within = all_head (λ o. (1 ≤ o) × (o ≤ length ts)) q (options_of cs) all_known
 
   two : AllPairs (λ a b. a ≢ b) (options_of s) → EachTwo (λ a b. a ≢ b) (q ∷ options_of cs)
@@ -113,7 +125,7 @@ of_each f k (u ∷ us) (t ∷ ts) e h =
     ap₂ (λ a b. a ∷ b) first (of_each f (k + 1) us ts (omega (arith, e))
     (λ i l. h (suc i) (omega (arith, l)) ∙ ap f (let z : k + suc i ≡ k + 1 + i = omega arith in z)))
 
--- ---- a walk
+-- ---- a search
 
 -- a solution was reached
 pub reached : (ms : List (List Choice)) (was : List Choice) → min 1 (length ms) ≡ 1
@@ -129,11 +141,10 @@ ended (m ∷ ms) h = absurd (h (omega arith))
 pub fewer : (m : List Choice) (ms rest : List (List Choice)) → ms ≡ m ∷ rest → length rest < length ms
 fewer m ms rest e = omega (arith, ap length e)
 
-pub arrived : (n : ℕ) (old new : Outlook) → n ≡ min 1 (length old.to_come) → n ≡ 1
-    → new.to_come ≡ drop 1 old.to_come → new.shown ≡ shown_after 1 old.to_come old.shown
-    → old.to_come ≡ new.shown ∷ new.to_come
-arrived n old new count one left shown =
-    reached old.to_come old.shown (sym count ∙ one) ∙ ap₂ (λ a b. a ∷ b) (sym shown) (sym left)
+pub arrived : (n : ℕ) (ms rest : List (List Choice)) (was shown : List Choice) → n ≡ min 1 (length ms) → n ≡ 1
+    → rest ≡ drop 1 ms → (n ≡ 1 → shown ≡ shown_after 1 ms was) → ms ≡ shown ∷ rest
+arrived n ms rest was shown count one left is =
+    reached ms was (sym count ∙ one) ∙ ap₂ (λ a b. a ∷ b) (sym (is one)) (sym left)
 
 -- a vector whose elements were written anew
 pub refilled : (n : ℕ) (ws xs : List ℕ) → length ws ≡ length xs → n ≡ length xs

@@ -21,17 +21,12 @@ abbrev pub rows_after : Puzzle → Option (List ℕ) → ℕ
 rows_after p None = 0
 rows_after p (Some row) = row_count (whole p) - rank (whole p) row
 
-if_some : (o : Option (List ℕ)) (P : List ℕ → Type 0) (x : List ℕ) → o ≡ Some x → IfSome o P → P x
+pub if_some : (o : Option (List ℕ)) (P : List ℕ → Type 0) (x : List ℕ) → o ≡ Some x → IfSome o P → P x
 if_some o P x e h = subst (λ (z : Option (List ℕ)). IfSome z P) e h
 
 -- a span of the whole listing has every member left
-pub all_left : (p : Puzzle) (s : InSpan) → left_of s ≡ between p [] s.until → s.until ≡ None → s.puzzle ≡ p
-    → 0 + length (left_of s) ≡ length (members s.puzzle)
-all_left p s left until puzzle =
-    let all : length (left_of s) ≡ length (members p) =
-    ap length left ∙ ap (λ u. length (between p [] u)) until ∙ ap length (all_between p) in
-    let same : length (members s.puzzle) ≡ length (members p) = ap (λ q. length (members q)) puzzle in
-    omega (arith, all, same)
+pub all_left : (p : Puzzle) (s : InSpan) → left_of s ≡ between p [] s.until → s.until ≡ None → left_of s ≡ members p
+all_left p s left until = left ∙ ap (λ u. between p [] u) until ∙ all_between p
 
 -- what was left was passed or is left
 pub passed_or_left : (many steps : ℕ) (w : Went) (s n : InSpan) → WentOnBy many steps w s n

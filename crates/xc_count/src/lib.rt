@@ -14,6 +14,7 @@ mod keys;
 mod layer;
 mod left;
 mod marks;
+mod members;
 mod metered;
 mod narrow;
 mod occurring;

@@ -6,21 +6,37 @@ use xc_dance::{Count, Dance, Full, Links, Move};
 use xc_input::Problem;
 
 /// Of how many options that are committed one is looked at.
-pub const SAMPLE: u64 = 13;
+pub const SAMPLE: u64 = 29;
 
-/// Linked tables that add up how many options their moves go over, as options are committed: of each thirteenth one, so
+/// Linked tables that add up how many options their moves go over, as options are committed: of each `SAMPLE`th one, so
 /// that a search is hardly slower.
 #[derive(Drop)]
 pub struct Metered<'a> {
     pub links: Links,
     pub problem: &'a Problem,
     pub gone_over: &'a Cell<u64>,
-    /// How many options were committed.
-    pub commits: u64,
+    /// How many options are committed until one is looked at.
+    until_sample: u64,
+    /// How many moves an option has, on average.
+    moves_each: usize,
     ghost same: { links.puzzle ≡ problem.now.puzzle },
 }
 
 impl<'a> Metered<'a> {
+    /// Tables of this problem, without a move so far.
+    pub fn new(links: Links, problem: &'a Problem, gone_over: &'a Cell<u64>) -> Metered<'a>
+        requires { links.puzzle ≡ problem.now.puzzle }
+        ensures { result.links ≡ links }
+    {
+        Metered {
+            links,
+            problem,
+            gone_over,
+            until_sample: SAMPLE,
+            moves_each: problem.uses() / (problem.options() as usize).max(1),
+        }
+    }
+
     /// How many options a move went over: those of its item's list.
     #[inline(always)]
     fn options_of(&self, m: &Move) -> u64 {
@@ -33,14 +49,12 @@ impl<'a> Metered<'a> {
         u64::from(self.links.len(*i))
     }
 
-    /// Adds the options that the moves from this one on went over.
+    /// Adds the options that the newest moves went over, as many moves as an option has on average.
     // Taken in, since a call by reference would keep the tables' bases in memory.
     #[inline(always)]
-    fn note_moves(&self, from: usize) {
+    fn note_moves(&self) {
         let moves = self.links.moves();
-        if from > moves.len() {
-            return;
-        }
+        let from = moves.len().saturating_sub(self.moves_each);
         let mut sum = self.gone_over.get();
         for m in &moves[from..] {
             sum = sum.wrapping_add(self.options_of(m));
@@ -124,12 +138,13 @@ impl<'a> Dance for Metered<'a> {
         self.links.option_of(problem, i, place)
     }
 
+    #[inline(always)]
     fn commit(&mut self, problem: &Problem, i: u32, place: u32) {
-        let height = self.links.moves().len();
         self.links.commit(problem, i, place);
-        self.commits = self.commits.wrapping_add(1);
-        if self.commits % SAMPLE == 0 {
-            self.note_moves(height);
+        self.until_sample = self.until_sample.wrapping_sub(1);
+        if self.until_sample == 0 {
+            self.until_sample = SAMPLE;
+            self.note_moves();
         }
     }
 }

@@ -9,13 +9,15 @@ ghost use Rattle.xc_count.specs.Occurrences.{occurrences, takes};
 use crate::by_states::occurrences_by_states;
 use crate::counting::is_once;
 use crate::errors::CountError;
+use crate::members::{all_members, pass};
 use crate::plan::Plan;
 use crate::times::Times;
 use natural::Natural;
 use std::alloc::{AllocError, Global};
-use xc_dance::{Links, Memory};
+use std::cell::Cell;
+use xc_dance::Memory;
 use xc_input::Problem;
-use xc_search::{Solution, Walk};
+use xc_search::Choice;
 
 /// So many options that were never taken.
 fn never(alloc: Global, many: u32) -> Result<Vec<Times>, AllocError>
@@ -30,19 +32,14 @@ fn never(alloc: Global, many: u32) -> Result<Vec<Times>, AllocError>
 }
 
 /// Adds one for each option of a solution.
-#[inline(always)]
-fn add_solution(
-    alloc: Global,
-    times: &mut [Times],
-    mut solution: Solution<'_, '_, Links>,
-) -> Result<(), AllocError>
-    requires known { All (λ o. (1 ≤ o) × (o ≤ length times.old)) (options_of solution) }
-    requires distinct { AllPairs (λ a b. a ≢ b) (options_of solution) }
+fn add_solution(alloc: Global, times: &mut [Times], solution: &[Choice]) -> Result<(), AllocError>
+    requires known { All (λ o. (1 ≤ o) × (o ≤ length times.old)) (options_of solution.now) }
+    requires distinct { AllPairs (λ a b. a ≢ b) (options_of solution.now) }
     ensures times { OnOk result ((o : ℕ) → 1 ≤ o → slice_index times.new (o - 1)
-        ≡ slice_index times.old (o - 1) + (if takes o solution.entry then 1 else 0)) }
+        ≡ slice_index times.old (o - 1) + (if takes o solution.now then 1 else 0)) }
     ensures len { length times.new ≡ length times.old }
 {
-    while let Some(choice) = solution.next() {
+    for choice in solution {
         if let Some(option) = choice.option {
             times[option as usize - 1].count_one(alloc)?;
         }
@@ -61,18 +58,15 @@ fn numbers_of(alloc: Global, times: &[Times]) -> Result<Vec<Natural>, AllocError
     Ok(numbers)
 }
 
-/// In how many solutions each option is, by a walk over all of them.
+/// In how many solutions each option is, by a search through all of them.
 fn occurrences_by_search(alloc: Global, problem: &Problem) -> Result<Vec<Natural>, Memory>
     ensures { IfOk result (λ ns. ns.items ≡ occurrences problem.now.puzzle) }
 {
     let mut times = never(alloc, problem.options())?;
-    let links = Links::for_search(alloc, problem)?;
-    let mut walk = match Walk::new(alloc, links, problem) {
-        Ok(walk) => walk,
-        Err((_, memory)) => return Err(memory),
-    };
-    while walk.pass(1) == 1 {
-        add_solution(alloc, times.as_mut_slice(), walk.solution())?;
+    let gone_over = Cell::new(0);
+    let mut span = all_members(alloc, problem, &gone_over)?;
+    while pass(&mut span, 1) == 1 {
+        add_solution(alloc, times.as_mut_slice(), span.choices())?;
     }
     Ok(numbers_of(alloc, times.as_slice())?)
 }

@@ -1,29 +1,37 @@
 //! The solution of a number by a search that passes those before it.
 
-ghost use Rattle.std.specs.Prelude.{◌≡◌, ◌<◌, Some, None, true, false, IfOk, option_map};
+ghost use Rattle.std.specs.Prelude.{◌≡◌, ◌<◌, Some, None, true, false, IfOk, IfSome, option_map};
 ghost use Rattle.xc_input.specs.Problem.{numbered_get};
 ghost use Rattle.xc_search.specs.Cover.{members};
+ghost use Rattle.xc_search.specs.InSpan.{left_of};
+ghost use Rattle.xc_search.specs.Listing.{whole};
+ghost use Rattle.xc_search.specs.Nodes.{IsRowOf};
 
+use crate::members::{all_members, pass};
+use crate::metered::Metered;
 use natural::Natural;
 use std::alloc::Global;
-use xc_dance::{Links, Memory};
+use std::cell::Cell;
+use xc_dance::Memory;
 use xc_input::Problem;
-use xc_search::{Choice, Search, Step};
+use xc_search::{Choice, Span};
 
 /// How many solutions are passed at once.
 const MANY: u64 = 1_000_000;
 
 /// Passes solutions as long as the number is above `MANY`, and makes it the number among those that are left. Whether
 /// there were as many.
-fn pass_many(alloc: Global, search: &mut Search<Links>, number: &mut Natural) -> bool
+fn pass_many<'a>(alloc: Global, span: &mut Span<'a, Metered<'a>>, number: &mut Natural) -> bool
+    requires node { IfSome span.old.row (λ row. IsRowOf (whole span.old.puzzle) row) }
+    ensures node { IfSome span.new.row (λ row. IsRowOf (whole span.new.puzzle) row) }
     ensures some { result ≡ true
-        → numbered_get search.old.to_come number.old ≡ numbered_get search.new.to_come number.new }
-    ensures none { result ≡ false → numbered_get search.old.to_come number.old ≡ None }
+        → numbered_get (left_of span.old) number.old ≡ numbered_get (left_of span.new) number.new }
+    ensures none { result ≡ false → numbered_get (left_of span.old) number.old ≡ None }
     ensures above { 0 < number.old → 0 < number.new }
 {
     let many = Natural::from_u64(alloc, MANY);
     while *number > many {
-        if search.pass(MANY) < MANY {
+        if pass(span, MANY) < MANY {
             return false;
         }
         number.sub_assign(&many);
@@ -32,17 +40,18 @@ fn pass_many(alloc: Global, search: &mut Search<Links>, number: &mut Natural) ->
 }
 
 /// Goes on to the solution of a number. Whether there is one.
-fn pass_to(alloc: Global, search: &mut Search<Links>, number: &mut Natural) -> bool
-    requires { 0 < number.old }
-    ensures some { result ≡ true → numbered_get search.old.to_come number.old ≡ Some search.new.shown }
-    ensures none { result ≡ false → numbered_get search.old.to_come number.old ≡ None }
+fn pass_to<'a>(alloc: Global, span: &mut Span<'a, Metered<'a>>, number: &mut Natural) -> bool
+    requires node { IfSome span.old.row (λ row. IsRowOf (whole span.old.puzzle) row) }
+    requires above { 0 < number.old }
+    ensures some { result ≡ true → numbered_get (left_of span.old) number.old ≡ Some span.new.shown }
+    ensures none { result ≡ false → numbered_get (left_of span.old) number.old ≡ None }
 {
     let one = Natural::from_u64(alloc, 1);
     while !number.is_zero() {
-        match search.next() {
-            Step::Done => return false,
-            Step::Solution => number.sub_assign(&one),
+        if pass(span, 1) == 0 {
+            return false;
         }
+        number.sub_assign(&one);
     }
     true
 }
@@ -59,11 +68,11 @@ pub fn nth_by_search(
     if number.is_zero() {
         return Ok(None);
     }
-    let links = Links::for_search(alloc, problem)?;
-    let mut search = Search::begin(alloc, links, problem)?;
+    let gone_over = Cell::new(0);
+    let mut span = all_members(alloc, problem, &gone_over)?;
     let mut rest = number.clone()?;
-    if !pass_many(alloc, &mut search, &mut rest) || !pass_to(alloc, &mut search, &mut rest) {
+    if !pass_many(alloc, &mut span, &mut rest) || !pass_to(alloc, &mut span, &mut rest) {
         return Ok(None);
     }
-    Ok(Some(Vec::from_slice(alloc, search.choices())?))
+    Ok(Some(Vec::from_slice(alloc, span.choices())?))
 }

@@ -2,12 +2,13 @@
 ghost use Rattle.std.specs.Prelude.{◌≡◌, ◌<◌, length, IfOk};
 ghost use Rattle.xc_search.specs.Cover.{members};
 
+use crate::members::all_members;
 use crate::metered::{Metered, SAMPLE};
 use natural::Natural;
 use std::alloc::Global;
 use std::cell::Cell;
 use std::marker::Model;
-use xc_dance::{Links, Memory};
+use xc_dance::Memory;
 use xc_input::Problem;
 use xc_search::{Halt, Span};
 
@@ -110,25 +111,15 @@ impl<'a> Rival<'a> {
     ) -> Result<Rival<'a>, Memory>
         ensures { IfOk result (λ r. r ≡ problem.now.puzzle) }
     {
-        let links = Links::for_search(alloc, problem)?;
-        let metered = Metered {
-            links,
-            problem,
+        Ok(Rival {
+            span: all_members(alloc, problem, gone_over)?,
             gone_over,
-            commits: 0,
-        };
-        match Span::new(alloc, metered, problem, &[], None) {
-            Ok(span) => Ok(Rival {
-                span,
-                gone_over,
-                option_work: option_work(problem),
-                passed: 0,
-                branches: FIRST_BRANCHES,
-                left: FIRST_WORK,
-                done: 0,
-            }),
-            Err((_, memory)) => Err(memory),
-        }
+            option_work: option_work(problem),
+            passed: 0,
+            branches: FIRST_BRANCHES,
+            left: FIRST_WORK,
+            done: 0,
+        })
     }
 
     /// Has a turn, and returns how much work that was, and whether no cover is left.
