@@ -20,4 +20,6 @@ mod faults;
 #[cfg(test)]
 mod limits;
 #[cfg(test)]
+mod lines;
+#[cfg(test)]
 mod reading;

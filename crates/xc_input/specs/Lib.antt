@@ -16,6 +16,7 @@ pub mod Lines
 pub mod Calls
 pub mod Readings
 pub mod Pieces
+pub mod LinesRead
 pub mod Laws
 pub mod Worked
 pub mod inner

@@ -4,6 +4,7 @@ pub mod Vectors
 pub mod Fronts
 pub mod Builders
 pub mod Feeding
+pub mod LinesCut
 pub mod CutTokens
 pub mod EndedLines
 pub mod BoundTexts

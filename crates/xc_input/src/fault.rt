@@ -2,8 +2,10 @@
 
 ghost use Rattle.std.specs.Prelude.{◌≡◌};
 ghost use Rattle.xc_input.specs.FaultTexts.{fault_text, error_text};
+ghost use Rattle.xc_input.specs.LinesRead.{error_of};
 ghost use Rattle.xc_input.specs.declared.fault.InputError.TheVariants.{Device, Memory};
 
+use crate::line_reader::Unread;
 use crate::source::ReadFailed;
 use std::alloc::AllocError;
 use std::fmt;
@@ -119,6 +121,17 @@ impl From<ReadFailed> for InputError {
 
     fn from(_: ReadFailed) -> InputError {
         InputError::Device
+    }
+}
+
+impl From<Unread> for InputError {
+    ghost from_gives = { λ unread e. e ≡ error_of unread };
+
+    fn from(unread: Unread) -> InputError {
+        match unread {
+            Unread::Device => InputError::Device,
+            Unread::Memory => InputError::Memory,
+        }
     }
 }
 

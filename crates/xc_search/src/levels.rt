@@ -412,23 +412,16 @@ pub fn run<'u, D: Dance, const BOUND: bool, const WAY: bool>(
         Pays position.old stack.old true task.entry.over position.new stack.new false result.more }
     ensures moved { result.stop ≡ Stop.Nothing → 0 < moves_made position.new }
 {
-    let Task {
-        until,
-        early,
-        first,
-        over: mut more,
-        mut steps,
-    } = fixed::<WAY>(task);
+    let task = fixed::<WAY>(task);
+    let (until, early, first) = (task.until, task.early, task.first);
+    let (mut more, mut steps) = (task.over, task.steps);
     let mut last = usize::MAX;
     if BOUND && steps == 0 {
         return halted(Stop::Steps, more, steps);
     }
     loop {
         match enter_branch::<D, WAY>(position, stack, early, first, &mut more, &mut last) {
-            Next::Branch(entered) => position.commit_branch::<WAY>(
-                entered.item,
-                entered.place as u32,
-            ),
+            Next::Branch(at) => position.commit_branch::<WAY>(at.item, at.place as u32),
             Next::Solution => return halted(Stop::Member, more, steps),
             Next::Nothing => return halted(Stop::Nothing, more, steps),
         }

@@ -272,12 +272,8 @@ impl<'a, D: Dance> Standing<'a, D> {
             result.0.position result.0.stack }
         ensures moved { 0 < moves_made result.0.position }
     {
-        let Standing {
-            mut position,
-            mut stack,
-            unsearched,
-            passed: _,
-        } = self;
+        let unsearched = self.unsearched;
+        let (mut position, mut stack) = (self.position, self.stack);
         // Where it is at a solution, it finds that one again.
         let more = if unsearched { many - 1 } else { many };
         let ran = run::<D, false, false>(

@@ -3,36 +3,35 @@
 //! The listing of a span begins with a line that names its first row and its problem. A record alone, at the end, would
 //! come too late: by the line a join knows before the first solution whether the ends meet, holds only a line, and
 //! never writes a solution after a gap.
-ghost use Rattle.std.specs.Prelude.{◌≡◌, ◌<◌, ◌++◌, ◌∷◌, [], ℕ, List, false, length, codes, IfErr, IfOk, OnOk};
-ghost use Rattle.std.specs.Prelude.{◌⊎◌, ◌==◌, IsOkAnd, MatchOption, drop, map, option_copied, if◌then◌else◌};
+ghost use Rattle.std.specs.Prelude.{◌≡◌, ◌++◌, ◌∷◌, [], ℕ, List, false, codes, IfErr, IfOk, OnOk};
+ghost use Rattle.std.specs.Prelude.{◌⊎◌, ◌==◌, IsOkAnd, drop, map, option_copied, if◌then◌else◌};
 ghost use Rattle.xc_list.specs.SpanTexts.{most_counted};
 ghost use Rattle.xc_list.specs.declared.runs.End.TheVariants.{Done, Limit};
 ghost use Rattle.xc_input.specs.Pieces.{GaveAll};
+ghost use Rattle.xc_input.specs.LinesRead.{IsLine};
 ghost use Rattle.xc_input.specs.Words.{has};
 ghost use Rattle.xc_input.specs.inner.EndedLines.{ended};
 ghost use Rattle.xc_list.specs.Texts.{seen, Took, WasTold, Writes};
 ghost use Rattle.xc_tools.specs.Joins.{asked_join, gap_text, at_line, no_text, other_text, unread_text, DidJoin};
 ghost use Rattle.xc_tools.specs.Joins.{DidJoinWords};
 ghost use Rattle.xc_tools.specs.WholeRuns.{sinks};
-ghost use Rattle.xc_tools.specs.declared.joining.Stop.TheVariants.{Device, Memory, WriteFailed};
+ghost use Rattle.xc_tools.specs.declared.joining.Stop.TheVariants.{Memory, WriteFailed};
 ghost use Rattle.xc_tools.specs.inner.Joining.{joined_text, fed_lines, stop_of, Adds, EndsAt, IsAfter, JoinsAll};
-ghost use Rattle.xc_tools.specs.inner.Joining.{StopsIn};
+ghost use Rattle.xc_tools.specs.inner.Joining.{StopsIn, unread_stop};
 ghost use Rattle.xc_tools.specs.inner.Flushes.{FlushFailed, WasFlushed};
 ghost use Rattle.xc_tools.specs.inner.Joining.{StopsReading, ToldStop};
 ghost use Rattle.xc_tools.specs.inner.SpanLines.{act_text};
 
 use crate::located::Located;
-use crate::piece::buffer;
 use crate::shown_names::{source_at, source_text};
 use crate::solving::finish;
 use crate::span_lines::{Act, Joint, Refusal, put_word};
 use crate::status::{
     BAD_INPUT, BAD_WORDS, COMPLETE, FAILED, GAP, NO_MEMORY, flush_and_refuse, refuse, write_failed,
 };
-use bstr::ByteSlice;
 use itoa::Buffer;
 use std::alloc::{AllocError, Global};
-use xc_input::{Given, ReadFailed};
+use xc_input::{Given, LineReader, Unread};
 use xc_list::{End, Sink, SinkFault, write_all, write_line};
 
 /// Why no more is read.
@@ -49,11 +48,14 @@ pub(crate) enum Stop {
     WriteFailed,
 }
 
-impl From<ReadFailed> for Stop {
-    ghost from_gives = { λ _ e. e ≡ Device };
+impl From<Unread> for Stop {
+    ghost from_gives = { λ unread e. e ≡ unread_stop unread };
 
-    fn from(_: ReadFailed) -> Stop {
-        Stop::Device
+    fn from(unread: Unread) -> Stop {
+        match unread {
+            Unread::Device => Stop::Device,
+            Unread::Memory => Stop::Memory,
+        }
     }
 }
 
@@ -145,106 +147,59 @@ fn count_line(lines: &mut Lines)
     }
 }
 
-/// Takes a line that ends here.
+/// Counts a line that comes with its line feed, and takes it.
 fn end_line<O: Sink>(
     alloc: Global,
     lines: &mut Lines,
-    carry: &mut Vec<u8>,
-    line: &[u8],
     with_feed: &[u8],
     out: &mut O,
 ) -> Result<(), Stop>
     requires after { IsAfter lines.old }
-    requires part { has 10 carry.old.items ≡ false }
-    requires free { has 10 line.now ≡ false }
-    requires with_feed { with_feed.now ≡ line.now ++ 10 ∷ [] }
+    requires line { IsLine with_feed.now }
     ensures listed { lines.new.joint.listed ≡ lines.old.joint.listed }
     ensures after { OnOk result (IsAfter lines.new) }
-    ensures given { OnOk result
-        (lines.new.given.lines ≡ lines.old.given.lines ++ (carry.old.items ++ line.now) ∷ []) }
-    ensures carry { OnOk result (carry.new.items ≡ []) }
+    ensures given { OnOk result (ended lines.new.given.lines ≡ ended lines.old.given.lines ++ with_feed.now) }
     ensures adds { OnOk result (Adds lines.old.joint.listed lines.old.given.lines lines.new.given.lines Took
         (O.state out.old) (O.state out.new)) }
     ensures stops { IfErr result (StopsIn lines.old.joint.listed lines.old.given.lines
-        (fed_lines lines.old carry.old.items ++ with_feed.now) lines.new.joint (O.state out.old) (O.state out.new)) }
+        (ended lines.old.given.lines ++ with_feed.now) lines.new.joint (O.state out.old) (O.state out.new)) }
 {
     count_line(lines);
-    if carry.is_empty() {
-        return take_line(alloc, lines, line, with_feed, out);
-    }
-    carry.extend_from_slice(with_feed)?;
-    let whole = carry.as_slice();
-    let outcome = take_line(alloc, lines, &whole[..whole.len() - 1], whole, out);
-    carry.clear();
-    outcome
-}
-
-/// The first line that ends in a piece, without and with its line feed, and what is left after it.
-fn next_line(piece: &[u8]) -> Option<(&[u8], &[u8], &[u8])>
-    ensures { MatchOption result (has 10 piece.now ≡ false)
-        (λ p. (piece.now ≡ p.1.now ++ p.2.now) × (p.1.now ≡ p.0.now ++ 10 ∷ []) × (has 10 p.0.now ≡ false)) }
-{
-    let k = piece.find_byte(b'\n')?;
-    Some((&piece[..k], &piece[..k + 1], &piece[k + 1..]))
-}
-
-/// Takes the lines that end in a piece, and carries on the rest.
-fn feed<O: Sink>(
-    alloc: Global,
-    lines: &mut Lines,
-    carry: &mut Vec<u8>,
-    piece: &[u8],
-    out: &mut O,
-) -> Result<(), Stop>
-    requires after { IsAfter lines.old }
-    requires part { has 10 carry.old.items ≡ false }
-    ensures listed { lines.new.joint.listed ≡ lines.old.joint.listed }
-    ensures after { OnOk result (IsAfter lines.new) }
-    ensures part { OnOk result (has 10 carry.new.items ≡ false) }
-    ensures fed { OnOk result (fed_lines lines.new carry.new.items ≡ fed_lines lines.old carry.old.items ++ piece.now) }
-    ensures adds { OnOk result (Adds lines.old.joint.listed lines.old.given.lines lines.new.given.lines Took
-        (O.state out.old) (O.state out.new)) }
-    ensures stops { IfErr result (StopsIn lines.old.joint.listed lines.old.given.lines
-        (fed_lines lines.old carry.old.items ++ piece.now) lines.new.joint (O.state out.old) (O.state out.new)) }
-{
-    let mut rest = piece;
-    while let Some((line, with_feed, others)) = next_line(rest) {
-        end_line(alloc, lines, carry, line, with_feed, out)?;
-        rest = others;
-    }
-    carry.extend_from_slice(rest)?;
-    Ok(())
+    take_line(
+        alloc,
+        lines,
+        &with_feed[..with_feed.len() - 1],
+        with_feed,
+        out,
+    )
 }
 
 /// Takes all that comes from the source.
 fn feed_all<S: Located, O: Sink>(
     alloc: Global,
     lines: &mut Lines,
-    carry: &mut Vec<u8>,
-    buf: &mut [u8],
+    reader: &mut LineReader,
     input: &mut S,
     out: &mut O,
 ) -> Result<(), Stop>
-    requires room { 0 < length buf.old }
+    requires unread { reader.old.unread ≡ [] }
     requires after { IsAfter lines.old }
     requires none { lines.old.given.lines ≡ [] }
-    requires part { carry.old.items ≡ [] }
     ensures listed { lines.new.joint.listed ≡ lines.old.joint.listed }
     ensures after { OnOk result (IsAfter lines.new) }
-    ensures part { OnOk result (has 10 carry.new.items ≡ false) }
+    ensures part { OnOk result (has 10 reader.new.rest ≡ false) }
     ensures all { OnOk result (GaveAll (S.Source.state input.old) (S.Source.state input.new)
-        (fed_lines lines.new carry.new.items)) }
+        (fed_lines lines.new reader.new.rest)) }
     ensures adds { OnOk result (Took (O.state out.old) (O.state out.new)
         (joined_text lines.old.joint.listed lines.new.given.lines)) }
     ensures stops { IfErr result (StopsReading lines.old.joint.listed lines.new.joint
         (S.Source.state input.old) (S.Source.state input.new) (O.state out.old) (O.state out.new)) }
 {
     'reading: loop {
-        let n = input.read(buf)?;
-        if n == 0 {
+        if !reader.advance(input)? {
             return Ok(());
         }
-        feed(alloc, lines, carry, &buf[..n], out)?;
+        end_line(alloc, lines, reader.last_line(), out)?;
     }
 }
 
@@ -389,10 +344,9 @@ fn join_all<S: Located, O: Sink>(
     ensures joins { JoinsAll lines.old.joint.listed lines.new.joint (S.Source.state input.old)
         (S.Source.state input.new) (O.state out.old) (O.state out.new) result }
 {
-    let mut store = buffer(alloc)?;
-    let mut carry = Vec::new(alloc);
-    feed_all(alloc, lines, &mut carry, store.as_mut_slice(), input, out)?;
-    end_text(lines, &carry)
+    let mut reader = LineReader::new(alloc)?;
+    feed_all(alloc, lines, &mut reader, input, out)?;
+    end_text(lines, reader.rest())
 }
 
 /// Reports why no more was read.

@@ -19,7 +19,6 @@ pub mod laws;
 mod lazy_file;
 mod located;
 mod outgoing;
-mod piece;
 mod programs;
 mod rising;
 mod seeding;

@@ -1,12 +1,14 @@
 //! Reads a whole text.
-ghost use Rattle.std.specs.Prelude.{◌≡◌, IfOk};
+ghost use Rattle.std.specs.Prelude.{◌≡◌, length, IfOk};
 ghost use Rattle.xc_input.specs.Pieces.{GaveAll};
 ghost use Rattle.xc_tools.specs.inner.WholeTexts.{IsCounted};
 ghost use Rattle.xc_tools.specs.declared.whole_text.TextError.TheVariants.{Device, Memory};
 
-use crate::piece::buffer;
 use std::alloc::{AllocError, Global};
 use xc_input::{ReadFailed, Source};
+
+/// How many bytes are read at once.
+const PIECE: usize = 65536;
 
 /// Why a text was not read.
 // Its two conversions are as those of `InputError`: that one has faults too, which reading a whole text can't answer.
@@ -47,4 +49,12 @@ pub(crate) fn read_text<S: Source>(alloc: Global, source: &mut S) -> Result<Vec<
         }
         text.extend_from_slice(&buf[..n])?;
     }
+}
+
+/// A buffer of zeros.
+// `xc_input/src/line_reader.rt` has the same in its reader: a vector made where it is read into gets no proof.
+fn buffer(alloc: Global) -> Result<Vec<u8>, AllocError>
+    ensures { IfOk result (λ v. length v.items ≡ PIECE) }
+{
+    vec![in alloc; 0; PIECE]
 }

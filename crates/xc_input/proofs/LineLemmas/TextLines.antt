@@ -1,7 +1,9 @@
 -- What a text's lines are, once some of them were handed on.
 use Rattle.xc_input.proofs.lists.EachElement.{each-append}
 use Rattle.std.proofs.Common.{◌≡◌, ◌≢◌, ℕ, ◌<◌, List, [], ◌∷◌, ◌++◌, true, false, nat_eq, Result, Ok}
-use Rattle.std.proofs.Common.{Err, length, refl, sym, ap, ◌∙◌, subst, append_assoc, append-nil, arith}
+use Rattle.std.proofs.Common.{Err, length, take, ◌-◌, refl, sym, ap, ◌∙◌, subst, append_assoc, append-nil, arith}
+use Rattle.std.proofs.lemmas.Grind.{common_steps}
+use Rattle.std.proofs.lemmas.List.{length-append}
 use Rattle.std.specs.List.{onto_first}
 use Rattle.std.proofs.lemmas.Bool.Decides.{nat_tests}
 use Rattle.std.proofs.lemmas.List.Folds.{list_any-append}
@@ -27,6 +29,10 @@ whole-more old new line e w l = subst AreWhole (sym e) (each-append (λ l. has 1
 pub ended-append : (ls ms : List (List ℕ)) → ended (ls ++ ms) ≡ ended ls ++ ended ms
 ended-append [] ms = refl
 ended-append (l ∷ ls) ms = grind (arith, ended-append ls ms, append_assoc l (10 ∷ ended ls) (ended ms))
+
+-- what stands before a last byte
+pub before_end : (whole front : List ℕ) (b : ℕ) → whole ≡ front ++ b ∷ [] → take (length whole - 1) whole ≡ front
+before_end whole front b e = grind (arith, common_steps, length-append front (b ∷ []))
 
 -- a piece is cut at its first line feed
 pub line-cut : (piece end others : List ℕ) → end ≡ before 10 piece → (has 10 piece ≡ true) × (others ≡ after 10 piece)
@@ -73,18 +79,18 @@ Spoils-more kind bytes more all e f h =
     λ others. subst (λ bs. IsErrorOf kind (lines_of bs) e)
     (sym (ap (λ bs. bs ++ others) f ∙ append_assoc bytes more others)) (h (more ++ others))
 
--- the answer to a line that ends
-pub ends : (old new : Reading) (carry end whole left : List ℕ) (r : Result (Unit {0}) InputError) → IsBetween old carry
-    → has 10 end ≡ false → whole ≡ carry ++ end → new.kind ≡ old.kind
-    → new.lines ≡ old.lines ++ whole ∷ [] → new.error ≡ result_err r → IsStateOf new.kind new.lines (result_err r)
-    → left ≡ [] → Ended old new carry end left r
-ends old new carry end whole left r b l f k g e s n =
-    let w = whole-more old.lines new.lines whole g b.whole (ap (has 10) f ∙ lacks-append 10 carry end b.partial l) in
-    by-result r e s w (grind (arith, nat_tests, append_assoc, ended-append))
+-- the answer to a line
+pub ends : (old new : Reading) (line bytes : List ℕ) (r : Result (Unit {0}) InputError) → IsBetween old []
+    → has 10 line ≡ false → bytes ≡ line ++ 10 ∷ [] → new.kind ≡ old.kind
+    → new.lines ≡ old.lines ++ line ∷ [] → new.error ≡ result_err r → IsStateOf new.kind new.lines (result_err r)
+    → Ended old new bytes r
+ends old new line bytes r b l f k g e s =
+    let w = whole-more old.lines new.lines line g b.whole l in
+    by-result r e s w (grind (arith, nat_tests, append_assoc, ended-append, append-nil))
   where
     by-result : (r : Result (Unit {0}) InputError) → new.error ≡ result_err r
         → IsStateOf new.kind new.lines (result_err r) → AreWhole new.lines
-        → (fed old carry ++ end) ++ 10 ∷ [] ≡ ended new.lines → Ended old new carry end left r
+        → fed old [] ++ bytes ≡ ended new.lines → Ended old new bytes r
     by-result (Ok x) e s w a = grind (arith, append-nil)
     by-result (Err x) e s w a = record {
       bytes = tt;

@@ -1,5 +1,6 @@
 -- No public clause cites this module. A reader that is fed a text in pieces.
-use Rattle.std.specs.Prelude.{◌≡◌, ◌≢◌, ℕ, List, [], ◌∷◌, ◌++◌, false, None, Result, OnOk, IfOk, IfErr}
+use Rattle.std.specs.Prelude.{◌≡◌, ◌≢◌, ℕ, List, [], ◌++◌, ◌≤◌, false, length, None, Result, OnOk, IfOk}
+use Rattle.std.specs.Prelude.{IfErr}
 use Rattle.xc_input.specs.declared.kind.Kind.{Kind}
 use Rattle.xc_input.specs.declared.fault.InputError.{InputError}
 use Rattle.xc_input.specs.declared.fault.InputError.TheVariants.{Memory}
@@ -10,6 +11,7 @@ use Rattle.xc_input.specs.Text.{StandsFor}
 use Rattle.xc_input.specs.FirstFault.{line_fault, first_fault}
 use Rattle.xc_input.specs.Readings.{Reading, IsErrorFor}
 use Rattle.xc_input.specs.Lines.{lines_of}
+use Rattle.xc_input.specs.Pieces.{SourceState, GaveFaultless}
 use Rattle.xc_input.specs.inner.EndedLines.{ended, AreWhole}
 
 -- how many bytes a source is asked for at once
@@ -39,11 +41,19 @@ pub record IsBetween (reading : Reading) (carry : List ℕ) : Type 0 where
 abbrev pub Spoils : Kind → List ℕ → InputError → Type 0
 Spoils kind bytes e = (more : List ℕ) → IsErrorOf kind (lines_of (bytes ++ more)) e
 
--- What an answer to a line that ends says. It came after what is carried on, and this is left now.
-pub record Ended (old new : Reading) (carry end left : List ℕ) (r : Result (Unit {0}) InputError) : Type 0 where
-  pub bytes : OnOk r (fed new left ≡ (fed old carry ++ end) ++ 10 ∷ [])
-  pub state : OnOk r (IsBetween new left)
-  pub err : IfErr r (Spoils old.kind ((fed old carry ++ end) ++ 10 ∷ []))
+-- what an answer to a line says, which came with its line feed
+pub record Ended (old new : Reading) (line : List ℕ) (r : Result (Unit {0}) InputError) : Type 0 where
+  pub bytes : OnOk r (fed new [] ≡ fed old [] ++ line)
+  pub state : OnOk r (IsBetween new [])
+  pub err : IfErr r (Spoils old.kind (fed old [] ++ line))
+
+-- Until a state, at most one read before this one, what a source gave had no fault.
+pub record Recent (kind : Kind) (old new : SourceState) : Type 0 where
+  pub before : SourceState
+  pub last : List (List ℕ)
+  pub faultless : GaveFaultless kind old before
+  pub added : new.given ≡ before.given ++ last
+  pub short : length last ≤ 1
 
 -- What an answer says of the lines of a text: the problem that they stand for, and no other, or their first fault.
 pub record EndsAs (kind : Kind) (lines : List (List ℕ)) (r : Result Read InputError) : Type 0 where

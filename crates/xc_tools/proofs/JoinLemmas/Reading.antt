@@ -1,11 +1,8 @@
 -- Lines of spans' texts that are read one after another.
-use Rattle.std.proofs.Common.{◌≡◌, ℕ, ◌+◌, ◌-◌, ◌<◌, Bool, false, List, [], ◌∷◌, ◌++◌, Result}
-use Rattle.std.proofs.Common.{length, refl, ap, ◌∙◌, arith, append_assoc, append-nil, subst, take}
-use Rattle.std.proofs.Common.{length-append}
-use Rattle.std.proofs.lemmas.Grind.{common_steps}
+use Rattle.std.proofs.Common.{◌≡◌, ℕ, Bool, false, List, [], ◌∷◌, ◌++◌, Result}
+use Rattle.std.proofs.Common.{Err, Ok, OnOk, refl, sym, ap, ◌∙◌, arith, append_assoc, append-nil, subst}
 use Rattle.xc_input.specs.Words.{has}
 use Rattle.xc_input.specs.inner.EndedLines.{ended, AreWhole}
-use Rattle.xc_input.proofs.LineLemmas.TextLines.{lacks-append}
 use Rattle.xc_list.specs.Texts.{SinkState, Took, BrokeOff}
 use Rattle.xc_list.proofs.Writing.{then_broke, then_took, took_nothing}
 use Rattle.xc_tools.specs.declared.joining.Stop.{Stop}
@@ -16,9 +13,13 @@ use Rattle.xc_tools.specs.declared.span_lines.Refusal.TheVariants as refusals
 use Rattle.xc_tools.specs.inner.SpanLines.{Join, Stand, goes, faulty, mixed, apart, by_line, start, step}
 use Rattle.xc_tools.specs.inner.SpanLines.{RefusesLine}
 use Rattle.xc_tools.specs.inner.Joining.{Adds, EndsAt, StopsIn, StopsReading, stand_reached, says_of, stop_of}
+use Rattle.xc_tools.specs.inner.Joining.{unread_stop}
+use Rattle.xc_input.specs.Calls.{Rose}
+use Rattle.xc_input.specs.LinesRead.{Advanced, LinesRead}
+use Rattle.xc_input.specs.declared.line_reader.Unread.{Unread}
+use Rattle.xc_input.specs.declared.line_reader.Unread.TheVariants as unread
+use Rattle.xc_input.proofs.LineLemmas.Pieces.{came-gave, gave_then}
 use Rattle.xc_input.specs.Pieces.{SourceState, Gave}
-use Rattle.std.proofs.Math.Seq.{take-append-add}
-use Rattle.std.proofs.lemmas.List.{length-take}
 use Rattle.xc_tools.proofs.JoinLemmas.SpanRuns.{after-append, wrote-append}
 use Rattle.xc_input.proofs.LineLemmas.TextLines.{ended-append}
 use Rattle.xc_tools.proofs.JoinLemmas.SpanLines.{whole-append}
@@ -106,27 +107,6 @@ pub stops-then : (listed : Bool) (a b : List (List ℕ)) (bytes : List ℕ) (new
     → Adds listed a b Took x y → StopsIn listed b bytes new y z e → StopsIn listed a bytes new x z e
 stops-then listed a b bytes new x y z e p h = grind (arith, append_assoc, says-then)
 
--- what stands before a last byte
-pub before_end : (whole front : List ℕ) (b : ℕ) → whole ≡ front ++ b ∷ [] → take (length whole - 1) whole ≡ front
-before_end whole front b e = grind (arith, common_steps, length-append front (b ∷ []))
-
--- a list cut behind a byte
-pub cut_behind : (xs ys : List ℕ) (k b : ℕ) → k < length xs → xs ≡ take k xs ++ b ∷ ys
-    → (xs ≡ take (k + 1) xs ++ ys) × (take (k + 1) xs ≡ take k xs ++ b ∷ [])
-cut_behind xs ys k b h e = grind (arith, common_steps, length-take, take-append-add, append_assoc)
-
--- ---- a line that was carried on
-
-module _ (carry line whole : List ℕ) (e : whole ≡ carry ++ (line ++ 10 ∷ [])) where
-  pub before-feed : take (length whole - 1) whole ≡ carry ++ line
-  before-feed = grind (arith, before_end, append_assoc)
-
-  pub free-before : has 10 carry ≡ false → has 10 line ≡ false → has 10 (take (length whole - 1) whole) ≡ false
-  free-before p q = ap (has 10) before-feed ∙ lacks-append 10 carry line p q
-
-  pub feed-behind : whole ≡ take (length whole - 1) whole ++ 10 ∷ []
-  feed-behind = grind (arith, before-feed, append_assoc)
-
 -- ---- why reading stopped
 
 pub stops-reading : (listed : Bool) (new : Joint) (a b : SourceState) (x y : SinkState) (bytes : List ℕ) (e : Stop)
@@ -138,11 +118,47 @@ stops-reading listed new a b x y bytes Device g h well = absurd h.last
 stops-reading listed new a b x y bytes Memory g h well = (bytes, g, h, well)
 stops-reading listed new a b x y bytes WriteFailed g h well = (bytes, g, h, well)
 
--- a line that was carried on or not is taken, and nothing is carried on
-pub fed-line : (old new : List (List ℕ)) (carry line left with_feed others : List ℕ) → new ≡ old ++ (carry ++ line) ∷ []
-    → left ≡ [] → with_feed ≡ line ++ 10 ∷ []
-    → (ended new ++ left) ++ others ≡ (ended old ++ carry) ++ (with_feed ++ others)
-fed-line old new carry line left with_feed others e n w = grind (arith, ended, append-nil, ended-append, append_assoc)
+pub gave-as : {a b : SourceState} {s t : List ℕ} → s ≡ t → Gave a b s → Gave a b t
+gave-as {a = a} {b = b} is h = subst (Gave a b) is h
+
+-- a reader of lines gave no answer
+pub stops-unread : (listed : Bool) (ls : List (List ℕ)) (new : Joint) (old after : LinesRead) {a : SourceState}
+    (b c : SourceState) {x y : SinkState} (e : Unread) → AreWhole ls → b.failures ≡ a.failures
+    → Gave a b (ended ls ++ old.unread) → Adds listed [] ls Took x y → Advanced old after b c (Err e)
+    → StopsReading listed new a c x y (unread_stop e)
+stops-unread listed ls new old after {a = a} b c {x = x} {y = y} unread.Device w same g adds h = (
+  ls,
+  old.unread ++ h.0,
+  gave-as (append_assoc (ended ls) old.unread h.0)
+      (gave_then a b c (ended ls ++ old.unread) h.0 g h.1),
+  w,
+  subst (Took x y) (sym adds.more) adds.said,
+  subst (λ n. Rose n c.failures) same h.3,
+)
+stops-unread listed ls new old after {a = a} b c {x = x} {y = y} unread.Memory w same g adds h = (
+  (ended ls ++ old.unread) ++ h.0,
+  gave_then a b c (ended ls ++ old.unread) h.0 g (came-gave h.1),
+  stops-then listed [] ls _ new x y y Memory adds
+      (stops-before listed ls (old.unread ++ h.0) _ new y w (append_assoc (ended ls) old.unread h.0)),
+  h.2 ∙ same,
+)
+
+-- a line is taken
+pub fed-on : (old new : List (List ℕ)) (left bytes line unread : List ℕ) → left ++ bytes ≡ line ++ unread
+    → ended new ≡ ended old ++ line → (ended old ++ left) ++ bytes ≡ ended new ++ unread
+fed-on old new left bytes line unread e f = grind (arith, append_assoc)
+
+-- it is the last one
+pub fed-line : (old : List (List ℕ)) (left bytes line unread : List ℕ) → left ++ bytes ≡ line ++ unread
+    → (ended old ++ left) ++ bytes ≡ (ended old ++ line) ++ unread
+fed-line old left bytes line unread e = grind (arith, append_assoc)
+
+-- the bytes of lines and one more, where it is taken
+pub ended-more : (old new : List (List ℕ)) (line with_feed : List ℕ) (r : Result (Unit {0}) Stop)
+    → with_feed ≡ line ++ 10 ∷ [] → OnOk r (new ≡ old ++ line ∷ []) → OnOk r (ended new ≡ ended old ++ with_feed)
+ended-more old new line with_feed (Ok _) w e =
+    ap ended e ∙ ended-append old (line ∷ []) ∙ ap (λ t. ended old ++ t) (sym w)
+ended-more old new line with_feed (Err _) w e = tt
 
 -- the same told in another way
 pub stops-as : {before : List (List ℕ)} {bytes : List ℕ} {new : Joint} {x y : SinkState} {e : Stop} {b c : Bool} → b ≡ c
@@ -157,9 +173,6 @@ stops-from {bytes = bytes} {new = new} {x = x} {y = y} {e = e} {listed = listed}
 pub adds-as : {before lines : List (List ℕ)} {x y : SinkState} {b c : Bool} → b ≡ c
     → Adds b before lines Took x y → Adds c before lines Took x y
 adds-as {before = before} {lines = lines} {x = x} {y = y} is h = subst (λ b. Adds b before lines Took x y) is h
-
-pub gave-as : {a b : SourceState} {s t : List ℕ} → s ≡ t → Gave a b s → Gave a b t
-gave-as {a = a} {b = b} is h = subst (Gave a b) is h
 
 pub ends-as : {s t : List ℕ} (old new : Joint) (r : Result (Unit {0}) Stop) → s ≡ t → EndsAt s old new r
     → EndsAt t old new r

@@ -4,6 +4,8 @@ use Rattle.xc_input.specs.Calls.{Rose}
 use Rattle.xc_input.specs.Words.{has}
 use Rattle.xc_input.specs.inner.EndedLines.{ended, AreWhole}
 use Rattle.xc_input.specs.Pieces.{SourceState, Gave, GaveAll}
+use Rattle.xc_input.specs.declared.line_reader.Unread.{Unread}
+use Rattle.xc_input.specs.declared.line_reader.Unread.TheVariants as unread
 use Rattle.xc_list.specs.Texts.{SinkState, Took, BrokeOff, WasTold}
 use Rattle.xc_tools.specs.Joins.{ToldGap, ToldOther, no_text, unread_text}
 use Rattle.xc_tools.specs.ShownNames.{OfSource}
@@ -71,6 +73,11 @@ stop_of refusals.NotText = NotText
 stop_of refusals.Other = Other
 stop_of refusals.Gap = Gap
 stop_of refusals.Memory = Memory
+
+-- why a reader of lines stops a run that asks it for one more
+abbrev pub unread_stop : Unread → Stop
+unread_stop unread.Device = Device
+unread_stop unread.Memory = Memory
 
 -- Why reading stopped: a read failed after what the source gave; or in lines that it gave.
 abbrev pub StopsReading : Bool → Joint → SourceState → SourceState → SinkState → SinkState → Stop → Type 0

@@ -1,28 +1,75 @@
-use Rattle.std.proofs.Common.{◌++◌, ◌∙◌, ◌<◌, take, length, subst, arith}
+use Rattle.std.proofs.Common.{◌++◌, ◌∙◌, [], ap, sym, subst, refl, append_assoc}
 use Rattle.std.proofs.lemmas.Result.{err_from_is_err_and}
+use Rattle.xc_input.specs.inner.EndedLines.{ended}
 use Rattle.xc_input.specs.inner.Feeding.{fed, Spoils}
-use Rattle.xc_input.specs.Pieces.{Gave}
-use Rattle.xc_input.proofs.LineLemmas.Pieces.{gave_more, faultless, part-spoiled}
+use Rattle.xc_input.specs.Pieces.{Gave, GaveAll}
+use Rattle.xc_input.proofs.LineLemmas.Cuts.{shorter}
+use Rattle.xc_input.proofs.LineLemmas.Pieces.{all_then, came-gave, fed-line, fed-on, gave_none, gave_then, part-spoiled}
+use Rattle.xc_input.proofs.LineLemmas.Pieces.{part-unread, recent-came, recent_none}
+use Rattle.xc_input.proofs.LineLemmas.TextLines.{Spoils-more}
 use Rattle.xc_input.proofs.read.feed_all.Goals as goal
 
-pub returns-in_err-n-clause-part : goal.returns-in_err-n-clause-part
-returns-in_err-n-clause-part g c =
-    let error = err_from_is_err_and c.from_residual.result c.from_residual.ensures.1 in
-    let kept : Gave (g.S.Source.state c.args.source.now) (g.S.Source.state c.read.new.self)
-    (fed c.reading.reader c.reading.carry.items) = grind arith in
-    rw (error.1, error.2) (faultless _ _ _ c.reading.invariant.1 c.reading.invariant.0 kept, grind arith)
+pub reading-init : goal.reading-init
+reading-init g c =
+    let source = g.S.Source.state c.args.source.now in
+    record {
+      between = c.requires.state;
+      kind = refl;
+      no_failure = refl;
+      gave = subst (Gave source source) (sym (ap (fed c.args.reader.now) c.requires.unread ∙ c.requires.nothing))
+          (gave_none source);
+      recent = recent_none _ source;
+    }
 
-pub returns-in_err-feed-clause-part : goal.returns-in_err-feed-clause-part
-returns-in_err-feed-clause-part g c =
-    let error = err_from_is_err_and c.from_residual-in_err-feed.result c.from_residual-in_err-feed.ensures.1 in
-    let bytes = fed c.reading.reader c.reading.carry.items ++ take c.in_ok-n.n c.read.new.buf in
-    let some : 0 < length (take c.in_ok-n.n c.read.new.buf) =
-    grind (arith, c.if-n-eq0.false, c.in_ok-n.ensures.bound) in
-    rw (error.1, error.2) (part-spoiled c.args.reader.now.kind _ c.in_err-feed.field-0.0
-    (subst (λ kind. Spoils kind bytes c.in_err-feed.field-0.0) c.reading.invariant.1 c.in_err-feed.ensures.err)
-    (gave_more _ _ _ _ _ c.reading.invariant.3 some c.in_ok-n.ensures.bytes.0 c.in_ok-n.ensures.given)
-    (c.in_ok-n.ensures.failures ∙ c.reading.invariant.2)
-    (faultless _ _ _ c.reading.invariant.1 c.reading.invariant.0 c.reading.invariant.3) c.in_ok-n.ensures.given)
+pub returns-in_err-advance-clause-part : goal.returns-in_err-advance-clause-part
+returns-in_err-advance-clause-part g c =
+    let error = err_from_is_err_and c.from_residual.result c.from_residual.ensures.1 in
+    let i = c.reading.invariant in
+    rw (error.1, error.2) (part-unread _ _ c.reading.lines c.advance.new.self _ _ c.in_err-advance.field-0.0 i.kind i.between
+    i.no_failure i.gave i.recent c.in_err-advance.ensures)
+
+pub returns-then-not-branch-clause-all : goal.returns-then-not-branch-clause-all
+returns-then-not-branch-clause-all g c =
+    let i = c.reading.invariant in
+    let end = rw c.if-not-branch.true at c.in_ok-advance.ensures in
+    let left = c.reading.lines.unread in
+    subst (GaveAll (g.S.Source.state c.args.source.now) (g.S.Source.state c.advance.new.source))
+    (append_assoc (ended c.reading.reader.lines) left end.0 ∙ ap (fed c.reading.reader) (sym end.2))
+    (all_then _ _ _ (fed c.reading.reader left) end.0 i.gave i.no_failure end.1)
+
+pub reading-smaller : goal.reading-smaller
+reading-smaller g c =
+    let one = rw c.if-not-branch.false at c.in_ok-advance.ensures in
+    shorter c.reading.lines.unread one.0 c.advance.new.self.line c.advance.new.self.unread _ _ one.4 one.5 one.3
 
 pub reading-preserved : goal.reading-preserved
-reading-preserved g c = grind (arith, gave_more)
+reading-preserved g c =
+    let i = c.reading.invariant in
+    let one = rw c.if-not-branch.false at c.in_ok-advance.ensures in
+    let done = c.in_ok-take_line.ensures in
+    let left = c.reading.lines.unread in
+    let on = fed-on c.reading.reader c.take_line.new.reader left one.0 c.advance.new.self.line c.advance.new.self.unread
+    one.4 (done.ended.bytes ∙ ap (λ t. fed c.reading.reader [] ++ t) c.last_line.ensures) in
+    record {
+      between = done.ended.state;
+      kind = done.kind ∙ i.kind;
+      no_failure = one.2 ∙ i.no_failure;
+      gave = subst (Gave (g.S.Source.state c.args.source.now) (g.S.Source.state c.advance.new.source)) on
+          (gave_then _ _ _ (fed c.reading.reader left) one.0 i.gave (came-gave one.1));
+      recent = recent-came _ c.reading.reader left one.0 i.kind i.between i.gave i.recent one.1;
+    }
+
+pub returns-in_err-take_line-clause-part : goal.returns-in_err-take_line-clause-part
+returns-in_err-take_line-clause-part g c =
+    let error = err_from_is_err_and c.from_residual-in_err-take_line.result c.from_residual-in_err-take_line.ensures.1 in
+    let i = c.reading.invariant in
+    let one = rw c.if-not-branch.false at c.in_ok-advance.ensures in
+    let left = c.reading.lines.unread in
+    let e = c.in_err-take_line.field-0.0 in
+    let all = fed-line c.reading.reader left one.0 c.advance.new.self.line c.advance.new.self.unread one.4
+    ∙ ap (λ t. (fed c.reading.reader [] ++ t) ++ c.advance.new.self.unread) (sym c.last_line.ensures) in
+    rw (error.1, error.2) (part-spoiled c.args.reader.now.kind e
+    (subst (λ kind. Spoils kind (fed c.reading.reader left ++ one.0) e) i.kind
+    (Spoils-more _ _ c.advance.new.self.unread _ e all c.in_err-take_line.ensures.ended.err))
+    (gave_then _ _ _ (fed c.reading.reader left) one.0 i.gave (came-gave one.1)) (one.2 ∙ i.no_failure)
+    (recent-came _ c.reading.reader left one.0 i.kind i.between i.gave i.recent one.1))

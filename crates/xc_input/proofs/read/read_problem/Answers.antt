@@ -11,8 +11,8 @@ read_through-requires-clause-state g c = grind (arith, nat_tests)
 pub read_through-requires-clause-nothing : goal.read_through-requires-clause-nothing
 read_through-requires-clause-nothing g c = grind (arith, ended)
 
-pub returns-in_err-store-clause-part : goal.returns-in_err-store-clause-part
-returns-in_err-store-clause-part g c = grind (arith, err_from_is_err_and, part-none)
+pub returns-in_err-lines-clause-part : goal.returns-in_err-lines-clause-part
+returns-in_err-lines-clause-part g c = grind (arith, err_from_is_err_and, part-none)
 
 pub returns-clause-part : goal.returns-clause-part
 returns-clause-part g c = rw c.with_seed-reader.ensures.kind at c.read_through.ensures.part

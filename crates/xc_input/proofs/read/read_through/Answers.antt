@@ -9,10 +9,10 @@ returns-clause-whole g c = grind (arith, whole-last, ends-as)
 
 pub returns-clause-part : goal.returns-clause-part
 returns-clause-part g c =
-    let some = open-carry c.feed_all.new.reader c.feed_all.new.carry.items c.in_ok-feed_all.ensures.state in
+    let some = open-carry c.feed_all.new.reader c.feed_all.new.lines.rest c.in_ok-feed_all.ensures.state in
     let fed = c.in_ok-feed_all.ensures in
     let reader = c.feed_all.new.reader in
-    let clean = faultless c.args.reader.kind reader c.feed_all.new.carry.items fed.kind fed.state fed.all.gave in
-    let ends = rw c.as_slice.ensures.value at c.end_text.ensures.answer in
-    let memory = rw c.as_slice.ensures.value at c.end_text.ensures.memory in
+    let clean = faultless c.args.reader.kind reader c.feed_all.new.lines.rest fed.kind fed.state fed.all.gave in
+    let ends = rw c.rest.ensures at c.end_text.ensures.answer in
+    let memory = rw c.rest.ensures at c.end_text.ensures.memory in
     part-last c.end_text.result (ends-as _ _ _ _ _ fed.kind refl ends) (λ e. some (memory e)) fed.all clean

@@ -13,12 +13,12 @@ use Rattle.xc_search.proofs.levels.run.Goals as goal
 use Rattle.xc_search.proofs.levels.run.Goals.{After-enter_branch, After-commit_branch}
 use Rattle.xc_search.proofs.levels.run.Goals.{in-Some+in-Before, in-Some+in-Begins, in_default}
 
-pub loop-entered-init : goal.loop-entered-init
-loop-entered-init g c = record {
+pub loop-at-init : goal.loop-at-init
+loop-at-init g c = record {
   begun = 0;
   count = λ _. omega arith;
-  stands = λ u _. stands_first (not c.fixed-early.result.early) c.fixed-early.result.first u _ _ _ c.requires.standing;
-  rest = rw c.fixed-early.ensures (by_option c.args.task.until
+  stands = λ u _. stands_first (not c.fixed-task.result.early) c.fixed-task.result.first u _ _ _ c.requires.standing;
+  rest = rw c.fixed-task.ensures (by_option c.args.task.until
       (λ e. rw e (rest_of_all c.args.position.now.puzzle c.args.stack.now.levels _ _))
       (λ v e. first_rest _ _ _ _ _ c.requires.before (omega arith) (c.requires.all (rw e refl))));
   far = λ _. omega arith;
@@ -32,94 +32,94 @@ loop-entered-init g c = record {
 
 module _ (g : _) (c : After-enter_branch g) where
   -- there is a step to go
-  going : not (nat_eq g.row.BOUND 0) ≡ true → 0 < c.loop-entered.steps
-  going = c.loop-entered.invariant.some
+  going : not (nat_eq g.row.BOUND 0) ≡ true → 0 < c.loop-at.steps
+  going = c.loop-at.invariant.some
 
   -- what is known of each end
   rest : (u : Option (List ℕ)) → IsSeenBy (not (nat_eq g.row.BOUND 0)) u
-      (option_map (λ u. u.now) c.fixed-early.result.until) c.fixed-early.result.first
-      c.fixed-early.result.steps c.args.position.now.puzzle c.args.stack.now.levels
-      → IsRest u c.loop-entered.position.puzzle c.loop-entered.stack.levels c.loop-entered.last
-      c.fixed-early.result.first
+      (option_map (λ u. u.now) c.fixed-task.result.until) c.fixed-task.result.first
+      c.fixed-task.result.steps c.args.position.now.puzzle c.args.stack.now.levels
+      → IsRest u c.loop-at.position.puzzle c.loop-at.stack.levels c.loop-at.last
+      c.fixed-task.result.first
   rest u is =
-      let s = c.loop-entered.invariant in
+      let s = c.loop-at.invariant in
       seen_rest is (s.stands u is) s.count going s.far s.rest
 
 -- a branch was begun
 begins : (g : _) (c : After-commit_branch g) (u : Option (List ℕ))
-    → IsRest u c.loop-entered.position.puzzle c.loop-entered.stack.levels c.loop-entered.last c.fixed-early.result.first
-    → BeginsBranch (not c.fixed-early.result.early) c.fixed-early.result.first u
-    c.loop-entered.position c.loop-entered.stack c.loop-entered.more
+    → IsRest u c.loop-at.position.puzzle c.loop-at.stack.levels c.loop-at.last c.fixed-task.result.first
+    → BeginsBranch (not c.fixed-task.result.early) c.fixed-task.result.first u
+    c.loop-at.position c.loop-at.stack c.loop-at.more
     c.commit_branch.new.self c.enter_branch.new.stack c.enter_branch.new.more
 begins g c u is =
-    rw c.commit_branch.ensures (c.enter_branch.ensures.entered c.in-Branch.entered c.in-Branch.is u is).begins
+    rw c.commit_branch.ensures (c.enter_branch.ensures.entered c.in-Branch.at c.in-Branch.is u is).begins
 
 pub commit_branch-requires-clause-can : goal.commit_branch-requires-clause-can
 commit_branch-requires-clause-can g c =
-    (c.enter_branch.ensures.entered c.in-Branch.entered c.in-Branch.is _ c.loop-entered.invariant.rest).can
+    (c.enter_branch.ensures.entered c.in-Branch.at c.in-Branch.is _ c.loop-at.invariant.rest).can
 
 pub commit_branch-requires-clause-place : goal.commit_branch-requires-clause-place
 commit_branch-requires-clause-place g c =
-    (c.enter_branch.ensures.entered c.in-Branch.entered c.in-Branch.is _ c.loop-entered.invariant.rest).place
+    (c.enter_branch.ensures.entered c.in-Branch.at c.in-Branch.is _ c.loop-at.invariant.rest).place
 
 pub enter_branch-requires-clause-standing : goal.enter_branch-requires-clause-standing
-enter_branch-requires-clause-standing g c = (c.loop-entered.invariant.stands _ (inl refl)).standing
+enter_branch-requires-clause-standing g c = (c.loop-at.invariant.stands _ (inl refl)).standing
 
 pub enter_branch-requires-clause-levels_fit : goal.enter_branch-requires-clause-levels_fit
 enter_branch-requires-clause-levels_fit g c =
-    let still = (c.loop-entered.invariant.stands _ (inl refl)).still in grind (arith, still, c.requires.levels_fit)
+    let still = (c.loop-at.invariant.stands _ (inl refl)).still in grind (arith, still, c.requires.levels_fit)
 
 pub returns-in-Solution-clause-ran : goal.returns-in-Solution-clause-ran
-returns-in-Solution-clause-ran g c = rw (← c.fixed-early.ensures) (λ u is.
-    let s = c.loop-entered.invariant in
+returns-in-Solution-clause-ran g c = rw (← c.fixed-task.ensures) (λ u is.
+    let s = c.loop-at.invariant in
     let same = c.enter_branch.ensures.same c.in-Solution.is in
     rw c.halted-in-Solution.ensures (runs_to_member (s.stands u is) s.count same.0 same.1 same.2 same.3
     (c.enter_branch.ensures.solved c.in-Solution.is) s.rest.before))
 
 pub returns-in-Solution-clause-stands_pays : goal.returns-in-Solution-clause-stands_pays
-returns-in-Solution-clause-stands_pays g c = rw (← c.fixed-early.ensures) (λ _ one.
+returns-in-Solution-clause-stands_pays g c = rw (← c.fixed-task.ensures) (λ _ one.
     let same = c.enter_branch.ensures.same c.in-Solution.is in
-    let more : c.enter_branch.new.more ≡ c.loop-entered.more = same.3 ∙ sym same.2 in
-    rw (c.halted-in-Solution.ensures, same.0, same.1, more) (c.loop-entered.invariant.pays one))
+    let more : c.enter_branch.new.more ≡ c.loop-at.more = same.3 ∙ sym same.2 in
+    rw (c.halted-in-Solution.ensures, same.0, same.1, more) (c.loop-at.invariant.pays one))
 
 pub returns-in-Nothing-clause-ran : goal.returns-in-Nothing-clause-ran
-returns-in-Nothing-clause-ran g c = rw (← c.fixed-early.ensures) (λ u is.
-    let s = c.loop-entered.invariant in
+returns-in-Nothing-clause-ran g c = rw (← c.fixed-task.ensures) (λ u is.
+    let s = c.loop-at.invariant in
     rw c.halted-in-Nothing.ensures (runs_to_end (s.stands u is) s.count (c.enter_branch.ensures.done c.in-Nothing.is u
     (rest g (goal.at.returns-in-Nothing-clause-ran g c).After-enter_branch u is))
     (c.enter_branch.ensures.done_made c.in-Nothing.is)))
 
 pub returns-in-Nothing-clause-ended_pays : goal.returns-in-Nothing-clause-ended_pays
-returns-in-Nothing-clause-ended_pays g c = rw (← c.fixed-early.ensures) (λ _ one.
+returns-in-Nothing-clause-ended_pays g c = rw (← c.fixed-task.ensures) (λ _ one.
     rw c.halted-in-Nothing.ensures
-    (Pays-trans (c.loop-entered.invariant.pays one) (c.enter_branch.ensures.done_pays c.in-Nothing.is one)))
+    (Pays-trans (c.loop-at.invariant.pays one) (c.enter_branch.ensures.done_pays c.in-Nothing.is one)))
 
 pub returns-in-Reached-clause-ran : goal.returns-in-Reached-clause-ran
-returns-in-Reached-clause-ran g c = rw (← c.fixed-early.ensures) (λ u is.
+returns-in-Reached-clause-ran g c = rw (← c.fixed-task.ensures) (λ u is.
     let on = (goal.at.returns-in-Reached-clause-ran g c).After-commit_branch in
     let at = (goal.at.returns-in-Reached-clause-ran g c).After-enter_branch in
     let row = row_levels c.commit_branch.new.self.puzzle c.levels.result.now c.enter_branch.new.stack.levels
     c.levels.ensures.levels in
-    let s = c.loop-entered.invariant in
+    let s = c.loop-at.invariant in
     let bound : not (nat_eq g.row.BOUND 0) ≡ true = grind (arith, nat_tests, c.if-this-ne0-2.true) in
     rw c.halted-in-Reached.ensures (runs_to_row (s.stands u is) s.count bound (going g at bound)
     (begins g on u (rest g at u is))
     (rw (← s.same, c.in-Some.is, ← row) (c.place_apart.ensures.reached c.in-Reached.is))))
 
-pub loop-entered-smaller-else-steps-eq0-2 : goal.loop-entered-smaller-else-steps-eq0-2
-loop-entered-smaller-else-steps-eq0-2 g c =
-    let on = (goal.at.loop-entered-smaller-else-steps-eq0-2 g c).After-commit_branch in
-    (begins g on _ c.loop-entered.invariant.rest).less
+pub loop-at-smaller-else-steps-eq0-2 : goal.loop-at-smaller-else-steps-eq0-2
+loop-at-smaller-else-steps-eq0-2 g c =
+    let on = (goal.at.loop-at-smaller-else-steps-eq0-2 g c).After-commit_branch in
+    (begins g on _ c.loop-at.invariant.rest).less
 
-pub loop-entered-smaller : goal.loop-entered-smaller
-loop-entered-smaller g c =
-    (begins g (goal.at.loop-entered-smaller g c).After-commit_branch _ c.loop-entered.invariant.rest).less
+pub loop-at-smaller : goal.loop-at-smaller
+loop-at-smaller g c =
+    (begins g (goal.at.loop-at-smaller g c).After-commit_branch _ c.loop-at.invariant.rest).less
 
-pub loop-entered-preserved-else-steps-eq0-2 : goal.loop-entered-preserved-else-steps-eq0-2
-loop-entered-preserved-else-steps-eq0-2 g c =
-    let on = (goal.at.loop-entered-preserved-else-steps-eq0-2 g c).After-commit_branch in
-    let at = (goal.at.loop-entered-preserved-else-steps-eq0-2 g c).After-enter_branch in
-    let s = c.loop-entered.invariant in
+pub loop-at-preserved-else-steps-eq0-2 : goal.loop-at-preserved-else-steps-eq0-2
+loop-at-preserved-else-steps-eq0-2 g c =
+    let on = (goal.at.loop-at-preserved-else-steps-eq0-2 g c).After-commit_branch in
+    let at = (goal.at.loop-at-preserved-else-steps-eq0-2 g c).After-enter_branch in
+    let s = c.loop-at.invariant in
     record {
       begun = s.begun + 1;
       count = λ is. omega (arith, s.count is, going g at is);
@@ -131,9 +131,9 @@ loop-entered-preserved-else-steps-eq0-2 g c =
         | in-Some+in-Begins w ↦ rest_about c.commit_branch.new.self.puzzle w.levels.result.now
             c.enter_branch.new.stack.levels w.in-Some.until.now _ _ _ w.levels.ensures.levels
             (ap (option_map (λ u. u.now)) (sym s.same ∙ w.in-Some.is)) (w.place_apart.ensures.begins w.in-Begins.is)
-            (omega (arith, w.last-is)) (none_left_out (option_map (λ u. u.now) c.fixed-early.result.until)
-            c.commit_branch.new.self.puzzle c.enter_branch.new.stack.levels c.fixed-early.result.first
-            ((rw (← c.fixed-early.ensures) at c.requires.all) (rw (← s.same, w.in-Some.is) refl)))
+            (omega (arith, w.last-is)) (none_left_out (option_map (λ u. u.now) c.fixed-task.result.until)
+            c.commit_branch.new.self.puzzle c.enter_branch.new.stack.levels c.fixed-task.result.first
+            ((rw (← c.fixed-task.ensures) at c.requires.all) (rw (← s.same, w.in-Some.is) refl)))
         | in_default w ↦ rw (← s.same, w.in_default.is)
             (rest_of_all c.commit_branch.new.self.puzzle c.enter_branch.new.stack.levels _ _)
       ];
@@ -141,52 +141,52 @@ loop-entered-preserved-else-steps-eq0-2 g c =
       same = s.same;
       some = λ _. omega (arith, c.if-steps-eq0-2.false);
       pays = λ one. Pays-trans (s.pays one) (rw c.commit_branch.ensures (c.enter_branch.ensures.entered_pays
-          c.in-Branch.entered c.in-Branch.is one));
+          c.in-Branch.at c.in-Branch.is one));
     }
 
-pub loop-entered-preserved : goal.loop-entered-preserved
-loop-entered-preserved g c =
-    let on = (goal.at.loop-entered-preserved g c).After-commit_branch in
-    let at = (goal.at.loop-entered-preserved g c).After-enter_branch in
-    let s = c.loop-entered.invariant in
+pub loop-at-preserved : goal.loop-at-preserved
+loop-at-preserved g c =
+    let on = (goal.at.loop-at-preserved g c).After-commit_branch in
+    let at = (goal.at.loop-at-preserved g c).After-enter_branch in
+    let s = c.loop-at.invariant in
     let free : not (nat_eq g.row.BOUND 0) ≡ false = grind (arith, nat_tests, c.if-this-ne0-2.false) in
     record {
       begun = s.begun + 1;
       count = λ is. absurd (cc (is, free));
       stands = λ u is. stands_more (s.stands u is) (begins g on u (rest g at u is));
-      rest = rw (rw (← c.fixed-early.ensures) at c.requires.free free)
+      rest = rw (rw (← c.fixed-task.ensures) at c.requires.free free)
           (rest_of_all c.commit_branch.new.self.puzzle c.enter_branch.new.stack.levels _ _);
       far = λ h. absurd (omega (arith, h));
       same = s.same;
       some = λ is. absurd (cc (is, free));
       pays = λ one. Pays-trans (s.pays one) (rw c.commit_branch.ensures (c.enter_branch.ensures.entered_pays
-          c.in-Branch.entered c.in-Branch.is one));
+          c.in-Branch.at c.in-Branch.is one));
     }
 
 pub returns-then-steps-eq0-clause-ran : goal.returns-then-steps-eq0-clause-ran
-returns-then-steps-eq0-clause-ran g c = rw (← c.fixed-early.ensures) (λ u is.
+returns-then-steps-eq0-clause-ran g c = rw (← c.fixed-task.ensures) (λ u is.
     let bound : not (nat_eq g.row.BOUND 0) ≡ true = grind (arith, nat_tests, c.if-this-ne0.true) in
     rw c.halted.ensures (runs_to_steps
-    (stands_first (not c.fixed-early.result.early) c.fixed-early.result.first u _ _ _ c.requires.standing)
-    (λ _. omega arith) bound c.if-steps-eq0.true (rw c.fixed-early.ensures c.requires.before)))
+    (stands_first (not c.fixed-task.result.early) c.fixed-task.result.first u _ _ _ c.requires.standing)
+    (λ _. omega arith) bound c.if-steps-eq0.true (rw c.fixed-task.ensures c.requires.before)))
 
 pub returns-then-steps-eq0-2-clause-ran : goal.returns-then-steps-eq0-2-clause-ran
-returns-then-steps-eq0-2-clause-ran g c = rw (← c.fixed-early.ensures) (λ u is.
+returns-then-steps-eq0-2-clause-ran g c = rw (← c.fixed-task.ensures) (λ u is.
     let on = (goal.at.returns-then-steps-eq0-2-clause-ran g c).After-commit_branch in
     let at = (goal.at.returns-then-steps-eq0-2-clause-ran g c).After-enter_branch in
-    let s = c.loop-entered.invariant in
+    let s = c.loop-at.invariant in
     let bound : not (nat_eq g.row.BOUND 0) ≡ true = grind (arith, nat_tests, c.if-this-ne0-2.true) in
-    let seen : IsRest (option_map (λ u. u.now) c.fixed-early.result.until) c.commit_branch.new.self.puzzle
-    c.enter_branch.new.stack.levels c.match-until.last c.fixed-early.result.first = elim c.match-until.branch [
+    let seen : IsRest (option_map (λ u. u.now) c.fixed-task.result.until) c.commit_branch.new.self.puzzle
+    c.enter_branch.new.stack.levels c.match-until.last c.fixed-task.result.first = elim c.match-until.branch [
       | in-Some+in-Before w ↦ rest_before c.commit_branch.new.self.puzzle w.levels.result.now
           c.enter_branch.new.stack.levels w.in-Some.until.now _ _ _ w.levels.ensures.levels
           (ap (option_map (λ u. u.now)) (sym s.same ∙ w.in-Some.is)) (w.place_apart.ensures.before w.in-Before.is)
       | in-Some+in-Begins w ↦ rest_about c.commit_branch.new.self.puzzle w.levels.result.now
           c.enter_branch.new.stack.levels w.in-Some.until.now _ _ _ w.levels.ensures.levels
           (ap (option_map (λ u. u.now)) (sym s.same ∙ w.in-Some.is)) (w.place_apart.ensures.begins w.in-Begins.is)
-          (omega (arith, w.last-is)) (none_left_out (option_map (λ u. u.now) c.fixed-early.result.until)
-          c.commit_branch.new.self.puzzle c.enter_branch.new.stack.levels c.fixed-early.result.first
-          ((rw (← c.fixed-early.ensures) at c.requires.all) (rw (← s.same, w.in-Some.is) refl)))
+          (omega (arith, w.last-is)) (none_left_out (option_map (λ u. u.now) c.fixed-task.result.until)
+          c.commit_branch.new.self.puzzle c.enter_branch.new.stack.levels c.fixed-task.result.first
+          ((rw (← c.fixed-task.ensures) at c.requires.all) (rw (← s.same, w.in-Some.is) refl)))
       | in_default w ↦ rw (← s.same, w.in_default.is)
           (rest_of_all c.commit_branch.new.self.puzzle c.enter_branch.new.stack.levels _ _)
     ] in
@@ -196,5 +196,5 @@ returns-then-steps-eq0-2-clause-ran g c = rw (← c.fixed-early.ensures) (λ u i
 
 pub returns-in-Nothing-clause-moved : goal.returns-in-Nothing-clause-moved
 returns-in-Nothing-clause-moved g c _ =
-    let s = c.loop-entered.invariant in
+    let s = c.loop-at.invariant in
     c.enter_branch.ensures.moved c.in-Nothing.is (λ none. s.far (none_begun (s.stands _ (inl refl)) none))

@@ -6,8 +6,8 @@ use Rattle.xc_search.specs.inner.Spanning.{Stands, IsRest, IsSeenBy}
 use Rattle.xc_search.proofs.levels.run.Given as goal
 
 -- it began so many branches
-abbrev pub invariant-loop-entered : goal.invariant-loop-entered
-invariant-loop-entered g l = record {
+abbrev pub invariant-loop-at : goal.invariant-loop-at
+invariant-loop-at g l = record {
   begun : ℕ;
   count : not (nat_eq g.row.BOUND 0) ≡ true → begun + l.steps ≡ l.initial.steps;
   stands : (u : Option (List ℕ)) → IsSeenBy (not (nat_eq g.row.BOUND 0)) u
@@ -21,5 +21,5 @@ invariant-loop-entered g l = record {
   pays : l.first ≡ 1 → Pays l.initial.position l.initial.stack true l.initial.more l.position l.stack true l.more;
 }
 
-abbrev pub decreases-loop-entered : goal.decreases-loop-entered
-decreases-loop-entered g l = ahead l.position.puzzle l.position.trail l.stack.levels true
+abbrev pub decreases-loop-at : goal.decreases-loop-at
+decreases-loop-at g l = ahead l.position.puzzle l.position.trail l.stack.levels true

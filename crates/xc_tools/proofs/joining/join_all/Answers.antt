@@ -9,13 +9,13 @@ returns g c =
     record {
       joins = inr (
         c.feed_all.new.lines.given.lines,
-        c.feed_all.new.carry.items,
+        c.feed_all.new.reader.rest,
         c.feed_all.new.lines.joint,
         read.all,
         read.after.whole,
         read.part,
         ap (λ b. stand_reached b c.feed_all.new.lines.given.lines) (sym read.listed) ∙ read.after.stands,
-        ends-as _ _ _ c.deref.ensures.value c.end_text.ensures.ends,
+        ends-as _ _ _ c.rest.ensures c.end_text.ensures.ends,
         read.adds,
       );
     }
