@@ -48,8 +48,8 @@ module _ (xs : List ℕ) (from to len : ℕ) (within : len ≤ length (take (to 
       ap (λ n. take n (drop from xs)) (omega arith) ∙ sym front
 
   -- what was read, cut behind a number of bytes
-  parts : left ≡ take len left ++ rest
-  parts =
+  in_parts : left ≡ take len left ++ rest
+  in_parts =
       let is : to - from ≡ len + (to - (from + len)) = omega (arith, short) in
       let back : drop len left ≡ rest =
       ap (λ n. drop len (take n (drop from xs))) is ∙ drop-take len (to - (from + len)) (drop from xs)
@@ -63,10 +63,10 @@ module _ (xs : List ℕ) (from to len : ℕ) (within : len ≤ length (take (to 
       → (carry ++ left ≡ line ++ rest) × IsLine line
   cut-line [] kept none is k line e =
       let same : line ≡ take len left = grind (arith, nat_tests, k, e, is-line) in
-      (parts ∙ ap (λ t. t ++ rest) (sym same), subst IsLine (sym same) is)
+      (in_parts ∙ ap (λ t. t ++ rest) (sym same), subst IsLine (sym same) is)
   cut-line (b ∷ carry) kept none is k line e =
       let same : line ≡ (b ∷ carry) ++ take len left = grind (arith, nat_tests, k, e) in (
-        ap (λ t. (b ∷ carry) ++ t) parts ∙ sym (append_assoc (b ∷ carry) (take len left) rest)
+        ap (λ t. (b ∷ carry) ++ t) in_parts ∙ sym (append_assoc (b ∷ carry) (take len left) rest)
             ∙ ap (λ t. t ++ rest) (sym same),
         subst IsLine (sym same) (record {
           front = (b ∷ carry) ++ is.front;
