@@ -49,6 +49,7 @@ fn read_through<S: Source>(
     ensures valid { IfOk result (λ r. IsSound r.problem) }
     ensures whole { IfOk result
         (λ r. IsWhole reader.kind (S.state source.old) (S.state source.new) r.problem r.ignored.items) }
+    ensures seed { IfOk result (λ r. r.problem.seed ≡ reader.seeds.0) }
     ensures part { IfErr result (IsPart reader.kind (S.state source.old) (S.state source.new)) }
 {
     feed_all(source, buf, carry, &mut reader)?;
@@ -66,6 +67,7 @@ fn feed_all<S: Source>(
     requires state { IsBetween reader.old carry.old.items }
     requires nothing { fed reader.old carry.old.items ≡ [] }
     ensures kind { reader.new.kind ≡ reader.old.kind }
+    ensures seeds { reader.new.seeds ≡ reader.old.seeds }
     ensures state { OnOk result (IsBetween reader.new carry.new.items) }
     ensures all { OnOk result (GaveAll (S.state source.old) (S.state source.new) (fed reader.new carry.new.items)) }
     ensures part { IfErr result (IsPart reader.old.kind (S.state source.old) (S.state source.new)) }
@@ -92,6 +94,7 @@ fn buffer(alloc: Global) -> Result<Vec<u8>, AllocError>
 fn feed(reader: &mut Reader, carry: &mut Vec<u8>, piece: &[u8]) -> Result<(), InputError>
     requires { IsBetween reader.old carry.old.items }
     ensures kind { reader.new.kind ≡ reader.old.kind }
+    ensures seeds { reader.new.seeds ≡ reader.old.seeds }
     ensures fed { OnOk result (fed reader.new carry.new.items ≡ fed reader.old carry.old.items ++ piece.now) }
     ensures state { OnOk result (IsBetween reader.new carry.new.items) }
     ensures err { IfErr result (Spoils reader.old.kind (fed reader.old carry.old.items ++ piece.now)) }
@@ -119,6 +122,7 @@ fn end_line(reader: &mut Reader, carry: &mut Vec<u8>, end: &[u8]) -> Result<(), 
     requires state { IsBetween reader.old carry.old.items }
     requires piece { has 10 end.now ≡ false }
     ensures kind { reader.new.kind ≡ reader.old.kind }
+    ensures seeds { reader.new.seeds ≡ reader.old.seeds }
     ensures ended { Ended reader.old reader.new carry.old.items end.now carry.new.items result }
 {
     if carry.is_empty() {
@@ -134,6 +138,7 @@ fn end_line(reader: &mut Reader, carry: &mut Vec<u8>, end: &[u8]) -> Result<(), 
 fn end_text(mut reader: Reader, carry: &[u8]) -> Result<Read, InputError>
     requires { IsBetween reader carry.now }
     ensures valid { IfOk result (λ r. IsSound r.problem) }
+    ensures seed { IfOk result (λ r. r.problem.seed ≡ reader.seeds.0) }
     ensures answer { EndsAs reader.kind (lines_of (fed reader carry.now)) result }
     ensures memory { result_err result ≡ Some InputError.Memory → 0 < length carry.now }
 {

@@ -9,6 +9,7 @@ invariant-reading g l =
     IsBetween l.reader l.carry.items × (l.reader.kind ≡ l.fn.reader.kind)
     × ((g.S.Source.state l.source).failures ≡ (g.S.Source.state l.fn.source).failures)
     × Gave (g.S.Source.state l.fn.source) (g.S.Source.state l.source) (fed l.reader l.carry.items)
+    × (l.reader.seeds ≡ l.fn.reader.seeds)
 
 abbrev pub decreases-reading : goal.decreases-reading
 decreases-reading g l = (g.S.Source.state l.source).limit
