@@ -1,5 +1,5 @@
--- Each list of lines has a first fault or stands for one problem, and a token at fault has the fault of its line.
--- What stands for one stands for it as each kind that allows more.
+-- Each list of lines has a first fault or, by each seed, stands for one problem, and a token at fault has the fault of
+-- its line. What stands for one stands for it as each kind that allows more.
 use Rattle.std.specs.Prelude.{◌≡◌, ◌↔◌, ◌+◌, ℕ, List, [], ◌∷◌, ◌++◌, None, Some, length, slice_get}
 use Rattle.std.specs.Prelude.{Bool, IsTrue, flat_map}
 use Rattle.xc_input.specs.declared.kind.Kind.{Kind}
@@ -19,10 +19,10 @@ abbrev pub FaultlessStand : Type 0
 FaultlessStand = (kind : Kind) (lines : List (List ℕ)) → (first_fault kind lines ≡ None)
     ↔ ((named : Named) × (ignored : List ℕ) × StandsFor kind lines named ignored)
 
--- and they stand for no other
+-- and they stand for no other: they say all of it but its seed
 abbrev pub StandForOne : Type 0
 StandForOne = (kind : Kind) (lines : List (List ℕ)) (a b : Named) (is js : List ℕ)
-    → StandsFor kind lines a is → StandsFor kind lines b js → (a ≡ b) × (is ≡ js)
+    → StandsFor kind lines a is → StandsFor kind lines b js → (a ≡ record b { seed = a.seed }) × (is ≡ js)
 
 -- lines that stand for a problem as one kind stand for the same problem as another
 abbrev pub StandAlso : Kind → Kind → Type 0

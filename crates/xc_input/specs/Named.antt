@@ -1,6 +1,8 @@
--- A problem with the names of its items and the bytes of its colours.
+-- A problem with the names of its items, the bytes of its colours, and the seed of its tables, of which no text says
+-- anything.
 use Rattle.std.specs.Prelude.{ℕ, ◌≤◌, ◌≡◌, ◌≢◌, false, List, All, AllPairs, length}
 use Rattle.xc_input.specs.declared.problem.Use.{Use}
+use Rattle.xc_input.specs.declared.seed.Seed.{Seed}
 use Rattle.xc_input.specs.Problem.{Puzzle, IsItem, item_count, IsValid, IsWithinLimits}
 use Rattle.std.specs.List.{list_any}
 use Rattle.xc_input.specs.Tokens.{is_space}
@@ -8,11 +10,13 @@ use Rattle.xc_input.specs.Words.{has}
 use Rattle.xc_input.specs.Limits.{longest_name, longest_colour, most_uses}
 use Prim.Native.Char.{code}
 
--- a problem, the names of its items by their numbers, and its colours by theirs, from 1
+-- a problem, the names of its items by their numbers, its colours by theirs, from 1, and the seed by which the tables of
+-- both hash
 pub record Named : Type 0 where
   pub names : List (List ℕ)
   pub colours : List (List ℕ)
   pub puzzle : Puzzle
+  pub seed : Seed
 
 -- each use has no colour or one that there is
 abbrev pub AreColoursKnown : List (List ℕ) → List (List Use) → Type 0

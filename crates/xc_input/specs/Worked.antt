@@ -1,5 +1,6 @@
 -- Worked texts, and what the definitions say of them.
 use Rattle.std.specs.Prelude.{◌≡◌, ℕ, List, [], ◌∷◌, ◌++◌, Some, codes}
+use Rattle.xc_input.specs.declared.seed.Seed.{Seed}
 use Rattle.xc_input.specs.declared.kind.Kind.{Kind}
 use Rattle.xc_input.specs.declared.kind.Kind.TheVariants.{Plain, Colours, Bounds}
 use Rattle.xc_input.specs.declared.fault.FaultKind.{FaultKind}
@@ -77,13 +78,14 @@ bounded = codes "2|A 0:1|B |x" ∷ []
 abbrev pub bounds : ℕ → ℕ → ItemBounds
 bounds l h = record { low = l; high = h }
 
--- the problems and the ignored lines that texts stand for
+-- the problems and the ignored lines that texts stand for, by each seed
 abbrev pub Problems : Type 0
-Problems =
+Problems = (seed : Seed) →
     StandsFor Plain commented (record {
       names = codes "A" ∷ codes "x" ∷ [];
       colours = [];
       puzzle = record { bounds = bounds 1 1 ∷ []; secondary = 1; options = (use_of 1 0 ∷ use_of 2 0 ∷ []) ∷ [] };
+      seed = seed;
     }) (4 ∷ [])
     × StandsFor Colours coloured (record {
       names = codes "A" ∷ codes "B" ∷ codes "x" ∷ [];
@@ -93,9 +95,11 @@ Problems =
         secondary = 1;
         options = (use_of 1 0 ∷ use_of 3 1 ∷ []) ∷ (use_of 2 0 ∷ use_of 3 2 ∷ []) ∷ (use_of 2 0 ∷ use_of 3 1 ∷ []) ∷ [];
       };
+      seed = seed;
     }) []
     × StandsFor Bounds bounded (record {
       names = codes "A" ∷ codes "B" ∷ codes "x" ∷ [];
       colours = [];
       puzzle = record { bounds = bounds 2 2 ∷ bounds 0 1 ∷ []; secondary = 1; options = [] };
+      seed = seed;
     }) []

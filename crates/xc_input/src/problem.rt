@@ -77,14 +77,16 @@ impl Model for Problem {
 
     ghost Value = { Named };
 
-    ghost view = { λ p. named_from p.items.items p.primary p.uses.items p.starts.items p.colours.keys };
+    ghost view = { λ p. named_from p.items.items p.primary p.uses.items p.starts.items p.colours.keys
+        (hasher_of p.names) };
 
     ghost invariant = { λ p. record {
       names : key_names p.names.keys ≡ map (λ x. x.name.items) p.items.items;
       primary : p.primary ≤ length p.items.items;
       secondary : All IsOptional (drop p.primary p.items.items);
       starts : AreOptionStarts p.starts.items p.uses.items;
-      sound : IsSound (named_from p.items.items p.primary p.uses.items p.starts.items p.colours.keys);
+      sound : IsSound (named_from p.items.items p.primary p.uses.items p.starts.items p.colours.keys
+          (hasher_of p.names));
       seed : hasher_of p.colours ≡ hasher_of p.names;
     } };
 }
@@ -102,9 +104,10 @@ impl Problem {
         requires primary { primary ≤ length items.items }
         requires secondary { All IsOptional (drop primary items.items) }
         requires starts { AreOptionStarts starts.items uses.items }
-        requires sound { IsSound (named_from items.items primary uses.items starts.items colours.keys) }
+        requires sound { IsSound (named_from items.items primary uses.items starts.items colours.keys
+            (hasher_of names)) }
         requires seed { hasher_of colours ≡ hasher_of names }
-        ensures { result ≡ named_from items.items primary uses.items starts.items colours.keys }
+        ensures { result ≡ named_from items.items primary uses.items starts.items colours.keys (hasher_of names) }
     {
         Problem {
             names,
@@ -118,7 +121,8 @@ impl Problem {
 
     /// The seed by which its tables hash.
     pub fn seed(&self) -> Seed
-        ensures { IsSound self.now }
+        ensures value { result ≡ self.now.seed }
+        ensures whole { IsSound self.now }
     {
         *self.names.hasher()
     }

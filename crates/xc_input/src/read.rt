@@ -24,6 +24,7 @@ pub fn read_problem<S: Source>(
     ensures valid { IfOk result (λ r. IsSound r.problem) }
     ensures whole { IfOk result
         (λ r. IsWhole kind (S.state source.old) (S.state source.new) r.problem r.ignored.items) }
+    ensures seed { IfOk result (λ r. r.problem.seed ≡ S.seed_of source.old) }
     ensures part { IfErr result (IsPart kind (S.state source.old) (S.state source.new)) }
 {
     let mut lines = LineReader::new(alloc)?;
@@ -44,6 +45,7 @@ fn read_through<S: Source>(
     ensures valid { IfOk result (λ r. IsSound r.problem) }
     ensures whole { IfOk result
         (λ r. IsWhole reader.kind (S.state source.old) (S.state source.new) r.problem r.ignored.items) }
+    ensures seed { IfOk result (λ r. r.problem.seed ≡ reader.seeds.0) }
     ensures part { IfErr result (IsPart reader.kind (S.state source.old) (S.state source.new)) }
 {
     feed_all(source, lines, &mut reader)?;
@@ -60,6 +62,7 @@ fn feed_all<S: Source>(
     requires state { IsBetween reader.old [] }
     requires nothing { fed reader.old [] ≡ [] }
     ensures kind { reader.new.kind ≡ reader.old.kind }
+    ensures seeds { reader.new.seeds ≡ reader.old.seeds }
     ensures state { OnOk result (IsBetween reader.new lines.new.rest) }
     ensures all { OnOk result (GaveAll (S.state source.old) (S.state source.new) (fed reader.new lines.new.rest)) }
     ensures part { IfErr result (IsPart reader.old.kind (S.state source.old) (S.state source.new)) }
@@ -77,6 +80,7 @@ fn take_line(reader: &mut Reader, with_feed: &[u8]) -> Result<(), InputError>
     requires state { IsBetween reader.old [] }
     requires line { IsLine with_feed.now }
     ensures kind { reader.new.kind ≡ reader.old.kind }
+    ensures seeds { reader.new.seeds ≡ reader.old.seeds }
     ensures ended { Ended reader.old reader.new with_feed.now result }
 {
     reader.line(&with_feed[..with_feed.len() - 1])
@@ -86,6 +90,7 @@ fn take_line(reader: &mut Reader, with_feed: &[u8]) -> Result<(), InputError>
 fn end_text(mut reader: Reader, carry: &[u8]) -> Result<Read, InputError>
     requires { IsBetween reader carry.now }
     ensures valid { IfOk result (λ r. IsSound r.problem) }
+    ensures seed { IfOk result (λ r. r.problem.seed ≡ reader.seeds.0) }
     ensures answer { EndsAs reader.kind (lines_of (fed reader carry.now)) result }
     ensures memory { result_err result ≡ Some InputError.Memory → 0 < length carry.now }
 {

@@ -122,8 +122,9 @@ impl Reader {
     pub fn finish(self) -> Result<Read, InputError>
         ensures accepted { IfOk result (λ r. StandsFor self.kind self.lines r.problem r.ignored.items) }
         ensures only { IfOk result
-            (λ r. (p : Named) (ignored : List ℕ) → StandsFor self.kind self.lines p ignored → (p ≡ r.problem)
-            × (ignored ≡ r.ignored.items)) }
+            (λ r. (p : Named) (ignored : List ℕ) → StandsFor self.kind self.lines p ignored
+            → (p ≡ record r.problem { seed = p.seed }) × (ignored ≡ r.ignored.items)) }
+        ensures seed { IfOk result (λ r. r.problem.seed ≡ self.seeds.0) }
         ensures valid { IfOk result (λ r. IsSound r.problem) }
         ensures first { IfErr result (IsErrorFor (first_fault self.kind self.lines)) }
         ensures refused { IfErr result (λ e. e ≢ InputError.Memory

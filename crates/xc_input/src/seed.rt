@@ -3,7 +3,8 @@
 //! While the hash was one that everyone knows, the names of an input could be chosen to collide: a megabyte of them
 //! took half a minute to read. So a run draws its own seed, as the tables of Rust's std do for the same reason. The
 //! hash folds a product of 128 bits onto 64, as wyhash and ahash do. The fixed keys are digits of pi and of the golden
-//! ratio. No contract depends on the seed, which decides only how long reading takes.
+//! ratio. Contracts say by which seed a problem's tables hash, and all else that they say of it holds by each: the seed
+//! decides only how long reading takes.
 
 ghost use Rattle.std.specs.Prelude.{◌≡◌, ◌%◌, ◌/◌, ◌^◌, bit_or};
 ghost use Rattle.xc_input.specs.Hashing.{folded, taken, hashed};

@@ -98,7 +98,8 @@ secondary-told : (a b : Named) → IsSound a → IsSound b → a.puzzle.bounds �
 secondary-told a b ha hb bounds names =
     omega (arith, ha.named.count, hb.named.count, ap length names, ap length bounds)
 
-pub numbers-tell : (a b : Named) → IsSound a → IsSound b → problem_numbers a ≡ problem_numbers b → a ≡ b
+pub numbers-tell : (a b : Named) → IsSound a → IsSound b → problem_numbers a ≡ problem_numbers b
+    → a ≡ record b { seed = a.seed }
 numbers-tell a b ha hb same =
     let ua = length_first uses_numbers a.puzzle.options in
     let ub = length_first uses_numbers b.puzzle.options in

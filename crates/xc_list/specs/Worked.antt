@@ -1,5 +1,6 @@
 -- Worked problems with their names.
 use Rattle.std.specs.Prelude.{[], ◌∷◌, codes}
+use Rattle.xc_input.specs.declared.seed.TheConstants.Seed.{FIXED}
 use Rattle.xc_input.specs.Named.{Named}
 use Rattle.xc_search.specs.Worked.{seven_items, two_colours, equal_options}
 
@@ -9,6 +10,7 @@ seven = record {
   names = codes "a" ∷ codes "b" ∷ codes "c" ∷ codes "d" ∷ codes "e" ∷ codes "f" ∷ codes "g" ∷ [];
   colours = [];
   puzzle = seven_items;
+  seed = FIXED;
 }
 
 -- the problem of two colours, by letters
@@ -17,8 +19,9 @@ colours = record {
   names = codes "p" ∷ codes "q" ∷ codes "r" ∷ codes "x" ∷ codes "y" ∷ [];
   colours = codes "A" ∷ codes "B" ∷ [];
   puzzle = two_colours;
+  seed = FIXED;
 }
 
 -- one item in three equal options
 abbrev pub three_alike : Named
-three_alike = record { names = codes "A" ∷ []; colours = []; puzzle = equal_options }
+three_alike = record { names = codes "A" ∷ []; colours = []; puzzle = equal_options; seed = FIXED }

@@ -107,7 +107,8 @@ pub fn rows_by_texts()
     ensures { (row : List ℕ) → All (λ n. n < 2 ^ 32) row → row_word (row_text row) ≡ Some row }
 {}
 
-/// Two problems of the same numbers are the same, so all that was read is in what a digest hashes.
+/// Two problems of the same numbers are the same but for their seeds, so all that was read is in what a digest hashes.
 pub fn problems_by_numbers()
-    ensures { (a b : Named) → IsSound a → IsSound b → problem_numbers a ≡ problem_numbers b → a ≡ b }
+    ensures { (a b : Named) → IsSound a → IsSound b → problem_numbers a ≡ problem_numbers b
+        → a ≡ record b { seed = a.seed } }
 {}

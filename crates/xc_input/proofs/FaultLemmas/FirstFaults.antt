@@ -7,6 +7,7 @@ use Rattle.std.specs.List.{list_any, list_all}
 use Rattle.std.specs.Option.{option_map, option_or}
 use Rattle.xc_input.specs.declared.kind.Kind.{Kind}
 use Rattle.xc_input.specs.declared.fault.FaultKind.{FaultKind}
+use Rattle.xc_input.specs.declared.seed.Seed.{Seed}
 use Rattle.xc_input.specs.declared.fault.FaultKind.TheVariants.{NoItems}
 use Rattle.xc_input.specs.Words.{has}
 use Rattle.xc_input.specs.Tokens.{parts, is_skipped}
@@ -59,10 +60,10 @@ none-of : (n : ℕ) (o : Option (ℕ × FaultKind)) (b : Bool) → option_or o (
 none-of n None b e = grind (arith, nat_tests)
 none-of n (Some q) b e = absurd (cc)
 
--- a text with no fault stands for what its lines give, and its items are those of an item line
+-- a text with no fault stands for what its lines give, by each seed, and its items are those of an item line
 abbrev pub Stands : Kind → List (List ℕ) → Stage → Type 0
 Stands kind lines st = AreItems kind st.sheet.entries st.sheet.primaries
-    × StandsFor kind lines (named_of st.sheet) st.ignored
+    × ((seed : Seed) → StandsFor kind lines (named_of seed st.sheet) st.ignored)
 
 pub stands : (kind : Kind) (lines : List (List ℕ)) → first_fault kind lines ≡ None
     → Stands kind lines (stage_of kind lines)
@@ -77,23 +78,25 @@ stands kind lines e =
         → (stage_by kind ls).started ≡ true → AreClear kind (plain ls) → Stands kind lines (stage_by kind ls)
     by-content [] z d s h = absurd (cc)
     by-content (item ∷ rest) z d s h =
-        let t = start-is kind item.1 h.0.0.1 in
-        let s = clear-stands kind item rest lines d z h in
-        ((parts item.1, h.0.0.1, t.0, t.1), grind (arith, sheet-is kind item rest h.0.0.1))
+        let t = start-is kind item.1 h.0.0.1 in (
+          (parts item.1, h.0.0.1, t.0, t.1),
+          λ seed. let s = clear-stands kind item rest seed lines d z h in
+              grind (arith, sheet-is kind item rest seed h.0.0.1),
+        )
 
-pub faultless-stands : (kind : Kind) (lines : List (List ℕ)) → first_fault kind lines ≡ None
-    → StandsFor kind lines (named_of (stage_of kind lines).sheet) (stage_of kind lines).ignored
-faultless-stands kind lines e = (stands kind lines e).1
+pub faultless-stands : (seed : Seed) (kind : Kind) (lines : List (List ℕ)) → first_fault kind lines ≡ None
+    → StandsFor kind lines (named_of seed (stage_of kind lines).sheet) (stage_of kind lines).ignored
+faultless-stands seed kind lines e = (stands kind lines e).1 seed
 
 -- a text that stands for a problem has no fault, and this is what its lines give
 pub stands-only : (kind : Kind) (lines : List (List ℕ)) (named : Named) (ignored : List ℕ)
     → StandsFor kind lines named ignored
-    → (first_fault kind lines ≡ None) × (named ≡ named_of (stage_of kind lines).sheet)
+    → (first_fault kind lines ≡ None) × (named ≡ named_of named.seed (stage_of kind lines).sheet)
     × (ignored ≡ (stage_of kind lines).ignored)
 stands-only kind lines named ignored h =
     let r = stands-clear kind lines named ignored h in
     let same = stage-by kind lines ∙ ap (stage_by kind) h.content in
-    let given = sheet-is kind h.item_line h.option_lines r.0.0.0.1 in
+    let given = sheet-is kind h.item_line h.option_lines named.seed r.0.0.0.1 in
     let none = (lines-clear kind lines).0
     (h.no_nul, subst (AreClear kind) (sym (plain-content 1 lines ∙ ap plain h.content)) r.0) in
     grind (arith, first_fault-is)

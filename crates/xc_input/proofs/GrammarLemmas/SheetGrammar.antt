@@ -3,6 +3,7 @@ use Rattle.std.specs.Prelude.{◌≡◌, ℕ, ◌-◌, map, length, List, true, 
 use Rattle.std.specs.List.{before_first, after_first}
 use Rattle.xc_input.specs.declared.kind.Kind.{Kind}
 use Rattle.xc_input.specs.declared.problem.Bounds.{Bounds}
+use Rattle.xc_input.specs.declared.seed.Seed.{Seed}
 use Rattle.xc_input.specs.Problem.{Puzzle}
 use Rattle.xc_input.specs.Tokens.{is_bar}
 use Rattle.xc_input.specs.Sheets.{Entry}
@@ -18,15 +19,15 @@ entry_bounds e = record { low = e.low; high = e.high }
 abbrev pub bounds_in : List Entry → List Bounds
 bounds_in es = map entry_bounds es
 
--- the problem of a sheet
-abbrev pub named_of : Sheet → Named
-named_of s =
+-- the problem of a sheet, by a seed
+abbrev pub named_of : Seed → Sheet → Named
+named_of seed s =
     let puzzle : Puzzle = record {
       bounds = bounds_in (take s.primaries s.entries);
       secondary = length s.entries - s.primaries;
       options = s.options;
     } in
-    record { names = names_of s.entries; colours = s.colours; puzzle = puzzle }
+    record { names = names_of s.entries; colours = s.colours; puzzle = puzzle; seed = seed }
 
 -- parts of the item line, so many of them before the bar, and the items that they stand for
 abbrev pub AreItems : Kind → List Entry → ℕ → Type 0

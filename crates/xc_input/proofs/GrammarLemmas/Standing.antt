@@ -1,10 +1,11 @@
--- Lines stand for a problem exactly where no check of them holds, and for no other problem.
+-- Lines stand for a problem exactly where no check of them holds, and for no other problem but for the seed.
 use Rattle.std.proofs.Common.{◌≡◌, ℕ, ◌≤◌, List, [], ◌∷◌, ◌++◌, length, map, refl, ap, ◌∙◌, sym, subst, arith}
 use Rattle.std.proofs.Common.{Bool, false, true}
 use Rattle.std.proofs.lemmas.List.{length-append, length-map}
 use Rattle.std.proofs.Math.Seq.{take-append_seam}
 use Rattle.std.specs.List.{AllZip, AllByRecursion as Each, list_any, before_first, after_first}
 use Rattle.xc_input.specs.declared.kind.Kind.{Kind}
+use Rattle.xc_input.specs.declared.seed.Seed.{Seed}
 use Rattle.xc_input.specs.Limits.{most_uses}
 use Rattle.xc_input.specs.Words.{has}
 use Rattle.xc_input.specs.Tokens.{tokens, parts, is_bar}
@@ -66,9 +67,9 @@ module _ (kind : Kind) (item : ℕ × List ℕ) (rest : List (ℕ × List ℕ)) 
   abbrev primary : List Entry
   primary = map (entry kind false) (before_first is_bar ps)
 
-  -- the problem of an item line and option lines
-  abbrev pub named_in : Named
-  named_in =
+  -- the problem of an item line and option lines, by a seed
+  abbrev pub named_in : Seed → Named
+  named_in seed =
       let colours = with_uses [] (flat (kept_in c rest)) in record {
         names = c.names;
         colours = colours;
@@ -77,6 +78,7 @@ module _ (kind : Kind) (item : ℕ × List ℕ) (rest : List (ℕ × List ℕ)) 
           secondary = length (after_first is_bar ps);
           options = map (number_uses colours) (kept_in c rest);
         };
+        seed = seed;
       }
 
   few : length primary ≡ c.primaries
@@ -86,10 +88,10 @@ module _ (kind : Kind) (item : ℕ × List ℕ) (rest : List (ℕ × List ℕ)) 
       → c.names ≡ names_of (primary ++ map (entry kind true) (after_first is_bar ps))
   names-are a = let s = start-is kind item.1 a in ap (λ (c : Context). c.names) s.2 ∙ ap names_of s.0
 
-  pub clear-stands : (lines : List (List ℕ)) → content_from 1 lines ≡ item ∷ rest → list_any (has 0) lines ≡ false
-      → AreClear kind (plain (item ∷ rest)) → StandsFor kind lines named_in (ignored_in c rest)
-  clear-stands lines e z h =
-      let options : HaveOptions c rest named_in (ignored_in c rest) = record {
+  pub clear-stands : (seed : Seed) (lines : List (List ℕ)) → content_from 1 lines ≡ item ∷ rest → list_any (has 0) lines ≡ false
+      → AreClear kind (plain (item ∷ rest)) → StandsFor kind lines (named_in seed) (ignored_in c rest)
+  clear-stands seed lines e z h =
+      let options : HaveOptions c rest (named_in seed) (ignored_in c rest) = record {
         options = written_in c rest;
         stand = lines-stand c rest h.1.0;
         others = refl;
@@ -118,13 +120,13 @@ module _ (kind : Kind) (item : ℕ × List ℕ) (rest : List (ℕ × List ℕ)) 
       }
 
   -- what the stage behind these lines says of them
-  pub sheet-is : StandFor kind true (after_first is_bar ps) → let st = stage_by kind (item ∷ rest) in
-      ◌≡◌ {A = Named × List ℕ} (named_of st.sheet, st.ignored) (named_in, ignored_in c rest)
-  sheet-is a = grind (arith, start-is, start, primary, few, take-append_seam, length-map, length-append)
+  pub sheet-is : (seed : Seed) → StandFor kind true (after_first is_bar ps) → let st = stage_by kind (item ∷ rest) in
+      ◌≡◌ {A = Named × List ℕ} (named_of seed st.sheet, st.ignored) (named_in seed, ignored_in c rest)
+  sheet-is seed a = grind (arith, start-is, start, primary, few, take-append_seam, length-map, length-append)
 
 pub stands-clear : (kind : Kind) (lines : List (List ℕ)) (named : Named) (ignored : List ℕ)
     (h : StandsFor kind lines named ignored) → AreClear kind (plain (h.item_line ∷ h.option_lines))
-    × (named ≡ named_in kind h.item_line h.option_lines)
+    × (named ≡ named_in kind h.item_line h.option_lines named.seed)
     × (ignored ≡ ignored_in (context_of kind (parts h.item_line.1)) h.option_lines)
 stands-clear kind lines named ignored h =
     let ps = parts h.item_line.1 in
@@ -152,6 +154,7 @@ stands-clear kind lines named ignored h =
           secondary = (h.items.count ∙ ap length a.0 ∙ length-map (after_first is_bar ps) (entry kind true)) i;
           options = (o.numbered ∙ (λ j. map (number_uses (colours j)) (kept j))) i;
         };
+        seed = named.seed;
       },
       o.others ∙ ap (ignored_of c.primaries) w.0,
     )

@@ -21,6 +21,7 @@ use Rattle.xc_input.specs.inner.Builders.{IsBuilder, IsReadable, named_by, stage
 use Rattle.xc_input.specs.inner.EndedLines.{AreWhole}
 use Rattle.xc_input.specs.Readings.{Reading, IsStateOf}
 use Rattle.xc_input.specs.declared.seed.Seed.{Seed}
+use Rattle.indexmap.specs.IndexSet.{hasher_of}
 use Rattle.xc_input.specs.inner.Feeding.{IsEndOf}
 use Rattle.xc_input.proofs.LineLemmas.Reading.{end-is}
 use Rattle.xc_input.proofs.ValidLemmas.SoundSheets.{item-names, behind-bounds}
@@ -34,8 +35,8 @@ refutes kind lines (Fault n k) h f p ig s = grind (arith, stands-only kind lines
 refutes kind lines Device h f p ig s = absurd h
 refutes kind lines Memory h f p ig s = absurd (f refl)
 
-by-builder : (d : ProblemBuilder) → named_of (sheet_of_builder d) ≡ named_by d
-by-builder d = grind (arith, item-names, length-map, take-map, map-map, nat_tests)
+by-builder : (d : ProblemBuilder) (seed : Seed) → named_of seed (sheet_of_builder d) ≡ record (named_by d) { seed = seed }
+by-builder d seed = grind (arith, item-names, length-map, take-map, map-map, nat_tests)
 
 module _ {v : Reading} {kind : Kind} {seeds : Seed × Seed} {lines : List (List ℕ)} {o : Option InputError}
     (is : v ≡ record { kind = kind; seeds = seeds; lines = lines; error = o }) (h : IsStateOf kind lines o) where
@@ -62,15 +63,16 @@ module _ {v : Reading} {kind : Kind} {seeds : Seed × Seed} {lines : List (List 
     pub unstarted : d.started ≡ false → (p : Named) (ig : List ℕ) → StandsFor v.kind v.lines p ig → ⊥
     unstarted g p ig s = grind (arith, stands-only kind lines p ig (StandsFor-given s), ended g)
 
-    pub alone : (p : Named) (ig : List ℕ) → StandsFor v.kind v.lines p ig → (p ≡ named_by d) × (ig ≡ d.ignored.items)
-    alone p ig s = grind (arith, stands-only kind lines p ig (StandsFor-given s), by-builder, whole)
+    pub alone : (p : Named) (ig : List ℕ) → StandsFor v.kind v.lines p ig
+        → (p ≡ record (named_by d) { seed = p.seed }) × (ig ≡ d.ignored.items)
+    alone p ig s = grind (arith, stands-only kind lines p ig (StandsFor-given s), by-builder d p.seed, whole)
 
     module _ (g : d.started ≡ true) where
       stood : Stands kind lines (stage_of_builder d)
       stood = subst (Stands kind lines) (sym whole.1) (stands kind lines (ended g))
 
       pub accepts : StandsFor v.kind v.lines (named_by d) d.ignored.items
-      accepts = rw (is, ← (by-builder d)) stood.1
+      accepts = rw (is, ← (by-builder d (hasher_of d.tables.names))) (stood.1 (hasher_of d.tables.names))
 
       pub is-sound : AreWhole lines → IsSound (named_by d)
       is-sound w = sound kind lines (named_by d) d.ignored.items (StandsFor-given accepts) w

@@ -112,6 +112,7 @@ pub record IsBuilder (d : ProblemBuilder) : Type 0 where
 abbrev pub named_by : ProblemBuilder → Named
 named_by d =
     named_from d.items.items d.tables.primary d.tables.uses.items d.starts.items d.tables.colours.keys
+    (hasher_of d.tables.names)
 
 -- its parts make up a sound problem
 pub record IsReadable (d : ProblemBuilder) : Type 0 where

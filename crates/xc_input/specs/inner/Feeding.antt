@@ -55,10 +55,11 @@ pub record Recent (kind : Kind) (old new : SourceState) : Type 0 where
   pub added : new.given ≡ before.given ++ last
   pub short : length last ≤ 1
 
--- What an answer says of the lines of a text: the problem that they stand for, and no other, or their first fault.
+-- What an answer says of the lines of a text: the problem that they stand for, and no other but for its seed, or their
+-- first fault.
 pub record EndsAs (kind : Kind) (lines : List (List ℕ)) (r : Result Read InputError) : Type 0 where
   pub accepted : IfOk r (λ x. StandsFor kind lines x.problem x.ignored.items)
   pub only : IfOk r (λ x. (p : Named) (ignored : List ℕ) → StandsFor kind lines p ignored
-      → (p ≡ x.problem) × (ignored ≡ x.ignored.items))
+      → (p ≡ record x.problem { seed = p.seed }) × (ignored ≡ x.ignored.items))
   pub first : IfErr r (λ e. IsEndOf kind lines e)
   pub refused : IfErr r (λ e. e ≢ Memory → (p : Named) (ignored : List ℕ) → StandsFor kind lines p ignored → ⊥)

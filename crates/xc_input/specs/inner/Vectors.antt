@@ -5,6 +5,7 @@ use Rattle.std.specs.Prelude.{◌≡◌, ℕ, ◌-◌, List, Some, Vec, map, tak
 use Rattle.std.specs.declared.alloc.Global.{Global}
 use Rattle.xc_input.specs.declared.problem.Item.{Item}
 use Rattle.xc_input.specs.declared.problem.Use.{Use}
+use Rattle.xc_input.specs.declared.seed.Seed.{Seed}
 use Rattle.xc_input.specs.ItemBounds.{bounds_of, secondary_bounds}
 use Rattle.xc_input.specs.inner.Flat.{pieces, AreStarts}
 use Rattle.xc_input.specs.Named.{Named}
@@ -18,9 +19,9 @@ IsOptional x = bounds_of x ≡ secondary_bounds
 abbrev pub AreOptionStarts : List ℕ → List Use → Type 0
 AreOptionStarts starts uses = (slice_get starts 0 ≡ Some 0) × AreStarts starts (length uses)
 
--- the problem of such vectors
-abbrev pub named_from : List Item → ℕ → List Use → List ℕ → List (Vec ℕ Global) → Named
-named_from items primary uses starts keys = record {
+-- the problem of such vectors, whose tables hash by a seed
+abbrev pub named_from : List Item → ℕ → List Use → List ℕ → List (Vec ℕ Global) → Seed → Named
+named_from items primary uses starts keys seed = record {
   names = map (λ x. x.name.items) items;
   colours = key_names keys;
   puzzle = record {
@@ -28,4 +29,5 @@ named_from items primary uses starts keys = record {
     secondary = length items - primary;
     options = pieces starts uses;
   };
+  seed = seed;
 }

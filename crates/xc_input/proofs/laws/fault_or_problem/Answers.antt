@@ -1,12 +1,21 @@
 use Rattle.std.proofs.Common.{arith}
 use Rattle.xc_input.proofs.GrammarLemmas.SheetGrammar.{named_of}
+use Rattle.xc_input.specs.declared.seed.Seed.{Seed}
 use Rattle.xc_input.specs.inner.Stages.{stage_of}
 use Rattle.xc_input.proofs.FaultLemmas.FirstFaults.{faultless-stands, stands-only}
 use Rattle.xc_input.proofs.laws.fault_or_problem.Goals as goal
 
+-- a text stands by each seed, so by this one
+some_seed : Seed
+some_seed = record { state = 0; multiplier = 1 }
+
 pub returns-clause-stands : goal.returns-clause-stands
 returns-clause-stands c = λ kind lines. (
-  λ none. (named_of (stage_of kind lines).sheet, (stage_of kind lines).ignored, faultless-stands kind lines none),
+  λ none. (
+    named_of some_seed (stage_of kind lines).sheet,
+    (stage_of kind lines).ignored,
+    faultless-stands some_seed kind lines none,
+  ),
   λ s. (stands-only kind lines s.0 s.1 s.2).0,
 )
 

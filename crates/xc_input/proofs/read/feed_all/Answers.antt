@@ -15,6 +15,7 @@ reading-init g c =
     record {
       between = c.requires.state;
       kind = refl;
+      seeds = refl;
       no_failure = refl;
       gave = subst (Gave source source) (sym (ap (fed c.args.reader.now) c.requires.unread ∙ c.requires.nothing))
           (gave_none source);
@@ -53,6 +54,7 @@ reading-preserved g c =
     record {
       between = done.ended.state;
       kind = done.kind ∙ i.kind;
+      seeds = done.seeds ∙ i.seeds;
       no_failure = one.2 ∙ i.no_failure;
       gave = subst (Gave (g.S.Source.state c.args.source.now) (g.S.Source.state c.advance.new.source)) on
           (gave_then _ _ _ (fed c.reading.reader left) one.0 i.gave (came-gave one.1));

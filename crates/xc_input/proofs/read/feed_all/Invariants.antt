@@ -8,6 +8,7 @@ abbrev pub invariant-reading : goal.invariant-reading
 invariant-reading g l = record {
   between : IsBetween l.reader [];
   kind : l.reader.kind ≡ l.fn.reader.kind;
+  seeds : l.reader.seeds ≡ l.fn.reader.seeds;
   no_failure : (g.S.Source.state l.source).failures ≡ (g.S.Source.state l.fn.source).failures;
   gave : Gave (g.S.Source.state l.fn.source) (g.S.Source.state l.source) (fed l.reader l.lines.unread);
   recent : Recent l.fn.reader.kind (g.S.Source.state l.fn.source) (g.S.Source.state l.source);
