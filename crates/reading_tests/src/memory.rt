@@ -49,6 +49,10 @@ impl<'a> Source for Counted<'a> {
         self.bytes = self.bytes.saturating_add(n);
         Ok(n)
     }
+
+    fn seed(&self) -> Seed {
+        self.feed.seed()
+    }
 }
 
 /// Whether an answer is right after so many bytes of the seven items: with lack of memory the buffer was

@@ -54,7 +54,7 @@ fn names_of_one_hash(rt: HostRuntime) {
     );
 }
 
-/// A source around another, which passes its calls on and forgets its seed.
+/// A source around another, which passes its reads on and has the fixed seed.
 #[derive(Drop)]
 struct Around<'a> {
     source: SliceSource<'a>,
@@ -65,6 +65,10 @@ impl<'a> Source for Around<'a> {
 
     fn read(&mut self, buf: &mut [u8]) -> Result<usize, ReadFailed> {
         self.source.read(buf)
+    }
+
+    fn seed(&self) -> Seed {
+        Seed::FIXED
     }
 }
 
@@ -77,18 +81,18 @@ fn is_same(problem: &Problem, seed: Seed) -> bool {
         && has_option(problem, 2, &[(2, 0), (4, 2), (3, 1)])
 }
 
-/// Whether a text is read to its end by this seed, through a source that forgets its own, and is the same problem.
+/// Whether a text is read to its end by this seed, through a source that has the fixed one, and is the same problem.
 fn is_read_by(alloc: Global, text: &[u8], seed: Seed) -> bool {
     let source = SliceSource::with_seed(text, Seed::new(9));
     let around = Around { source };
-    let forgets = around.seed() == Seed::FIXED;
+    let is_fixed = around.seed() == Seed::FIXED;
     let mut source = Seeded::new(around, seed);
     let is_read = source.seed() == seed
         && on_source(alloc, Kind::Colours, &mut source, |read| {
             is_same(&read.problem, seed)
         });
     let mut left = source.into_source();
-    forgets && is_read && left.read(&mut [0; 10]) == Ok(0)
+    is_fixed && is_read && left.read(&mut [0; 10]) == Ok(0)
 }
 
 #[test]

@@ -8,8 +8,7 @@ use crate::seed::Seed;
 use crate::source::{ReadFailed, Source};
 
 /// A source whose names hash by this seed, whatever seed the source inside has. All else is the
-/// source's. If you wrap a source of another kind, which would forget to pass its seed on, wrap the
-/// whole in this.
+/// source's.
 #[derive(Drop)]
 pub struct Seeded<S> {
     source: S,
@@ -37,6 +36,8 @@ impl<S: Source> Source for Seeded<S> {
     ghost state = { λ s. S.state s.source };
 
     ghost reads = { λ old before new after result. S.reads old.source before new.source after result };
+
+    ghost seed_of = { λ s. s.seed };
 
     fn read(&mut self, buf: &mut [u8]) -> Result<usize, ReadFailed>
         requires { 0 < length buf.old }

@@ -58,6 +58,8 @@ impl<'a> Source for SliceSource<'a> {
     ghost reads = { λ old before new after result. IsOk result
         × GivesMost (length old.left.now) before after result };
 
+    ghost seed_of = { λ s. s.seed };
+
     fn read(&mut self, buf: &mut [u8]) -> Result<usize, ReadFailed>
         requires { 0 < length buf.old }
         ensures bound { IfOk result (λ n. n ≤ length buf.new) }

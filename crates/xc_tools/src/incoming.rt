@@ -89,6 +89,8 @@ impl<R: SystemReader + Drop> Source for Incoming<R> {
       given = s.given.lines;
     } };
 
+    ghost seed_of = { λ s. s.seed };
+
     fn read(&mut self, buf: &mut [u8]) -> Result<usize, ReadFailed>
         requires { 0 < length buf.old }
         ensures bound { IfOk result (λ n. n ≤ length buf.new) }
