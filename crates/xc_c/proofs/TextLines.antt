@@ -7,6 +7,7 @@ use Rattle.xc_input.specs.declared.fault.InputError.{InputError}
 use Rattle.xc_input.specs.Tokens.{is_skipped}
 use Rattle.xc_input.specs.FirstFault.{content, first_fault}
 use Rattle.xc_input.specs.Readings.{IsErrorFor, IsStateOf}
+use Rattle.xc_input.proofs.FaultLemmas.FirstFaults.{stands-only}
 use Rattle.xc_input.proofs.LineLemmas.Reading.{IsErrorOf-more, error-ends}
 
 -- an error of some lines is that of a text that begins with them
@@ -28,3 +29,5 @@ all-skipped (line ∷ lines) e = grind (arith, all-skipped lines)
 -- a text without a fault has content
 pub faultless-content : (kind : Kind) (lines : List (List ℕ)) → first_fault kind lines ≡ None → content lines ≢ []
 faultless-content kind lines f e = grind (arith, all-skipped lines e)
+
+pub ruleset text_faults = (faultless-content, stands-only)

@@ -74,6 +74,7 @@ pub(crate) fn read_text(
 }
 
 /// The first fault of a text, with its line.
+#[tactic(auto, using(crate::proofs::TextLines::text_faults))]
 pub(crate) fn first_fault(
     alloc: Global,
     kind: Kind,
@@ -107,6 +108,7 @@ fn count_members(alloc: Global, problem: &Problem, limit: u64) -> Result<(Links,
 }
 
 /// How many solutions the problem of a text has, up to a limit.
+#[tactic(auto, using(crate::proofs::TextLines::text_faults))]
 pub(crate) fn count_solutions(
     alloc: Global,
     kind: Kind,
@@ -226,6 +228,7 @@ fn list_problem(
 }
 
 /// Lists the solutions of the problem of a text into a buffer, as `list_problem` does.
+#[tactic(auto, using(crate::proofs::TextLines::text_faults))]
 pub(crate) fn list_solutions(
     alloc: Global,
     kind: Kind,

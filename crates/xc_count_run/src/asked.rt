@@ -14,6 +14,7 @@ use xc_input::Kind;
 const MEGABYTES: u64 = 512;
 
 /// The number that is here in decimal.
+#[tactic(auto, using(xc_list::proofs::Digits::too_large))]
 fn long_number(digits: &[u8]) -> Option<u64>
     ensures { result ≡ long_number digits.now }
 {

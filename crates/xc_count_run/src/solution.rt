@@ -49,6 +49,7 @@ fn tell_fewer<E: Sink>(alloc: Global, number: &Natural, err: &mut E) -> u8
 }
 
 /// Writes a solution after the line of its number.
+#[tactic(auto, using(xc_list::proofs::Writing::then_writes))]
 fn write_numbered<O: Sink>(
     header: &[u8],
     choices: &[Choice],

@@ -190,6 +190,7 @@ fn number(bytes: u64, size: usize) -> usize
 /// most a space, and its length; or of another front of the text. The length comes from the text alone, so the start
 /// of the next token doesn't wait for a table.
 #[inline(always)]
+#[tactic(auto, using(crate::proofs::TokenLemmas::WordNumbers::word_numbers))]
 pub fn short_word(text: &[u8]) -> Option<(u64, usize)>
     ensures { IfSome result (λ p. (p.1 ≤ length text.now) × (p.0 ≡ word_number (take p.1 text.now))) }
 {
@@ -207,6 +208,7 @@ pub fn short_word(text: &[u8]) -> Option<(u64, usize)>
 
 /// The number of as many of the first eight bytes of a text, which come as a number.
 #[inline(always)]
+#[tactic(auto, using(std::proofs::lemmas::Grind::common_steps, std::proofs::lemmas::Nat::and_mask, std::proofs::lemmas::Nat::one_shl))]
 fn front_number(first: u64, n: usize) -> u64
     requires { n ≤ 7 }
     ensures { result ≡ first % 2 ^ (8 * n) + 2 ^ (8 * n) }
@@ -229,6 +231,7 @@ fn last_word(text: &[u8]) -> (u64, usize)
 }
 
 /// A number that no other text has; 0 for a text of more than seven bytes.
+#[tactic(auto, using(crate::proofs::TokenLemmas::WordNumbers::word_numbers))]
 fn short_number(text: &[u8]) -> u64
     ensures { IsWordOf text.now result }
 {
@@ -239,6 +242,7 @@ fn short_number(text: &[u8]) -> u64
 }
 
 /// The number of a word.
+#[tactic(auto, using(crate::proofs::TokenLemmas::WordNumbers::word_numbers, std::proofs::lemmas::Grind::common_steps))]
 fn word_of(bytes: &[u8]) -> u64
     requires { length bytes.now ≤ 7 }
     ensures { result ≡ word_number bytes.now }

@@ -219,6 +219,7 @@ impl Problem {
     }
 
     /// The bytes of the colour of this number.
+    #[tactic(auto, using(crate::proofs::OptionLemmas::FlatParts::flat_parts))]
     pub fn colour(&self, c: u32) -> &[u8]
         requires { (1 ≤ c) × (c ≤ length self.now.colours) }
         ensures { numbered_get self.now.colours c ≡ Some result.now }
@@ -239,6 +240,7 @@ impl Problem {
     }
 
     /// How many options there are.
+    #[tactic(auto, using(crate::proofs::OptionLemmas::FlatParts::flat_parts))]
     pub fn options(&self) -> u32
         ensures value { result ≡ option_count self.now.puzzle }
         ensures whole { IsSound self.now }
@@ -271,6 +273,7 @@ impl Problem {
     }
 
     /// How many uses all options have.
+    #[tactic(auto, using(crate::proofs::OptionLemmas::FlatParts::flat_parts))]
     pub fn uses(&self) -> usize
         ensures value { result ≡ use_count self.now.puzzle.options }
         ensures whole { IsSound self.now }

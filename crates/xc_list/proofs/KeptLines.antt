@@ -15,10 +15,6 @@ use Rattle.xc_search.specs.Marks.{marked}
 use Rattle.xc_list.specs.Output.{choice_text}
 use Rattle.xc_list.specs.inner.Pages.{AreEnds, AreKept, MatchMark, lines_end, line_text}
 
--- no lines stand on any page
-pub kept_none : (a : Named) (page : List ℕ) → AreKept a page []
-kept_none a page = record { text = refl; ends = tt }
-
 ends_put : (a : Named) (d at : ℕ) (ls : List Line) (l : Line) → AreEnds a at ls → d ≤ length ls
     → l.end ≡ at + length (flat_map (line_text a) (take d ls)) + length (line_text a l)
     → AreEnds a at (take d ls ++ l ∷ [])

@@ -145,6 +145,7 @@ fn items_of_first_uses(alloc: Global, problem: &Problem) -> Result<Vec<u32>, Mem
 }
 
 /// The texts of a problem's options, if there is memory for them.
+#[tactic(auto, using(std::proofs::Common::take_all, crate::proofs::OutputLemmas::LaidOptions::options_left, crate::proofs::Outputs::take_next))]
 fn lay_out(alloc: Global, problem: &Problem) -> Result<Layout, Memory>
     ensures laid { IfOk result (λ l. ArePadded problem.now problem.now.puzzle.options l.texts.items l.starts.items) }
     ensures firsts { IfOk result (λ l. l.firsts.items ≡ map first_item problem.now.puzzle.options) }
@@ -226,6 +227,7 @@ fn put_cut(
 
 /// The text of an option, cut before an item's use.
 #[inline(always)]
+#[tactic(auto, using(crate::proofs::OutputLemmas::LaidOptions::cut_within, crate::proofs::OutputLemmas::LaidOptions::cut_gives))]
 fn cut_text<'a>(problem: &Problem, layout: &'a Layout, item: u32, o: u32) -> (&'a [u8], &'a [u8])
     requires laid { ArePadded problem.now problem.now.puzzle.options layout.now.texts.items layout.now.starts.items }
     requires known { IsOption problem.now.puzzle o }
@@ -354,6 +356,7 @@ impl<'b> LaidOut<'b> {
     /// Puts an option's uses on a page, cyclically from an item's; none where there is no room for them
     /// and a little more.
     #[inline(always)]
+    #[tactic(auto, using(crate::proofs::OutputLemmas::LaidOptions::first_read, crate::proofs::OutputLemmas::LaidOptions::from_first))]
     pub fn put_option(&self, item: u32, o: u32, page: &mut [u8], at: usize) -> Option<usize>
         requires known { IsOption self.now.puzzle o }
         requires room { (at ≤ ROOM) × (length page.old ≡ ROOM) }

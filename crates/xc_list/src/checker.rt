@@ -109,6 +109,7 @@ impl<'a> Model for Checker<'a> {
 
 impl<'a> Checker<'a> {
     /// No line of any listing is judged.
+    #[tactic(auto, using(crate::proofs::CheckLemmas::ListedSolutions::listed_solutions))]
     fn new(alloc: Global, problem: &'a Problem, places: usize) -> Result<Checker<'a>, AllocError>
         ensures problem { IfOk result (λ s. s.options.problem ≡ problem.now) }
         ensures sound { IfOk result (λ s. IsSound s.options.problem) }
@@ -139,6 +140,7 @@ impl<'a> Checker<'a> {
         Ok(())
     }
 
+    #[tactic(auto, using(crate::proofs::CheckLemmas::CheckedLines::header_taken, crate::proofs::CheckLemmas::CheckedLines::progress))]
     fn take_header(&mut self, number: u64) -> Result<(), AllocError>
         ensures options { self.new.options ≡ self.old.options }
         ensures takes { OnOk result (Takes (Header number) self.old self.new) }

@@ -108,6 +108,7 @@ fn after_options(state: u64, problem: &Problem) -> u64
 }
 
 /// The state after the numbers of a whole problem.
+#[tactic(auto, using(crate::proofs::DigestStates::after_parts))]
 fn after_problem(problem: &Problem) -> u64
     ensures state { result ≡ digest_after digest_start (problem_numbers problem.now) }
     ensures whole { IsSound problem.now }

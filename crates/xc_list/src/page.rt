@@ -137,6 +137,7 @@ pub struct Held {
 /// Puts a part of a text on a page. A short one is copied by one load and one store of `PADDING` bytes; the bytes
 /// after it are overwritten later.
 #[inline(always)]
+#[tactic(auto, using(crate::proofs::PageLemmas::short_put))]
 pub fn put_part(page: &mut [u8], at: usize, text: &[u8], from: usize, count: usize)
     requires room { at + count + PADDING ≤ length page.old }
     requires padded { from + count + PADDING ≤ length text.now }

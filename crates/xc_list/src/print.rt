@@ -148,6 +148,7 @@ fn write_branch<S: Sink>(k: u32, n: u32, sink: &mut S) -> Result<(), SinkFault>
 }
 
 #[inline]
+#[tactic(auto, using(crate::proofs::Writing::then_writes))]
 fn write_choice<S: Sink>(bodies: &Bodies, choice: &Choice, sink: &mut S) -> Result<(), SinkFault>
     requires { IsKnownChoice bodies.now.puzzle choice.now }
     ensures { Writes (S.state sink.old) (S.state sink.new) result (choice_text bodies.now choice.now) }
@@ -222,6 +223,7 @@ fn put_choice(laid: &LaidOut, choice: Choice, page: &mut [u8], at: usize) -> Opt
 /// Writes what a page holds and the line of a choice. It takes the choice in parts, so that one that is put on the page
 /// is never stored.
 #[inline(never)]
+#[tactic(auto, using(crate::proofs::Writing::failed, crate::proofs::Writing::broke_before, crate::proofs::Writing::then_writes))]
 fn write_past<S: Sink>(
     bodies: &Bodies,
     item: u32,
@@ -334,6 +336,7 @@ fn write_in_pieces<C: Choices + Drop, S: Sink>(
 
 /// Writes a solution by a page that keeps no line. Where a line isn't put, what the page holds is written first.
 #[inline(always)]
+#[tactic(auto, using(crate::proofs::Writing::then_writes, std::proofs::lemmas::Slice::between_is))]
 pub fn write_afresh<C: Choices + Drop, S: Sink>(
     number: u64,
     solution: C,
@@ -443,6 +446,7 @@ fn keep_lines<'a, D: Dance>(
 /// at once, and the lines that are on the page from the last solution are kept.
 // It takes the walk and not a `Solution`, which holds its address: out of line the compiler would then copy the walk
 // once more at each call of `pass`. So nothing that takes a `Solution` is out of line.
+#[tactic(auto, using(crate::proofs::PageLemmas::held_more, std::proofs::lemmas::Slice::between_is))]
 #[inline(always)]
 pub fn write_by_page<'a, D: Dance, S: Sink>(
     number: u64,

@@ -80,6 +80,7 @@ fn write_numbers<S: Sink>(numbers: &[u32], sink: &mut S) -> Result<(), SinkFault
 }
 
 /// Writes a row: its numbers with points between, or `-` for the empty row.
+#[tactic(auto, using(crate::proofs::Writing::then_writes, crate::proofs::SpanLemmas::row_parts))]
 fn write_row<S: Sink>(row: &[u32], sink: &mut S) -> Result<(), SinkFault>
     ensures { Writes (S.state sink.old) (S.state sink.new) result (row_text row.now) }
 {

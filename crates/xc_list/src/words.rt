@@ -79,6 +79,7 @@ impl Default for Words {
 
 impl Words {
     /// What the words mean, or the first faulty one.
+    #[tactic(auto, using(crate::proofs::WordLemmas::in_turn))]
     pub fn read(words: &[Vec<u8>]) -> Result<Words, WordFault>
         ensures { result ≡ read_words (map (λ w. w.items) words.now) }
     {

@@ -115,6 +115,7 @@ fn deepen<D: Dance, const WAY: bool>(
 }
 
 /// Ends a level, the newest one.
+#[tactic(auto, using(crate::proofs::stacked::LoopSteps::ended_level, crate::proofs::stacked::BackAtLevel::ends_tweaks))]
 fn end_level<D: Dance, const WAY: bool>(position: &mut Position<D>, level: &Level)
     requires stacked { (p : Puzzle) × (ls : List Level) × AreStacked p position.old.trail (level.now ∷ ls) }
     ensures { position.new ≡ record position.old {
@@ -140,6 +141,7 @@ fn number_after(k: u32, many: u32) -> u32
 }
 
 /// Enters the next branch of a level, the newest one, which has another.
+#[tactic(auto, using(crate::proofs::stacked::LoopSteps::back_at))]
 fn enter_next<D: Dance, const WAY: bool>(position: &mut Position<D>, level: &Level) -> Begun
     requires stacked { (ls : List Level) × AreStacked position.old.puzzle position.old.trail (level.now ∷ ls) }
     requires more { level.now.begun < level.now.count }

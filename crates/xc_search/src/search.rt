@@ -107,6 +107,7 @@ impl<'a, D: Dance> Search<'a, D> {
 
     /// Goes on by so many solutions, or over all where fewer are left, and returns by how many.
     /// `choices` then returns those of the last one; none where fewer were left.
+    #[tactic(auto, using(crate::proofs::stacked::PassedOver::shown_past, std::proofs::lemmas::Grind::common_steps, crate::proofs::stacked::PassedOver::search_over))]
     pub fn pass(&mut self, many: u64) -> u64
         ensures went { self.new ≡ record self.old {
           to_come = drop many self.old.to_come;

@@ -148,6 +148,7 @@ impl<'a, D: Dance> Walk<'a, D> {
     }
 
     /// Puts the choices of `solution` in the place of those in `shown`.
+    #[tactic(auto, using(crate::proofs::stacked::ShownLevels::all_shown))]
     pub(crate) fn show(&self, shown: &mut Vec<Choice>)
         requires { most_levels self.now.puzzle ≤ vec_capacity shown.old }
         ensures items { shown.new.items ≡ self.now.shown }

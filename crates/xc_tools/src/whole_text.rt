@@ -35,6 +35,7 @@ impl From<AllocError> for TextError {
 }
 
 /// All that comes from a source.
+#[tactic(auto, using(std::proofs::lemmas::Grind::common_steps, xc_input::proofs::LineLemmas::Pieces::gave_more))]
 pub(crate) fn read_text<S: Source>(alloc: Global, source: &mut S) -> Result<Vec<u8>, TextError>
     ensures whole { IfOk result (λ text. GaveAll (S.state source.old) (S.state source.new) text.items) }
     ensures counted { IsCounted (S.state source.old).failures (S.state source.new).failures result }

@@ -86,3 +86,5 @@ lists_none p = empty 1 (item_count p)
 pub length-lists_before : (p : Puzzle) (t : List Move) → length (lists_before p t) ≡ length t
 length-lists_before p [] = refl
 length-lists_before p (m ∷ t) = ap suc (length-lists_before p t)
+
+pub ruleset lists_before_counts = (length-lists_before)

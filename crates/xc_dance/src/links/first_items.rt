@@ -45,6 +45,7 @@ fn set_bounds(items: &mut Items, problem: &Problem)
 }
 
 /// The left neighbour at a place of the item table.
+#[tactic(auto, using(std::proofs::lemmas::Grind::common_steps, crate::proofs::LinkedTables::Laid::FirstTables::left_is))]
 fn first_left(problem: &Problem, i: u32) -> u32
     requires { i ≤ item_count problem.now.puzzle + 1 }
     ensures { result ≡ llink_at problem.now.puzzle [] i }
@@ -59,6 +60,7 @@ fn first_left(problem: &Problem, i: u32) -> u32
 }
 
 /// The right neighbour at a place of the item table.
+#[tactic(auto, using(std::proofs::lemmas::Grind::common_steps, crate::proofs::LinkedTables::Laid::FirstTables::right_is))]
 fn first_right(problem: &Problem, i: u32) -> u32
     requires { i ≤ item_count problem.now.puzzle + 1 }
     ensures { result ≡ rlink_at problem.now.puzzle [] i }

@@ -88,6 +88,7 @@ fn hide_one(
 
 /// Steps of hide at the places from a to below b.
 #[inline(always)]
+#[tactic(auto, using(crate::proofs::LinkedTables::Lines::Walks::places_more, crate::proofs::LinkedTables::Lines::Walks::step_can, crate::proofs::LinkedTables::Lines::Walks::step_on))]
 fn hide_range(
     top: &mut CellsMut<'_>,
     links: &mut LinksMut<'_>,
@@ -171,6 +172,7 @@ fn unhide_one(
 
 /// Steps of unhide at the places from below b down to a.
 #[inline(always)]
+#[tactic(auto, using(crate::proofs::LinkedTables::Lines::Walks::last_first, crate::proofs::LinkedTables::Lines::Walks::step_can, crate::proofs::LinkedTables::Lines::Walks::step_on))]
 fn unhide_range(
     top: &mut CellsMut<'_>,
     links: &mut LinksMut<'_>,

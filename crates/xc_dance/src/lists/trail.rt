@@ -102,6 +102,7 @@ impl Trail {
         self.moves.len() == self.room
     }
 
+    #[tactic(auto, using(std::proofs::lemmas::Grind::common_steps, crate::proofs::MoveLemmas::StateLemmas::open_by_state, crate::proofs::MoveLemmas::StateLemmas::closed_state))]
     pub(crate) fn is_open(&self, item: u32) -> bool
         requires { IsItem self.now.puzzle item }
         ensures { result ≡ is_open item self.now.trail }
@@ -109,6 +110,7 @@ impl Trail {
         matches!(self.states[item as usize - 1], ItemState::Open)
     }
 
+    #[tactic(auto, using(std::proofs::lemmas::Grind::common_steps, crate::proofs::MoveLemmas::StateLemmas::purified_by_state, crate::proofs::MoveLemmas::StateLemmas::unpurified_state))]
     pub(crate) fn is_purified(&self, item: u32) -> bool
         requires { IsItem self.now.puzzle item }
         ensures { result ≡ is_some (purified item self.now.trail) }

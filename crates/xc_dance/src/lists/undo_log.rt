@@ -165,6 +165,7 @@ fn insert(lists: &mut Vec<Vec<u32>>, entry: Removed)
 }
 
 /// Puts back all but the oldest `mark` numbers, the newest first.
+#[tactic(auto, using(std::proofs::lemmas::Grind::common_steps, crate::proofs::LiveLists::Marks::restored_at))]
 fn restore(lists: &mut Vec<Vec<u32>>, taken: &mut Vec<Removed>, mark: usize)
     requires { Fits (rooms_of lists.old.items) (reverse taken.old.items) (numbers_of lists.old.items) }
     ensures lists { numbers_of lists.new.items ≡ restored mark (reverse taken.old.items) (numbers_of lists.old.items) }

@@ -97,3 +97,5 @@ slice_get-map-some f xs i x e = slice_get-mapped f xs i ∙ ap (option_map f) (s
 pub behind-at : {X : Type 0} (P : X → Type 0) (n : ℕ) (xs : List X) (i : ℕ) (d : X) → All P (drop n xs) → n ≤ i
     → i < length xs → P (get_or xs i d)
 behind-at P n xs i d all low high = grind (arith, nat_tests, length-drop n xs, get_or-drop n xs (i - n) d)
+
+pub ruleset flat_parts = (length-pieces, all-uses, numbered_get-at, slice_get-map-some)

@@ -114,3 +114,5 @@ number_in-tells names name o e = subst (Tells names name) (sym e) (by-place (pla
           slice_get-get_or names k [] h.0 ∙ ap Some (sym ((bytes_eq-Decides name (get_or names k [])).0 h.1)),
           tt,
         )
+
+pub ruleset known_names = (known-distinct, one-byte, bytes_eq-Decides)

@@ -74,3 +74,5 @@ pub first-word : (n first number : ℕ) (xs : List ℕ) → AreBytes xs → 8 �
 first-word n first number xs p long few read is =
     let all = front n (take 8 xs) (bytes-taken 8 xs p) (omega (arith, length-take 8 xs, long, few)) in
     grind (arith, eight-is xs long, take-take n 8 xs (omega (arith, few)))
+
+pub ruleset word_numbers = (below-cap, positive, same-text, bytes-dropped, first-word)

@@ -1,8 +1,0 @@
-use Rattle.xc_list.proofs.Writing.{failed, broke_before, then_writes}
-use Rattle.xc_list.proofs.print.write_past.Goals as goal
-
-pub returns-in_err-write_all : goal.returns-in_err-write_all
-returns-in_err-write_all g c = failed _ c.from_residual.ensures.0 (broke_before _ c.in_err-write_all.ensures)
-
-pub returns : goal.returns
-returns g c = then_writes _ _ c.write_choice.result c.in_ok-write_all.ensures c.write_choice.ensures
