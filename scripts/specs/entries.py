@@ -42,7 +42,7 @@ class Entry:
 
     @property
     def is_inner(self) -> bool:
-        return bool(re.search(r"/specs/inner/", self.path))
+        return bool(re.search(r"/specs/inner[/.]", self.path))
 
     @property
     def size(self) -> int:
