@@ -2,7 +2,7 @@
 ghost use Rattle.std.specs.Prelude.{◌≡◌, Some};
 ghost use Rattle.xc_input.specs.Problem.{numbered_get};
 ghost use Rattle.xc_c.specs.Numbers.{faults, kind_by_number};
-ghost use Rattle.xc_c.specs.inner.Statuses.{error_status};
+ghost use Rattle.xc_c.specs.inner.{error_status};
 
 use xc_input::{FaultKind, InputError, Kind};
 

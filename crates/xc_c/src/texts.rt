@@ -11,8 +11,7 @@ ghost use Rattle.xc_dance.specs.Linked.{dancing_of};
 ghost use Rattle.xc_search.specs.Cover.{members, EachMemberCovers, EachCoverIsListedOnce};
 ghost use Rattle.natural.specs.Numerals.{numeral};
 ghost use Rattle.xc_c.specs.Answers.{IsFilled, IsSearched, Lists, Totals};
-ghost use Rattle.xc_c.specs.inner.Counting.{CountMakesFew};
-ghost use Rattle.xc_c.specs.inner.Statuses.{listing_status};
+ghost use Rattle.xc_c.specs.inner.{CountMakesFew, listing_status};
 
 use crate::numbers::{DONE, LIMIT, NO_ROOM};
 use bstr::ByteSlice;
@@ -74,7 +73,7 @@ pub(crate) fn read_text(
 }
 
 /// The first fault of a text, with its line.
-#[tactic(auto, using(crate::proofs::TextLines::text_faults))]
+#[tactic(auto, using(crate::proofs::TextLemmas::text_faults))]
 pub(crate) fn first_fault(
     alloc: Global,
     kind: Kind,
@@ -108,7 +107,7 @@ fn count_members(alloc: Global, problem: &Problem, limit: u64) -> Result<(Links,
 }
 
 /// How many solutions the problem of a text has, up to a limit.
-#[tactic(auto, using(crate::proofs::TextLines::text_faults))]
+#[tactic(auto, using(crate::proofs::TextLemmas::text_faults))]
 pub(crate) fn count_solutions(
     alloc: Global,
     kind: Kind,
@@ -228,7 +227,7 @@ fn list_problem(
 }
 
 /// Lists the solutions of the problem of a text into a buffer, as `list_problem` does.
-#[tactic(auto, using(crate::proofs::TextLines::text_faults))]
+#[tactic(auto, using(crate::proofs::TextLemmas::text_faults))]
 pub(crate) fn list_solutions(
     alloc: Global,
     kind: Kind,

@@ -6,18 +6,15 @@ use Rattle.std.proofs.lemmas.List.Concat.{length-flat_map}
 use Rattle.xc_search.specs.declared.choice.Choice.{Choice}
 use Rattle.xc_search.specs.Listing.{Wanted, Residual, Branch, branches_of, level, listing}
 use Rattle.xc_search.specs.Cover.{options_of}
-use Rattle.xc_input.proofs.lists.EachTwo.{EachTwo, EachTwo-map, EachTwo-flat_map, EachTwo-weaker}
-use Rattle.xc_input.proofs.lists.Members.{IsIn, in-filter, filter-in, in-map, each_from}
-use Rattle.xc_search.proofs.completeness.Complete.{Solves, members_solve, solves_back, listed_for}
-use Rattle.xc_search.proofs.completeness.Covering.{is_listed, listed_in, in_listed, member_of_set}
-use Rattle.xc_search.proofs.completeness.Fits.{Fits, Covers, IsMemberOf, member_on, member_back, branch_for}
-use Rattle.xc_search.proofs.completeness.Fits.{covers_on}
-use Rattle.xc_search.proofs.completeness.Once.{all_differ, Differ}
+use Rattle.xc_input.proofs.ListLemmas.{EachTwo, EachTwo-map, EachTwo-flat_map, EachTwo-weaker, IsIn, in-filter}
+use Rattle.xc_input.proofs.ListLemmas.{filter-in, in-map, each_from, keep_all}
+use Rattle.xc_search.proofs.Completeness.{Solves, members_solve, solves_back, listed_for, is_listed, listed_in}
+use Rattle.xc_search.proofs.Completeness.{in_listed, member_of_set, Fits, Covers, IsMemberOf, member_on, member_back}
+use Rattle.xc_search.proofs.Completeness.{branch_for, covers_on, all_differ, Differ}
 use Rattle.xc_count.proofs.Apart.{branches_apart, AreApart}
-use Rattle.xc_search.proofs.completeness.Proper.{IsProper, proper_behind}
-use Rattle.xc_search.proofs.listing.EachBranch.{behind, in-branches, rise_behind, in-level, level-in}
+use Rattle.xc_search.proofs.ListingLemmas.{IsProper, proper_behind, behind, in-branches, rise_behind, in-level}
+use Rattle.xc_search.proofs.ListingLemmas.{level-in}
 use Rattle.xc_count.proofs.Matched.{no_more, EachTwo-filter}
-use Rattle.xc_input.proofs.lists.Filters.{keep_all}
 
 -- ---- the members of a level by any item
 

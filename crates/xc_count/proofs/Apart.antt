@@ -4,17 +4,12 @@ use Rattle.std.proofs.Common.{ℕ, ◌<◌, Bool, take, arith, le-leb}
 use Rattle.std.specs.List.{enumerate_from}
 use Rattle.xc_input.specs.Problem.{Numbered, holds, holding}
 use Rattle.xc_search.specs.Listing.{Wanted, Residual, Branch, branch_count, branches_of}
-use Rattle.xc_input.proofs.FaultLemmas.BooleanTests.{and_left}
-use Rattle.xc_input.proofs.lists.EachTwo.{EachTwo, EachTwo-append, EachTwo-map, EachTwo-weaker, EachTwo-take}
-use Rattle.xc_input.proofs.lists.EachTwo.{EachTwo-enumerated}
-use Rattle.xc_input.proofs.lists.Members.{IsIn, in-filter, in-map, in-take, in-enumerated}
-use Rattle.xc_dance.proofs.MoveLemmas.OptionsRise.{rises_filter}
-use Rattle.xc_dance.proofs.MoveLemmas.ListLemmas.{Rises, numbers}
-use Rattle.xc_search.proofs.completeness.Fits.{Fits}
-use Rattle.xc_search.proofs.listing.BranchLists.{takes}
-use Rattle.xc_search.proofs.listing.EachBranch.{nones, in-nones}
-use Rattle.xc_search.proofs.residual.NumberedOnce.{two_rise}
-use Rattle.xc_search.specs.inner.Residual.{take_branch}
+use Rattle.xc_input.proofs.ListLemmas.{and_left, EachTwo, EachTwo-append, EachTwo-map, EachTwo-weaker, EachTwo-take}
+use Rattle.xc_input.proofs.ListLemmas.{EachTwo-enumerated, IsIn, in-filter, in-map, in-take, in-enumerated}
+use Rattle.xc_dance.proofs.MoveLemmas.{rises_filter, Rises, numbers}
+use Rattle.xc_search.proofs.Completeness.{Fits}
+use Rattle.xc_search.proofs.ListingLemmas.{takes, nones, in-nones, two_rise}
+use Rattle.xc_search.specs.inner.Levels.{take_branch}
 
 -- no choice fits two branches
 abbrev pub AreApart : Residual → Branch → Branch → Type 0

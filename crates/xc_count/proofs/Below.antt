@@ -14,15 +14,10 @@ use Rattle.xc_input.specs.Problem.{IsSoundUse}
 use Rattle.xc_input.specs.Problem.{bounds_at, low_at, high_at, colour_in}
 use Rattle.xc_search.specs.Listing.{Wanted, whole, listing}
 use Rattle.xc_search.specs.Cover.{members}
-use Rattle.xc_input.proofs.Cases.{by_bool, by_option}
-use Rattle.xc_input.proofs.lists.Filters.{keep_all, filter_same}
-use Rattle.xc_input.proofs.lists.Members.{IsIn, each_from, each_in, filter-in, map-in, list_all-each}
-use Rattle.xc_input.proofs.lists.Places.{not_some}
-use Rattle.xc_search.proofs.completeness.Covering.{bounded}
-use Rattle.xc_search.proofs.completeness.Proper.{proper_whole, use_passes}
-use Rattle.xc_search.proofs.listing.Numbering.{with_bounds, uses_known}
-use Rattle.xc_search.proofs.listing.Unrolled.{listing_at}
-use Rattle.xc_search.proofs.residual.OptionUses.{holds_use}
+use Rattle.xc_input.proofs.ListLemmas.{by_bool, by_option, keep_all, filter_same, IsIn, each_from, each_in, filter-in}
+use Rattle.xc_input.proofs.ListLemmas.{map-in, list_all-each, not_some}
+use Rattle.xc_search.proofs.Completeness.{bounded}
+use Rattle.xc_search.proofs.ListingLemmas.{proper_whole, use_passes, with_bounds, uses_known, listing_at, holds_use}
 use Rattle.xc_count.proofs.LeftBy.{AreOnce, agree_both, free_of, plain_at, same_test, sound_uses}
 use Rattle.xc_count.proofs.Split.{below_split, with_none, with_this, sum-map, sum-filter, sum-same}
 use Rattle.xc_count.specs.inner.Held.{Held, HoldsOnce, agree, fits, left_by, holding_uses, below}

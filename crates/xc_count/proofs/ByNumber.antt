@@ -11,24 +11,19 @@ use Rattle.std.proofs.lemmas.List.FromFn.{length-enumerate_from}
 use Rattle.xc_input.specs.declared.problem.Bounds.{Bounds}
 use Rattle.xc_input.specs.Problem.{Puzzle, Numbered, numbered_get, numbered_options, holding, holds, option_count}
 use Rattle.xc_input.specs.Problem.{primary_count, uses_of, IsPrimary, IsValid}
-use Rattle.xc_input.proofs.Cases.{by_bool, by_option}
-use Rattle.xc_input.proofs.lists.Filters.{length-filter-le}
-use Rattle.xc_input.proofs.lists.Members.{IsIn, each_from, each_in, filter-in, in-contains, in-filter, in-map}
-use Rattle.xc_dance.proofs.LinkedTables.Laid.PlaceLemmas.{get_dropped}
+use Rattle.xc_input.proofs.ListLemmas.{by_bool, by_option, length-filter-le, IsIn, each_from, each_in, filter-in}
+use Rattle.xc_input.proofs.ListLemmas.{in-contains, in-filter, in-map}
+use Rattle.xc_dance.proofs.PlaceLemmas.{get_dropped}
 use Rattle.xc_search.specs.declared.choice.Choice.{Choice}
 use Rattle.xc_search.specs.Listing.{Residual, Wanted, branch_count, branch_item, branches_of, first_least}
 use Rattle.xc_search.specs.Listing.{listing, pick, whole, wanted_from}
-use Rattle.xc_search.specs.inner.Residual.{take_branch}
-use Rattle.xc_search.proofs.listing.EachBranch.{behind}
-use Rattle.xc_search.proofs.listing.Numbering.{uses_known}
+use Rattle.xc_search.specs.inner.Levels.{take_branch}
+use Rattle.xc_search.proofs.ListingLemmas.{behind, uses_known, branches_less, branch_item-in, nones, takes-in}
+use Rattle.xc_search.proofs.ListingLemmas.{listing_at, takes}
 use Rattle.xc_count.specs.inner.Held.{Held, HoldsOnce, agree, fits, holding_uses, left_by}
 use Rattle.xc_count.specs.inner.Keys.{mark_says}
 use Rattle.xc_count.specs.inner.Numbered.{fewer, size_left}
 use Rattle.xc_count.specs.inner.Plans.{options_with}
-use Rattle.xc_search.proofs.listing.BranchesLess.{branches_less}
-use Rattle.xc_search.proofs.listing.EachBranch.{branch_item-in, nones, takes-in}
-use Rattle.xc_search.proofs.listing.Unrolled.{listing_at}
-use Rattle.xc_search.proofs.listing.BranchLists.{takes}
 use Rattle.xc_count.proofs.Below.{are_once, known}
 use Rattle.xc_count.proofs.LeftBy.{AreOnce, picked}
 

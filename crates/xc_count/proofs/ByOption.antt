@@ -16,25 +16,18 @@ use Rattle.xc_input.specs.declared.problem.Bounds.{Bounds}
 use Rattle.xc_input.specs.Problem.{Puzzle, IsOption, IsSecondary, primary_count, high_at, bounds_at}
 use Rattle.xc_input.specs.Problem.{uses_of}
 use Rattle.xc_input.specs.Problem.{colour_in}
-use Rattle.xc_input.proofs.Cases.{by_bool, by_option}
-use Rattle.xc_input.proofs.FaultLemmas.BooleanTests.{and_left, and_right}
-use Rattle.xc_input.proofs.lists.Places.{not_some}
+use Rattle.xc_input.proofs.ListLemmas.{by_bool, by_option, and_left, and_right, not_some, EachTwo, EachTwo-append}
+use Rattle.xc_input.proofs.ListLemmas.{EachTwo-map, EachTwo-weaker, IsIn, append-in_left, append-in_right, in-contains}
+use Rattle.xc_input.proofs.ListLemmas.{contains-in, in-append, list_all-each, in-map, map-in, each_in, each_from}
+use Rattle.xc_input.proofs.ListLemmas.{AllPairs-from_each_two, each_two_from_AllPairs, in-filter, filter-in}
 use Rattle.std.proofs.Math.Bool.{or-true}
-use Rattle.xc_input.proofs.lists.EachTwo.{EachTwo, EachTwo-append, EachTwo-map, EachTwo-weaker}
-use Rattle.xc_input.proofs.lists.Members.{IsIn, append-in_left, append-in_right, in-contains, contains-in, in-append}
-use Rattle.xc_input.proofs.lists.Members.{list_all-each}
-use Rattle.xc_input.proofs.lists.Members.{in-map, map-in, each_in}
-use Rattle.xc_input.proofs.lists.Members.{each_from}
 use Rattle.xc_search.specs.Cover.{times_held, SameSet}
-use Rattle.xc_search.proofs.completeness.Covering.{is_listed, listed_in, in_listed}
+use Rattle.xc_search.proofs.Completeness.{is_listed, listed_in, in_listed, option_of}
 use Rattle.xc_count.specs.inner.ByOption.{Marks, may_hold, may_take, taking, all_met, ways, sets}
 use Rattle.std.proofs.lemmas.List.Elements.{All-from_recursion, recursion_from_All}
 use Rattle.xc_input.specs.Problem.{IsValid, IsSoundUse}
-use Rattle.xc_input.proofs.lists.EachTwo.{AllPairs-from_each_two, each_two_from_AllPairs}
-use Rattle.xc_input.proofs.lists.Members.{in-filter, filter-in}
 use Rattle.xc_search.specs.Cover.{IsCover, members}
-use Rattle.xc_search.proofs.completeness.Covering.{option_of}
-use Rattle.xc_search.proofs.completeness.Proper.{proper_whole, sound_item}
+use Rattle.xc_search.proofs.ListingLemmas.{proper_whole, sound_item}
 use Rattle.xc_count.specs.inner.ByOption.{IsEachOnce}
 use Rattle.xc_count.proofs.LeftBy.{sound_uses}
 use Rattle.xc_count.proofs.Number.{listed, one_number}

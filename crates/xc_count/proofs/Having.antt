@@ -13,17 +13,11 @@ use Rattle.xc_input.specs.Problem.{Puzzle, Numbered, numbered_options, primary_c
 use Rattle.xc_input.specs.Problem.{IsPrimary}
 use Rattle.xc_search.specs.Listing.{Wanted, Residual, Branch, whole, branch_count, branches_of, pick, listing}
 use Rattle.xc_search.specs.Cover.{options_of}
-use Rattle.xc_input.proofs.Cases.{by_bool}
-use Rattle.xc_input.proofs.lists.Filters.{filter-map, filter_both}
-use Rattle.xc_input.proofs.lists.Members.{IsIn, in-filter, filter-in, each_from}
-use Rattle.xc_dance.proofs.MoveLemmas.OptionsRise.{options_rise}
-use Rattle.xc_search.proofs.completeness.Complete.{Solves, members_solve}
-use Rattle.xc_search.proofs.completeness.Covering.{is_listed, listed_in, in_listed}
-use Rattle.xc_search.proofs.listing.BranchLists.{takes}
-use Rattle.xc_search.proofs.listing.EachBranch.{nones, behind}
-use Rattle.xc_search.proofs.listing.Numbering.{uses_known}
-use Rattle.xc_search.proofs.residual.NumberedOnce.{same_number}
-use Rattle.xc_search.specs.inner.Residual.{take_branch}
+use Rattle.xc_input.proofs.ListLemmas.{by_bool, filter-map, filter_both, IsIn, in-filter, filter-in, each_from}
+use Rattle.xc_dance.proofs.MoveLemmas.{options_rise}
+use Rattle.xc_search.proofs.Completeness.{Solves, members_solve, is_listed, listed_in, in_listed}
+use Rattle.xc_search.proofs.ListingLemmas.{takes, nones, behind, uses_known, same_number}
+use Rattle.xc_search.specs.inner.Levels.{take_branch}
 use Rattle.xc_count.proofs.AnyItem.{Match, any_level_by}
 use Rattle.xc_count.proofs.Below.{are_once, end_left, item_at, known}
 use Rattle.xc_count.proofs.LeftBy.{proper_left, picked, not_both}

@@ -11,12 +11,11 @@ use Rattle.std.proofs.lemmas.List.FromFn.{length-enumerate_from}
 use Rattle.xc_input.specs.declared.problem.Use.{Use}
 use Rattle.xc_input.specs.Problem.{Puzzle, Numbered, numbered_get, numbered_options, holding, holds, option_count}
 use Rattle.xc_input.specs.Problem.{colour_in, IsItem, IsOption, uses_of}
-use Rattle.xc_input.proofs.Cases.{by_bool, by_option}
-use Rattle.xc_input.proofs.lists.EachTwo.{EachTwo}
-use Rattle.xc_input.proofs.OptionLemmas.NumberedOptions.{numbered_from}
-use Rattle.xc_input.proofs.OptionLemmas.FlatParts.{numbered_get-at}
-use Rattle.xc_input.proofs.lists.Members.{in-map, in-filter, in-contains, contains-in, each_from}
-use Rattle.xc_search.proofs.listing.Numbering.{numbered_at, uses_known}
+use Rattle.xc_input.proofs.ListLemmas.{by_bool, by_option, EachTwo, in-map, in-filter, in-contains, contains-in}
+use Rattle.xc_input.proofs.ListLemmas.{each_from}
+use Rattle.xc_input.proofs.OptionLemmas.{numbered_from}
+use Rattle.xc_input.proofs.TokenLemmas.{numbered_get-at}
+use Rattle.xc_search.proofs.ListingLemmas.{numbered_at, uses_known}
 use Rattle.std.proofs.lemmas.List.Elements.{All-from_recursion}
 use Rattle.std.proofs.lemmas.Option.{get_or_from_slice_get}
 use Rattle.xc_count.specs.inner.Plans.{AreHolders, if_held, options_with}

@@ -2,8 +2,9 @@
 use Rattle.std.proofs.Common.{ℕ, ◌≡◌, ◌≤◌, ◌<◌, Bool, true, false, not, ◌&&◌, eqb, List, [], ◌∷◌}
 use Rattle.std.proofs.Common.{map, filter, Some, None, refl, sym, ap, ◌∙◌, arith, subst}
 use Rattle.std.proofs.Common.{eqb-true, eq-eqb, ltb-true, lt-ltb, ap₂}
-use Rattle.xc_input.proofs.FaultLemmas.BooleanTests.{and_left, and_right}
-use Rattle.xc_search.specs.inner.Residual.{item_left}
+use Rattle.xc_input.proofs.ListLemmas.{and_left, and_right, by_bool, by_option, filter_same, filter_both, IsIn}
+use Rattle.xc_input.proofs.ListLemmas.{in-filter, filter-in, each_in, each_from, list_all-each}
+use Rattle.xc_search.specs.inner.Levels.{item_left}
 use Rattle.std.specs.Prelude.{is_none, nat_lt}
 use Rattle.std.specs.List.{AllByRecursion}
 use Rattle.xc_input.specs.declared.problem.Use.{Use}
@@ -11,14 +12,9 @@ use Rattle.xc_input.specs.Problem.{Puzzle, Numbered, numbered_options, primary_c
 use Rattle.xc_input.specs.Problem.{IsValid, IsSoundUse}
 use Rattle.xc_dance.specs.Moves.{agrees}
 use Rattle.xc_search.specs.Listing.{Wanted, whole, spend_one, may_stay, stays, pick, none}
-use Rattle.xc_input.proofs.Cases.{by_bool, by_option}
-use Rattle.xc_input.proofs.lists.Filters.{filter_same, filter_both}
-use Rattle.xc_input.proofs.lists.Members.{IsIn, in-filter, filter-in, each_in, each_from, list_all-each}
 use Rattle.std.proofs.lemmas.List.Elements.{recursion_from_All}
-use Rattle.xc_dance.proofs.MoveLemmas.OptionsRise.{rises_filter}
-use Rattle.xc_search.proofs.completeness.Proper.{IsProper, proper_whole, goes_on, use_passes, in-find}
-use Rattle.xc_search.proofs.listing.Numbering.{is_option}
-use Rattle.xc_search.proofs.residual.OptionUses.{holds_use}
+use Rattle.xc_dance.proofs.MoveLemmas.{rises_filter}
+use Rattle.xc_search.proofs.ListingLemmas.{IsProper, proper_whole, goes_on, use_passes, in-find, is_option, holds_use}
 use Rattle.xc_count.proofs.Matched.{EachTwo-filter}
 use Rattle.xc_count.specs.inner.Held.{Held, fits, left_by, holding_option, without_item}
 

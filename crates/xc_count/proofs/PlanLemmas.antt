@@ -11,9 +11,8 @@ use Rattle.std.proofs.lemmas.List.{get_or-take, take_all}
 use Rattle.std.proofs.lemmas.List.Elements.{recursion_from_All}
 use Rattle.xc_input.specs.declared.problem.Use.{Use}
 use Rattle.xc_input.specs.Problem.{Puzzle, IsPrimary, IsItem, IsValid, colour_in, uses_of}
-use Rattle.xc_input.proofs.FaultLemmas.BooleanTests.{and_left, and_right}
-use Rattle.xc_input.proofs.Cases.{by_bool}
-use Rattle.xc_input.proofs.lists.Members.{IsIn, in-contains, contains-in, in-take, each_in, list_all-each}
+use Rattle.xc_input.proofs.ListLemmas.{and_left, and_right, by_bool, IsIn, in-contains, contains-in, in-take, each_in}
+use Rattle.xc_input.proofs.ListLemmas.{list_all-each}
 use Rattle.xc_count.specs.declared.plan.Plan.{Plan}
 use Rattle.xc_count.specs.declared.sweeping.Step.{Step}
 use Rattle.xc_search.specs.Listing.{Residual, listing}

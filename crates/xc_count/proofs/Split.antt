@@ -7,13 +7,9 @@ use Rattle.std.proofs.lemmas.List.{take_all}
 use Rattle.std.proofs.lemmas.List.Sums.{sum_by-append, sum_by-cons}
 use Rattle.xc_input.specs.Problem.{Puzzle, Numbered, numbered_options, primary_count, holds, holding, IsValid}
 use Rattle.xc_search.specs.Listing.{Wanted, Branch, whole, branch_count, pick}
-use Rattle.xc_input.proofs.Cases.{by_bool}
-use Rattle.xc_input.proofs.lists.Filters.{filter_both}
-use Rattle.xc_input.proofs.lists.Members.{IsIn, in-filter, each_in, each_from}
-use Rattle.xc_search.proofs.completeness.Proper.{proper_whole}
-use Rattle.xc_search.proofs.listing.BranchLists.{takes}
-use Rattle.xc_search.proofs.listing.EachBranch.{nones}
-use Rattle.xc_search.specs.inner.Residual.{take_branch}
+use Rattle.xc_input.proofs.ListLemmas.{by_bool, filter_both, IsIn, in-filter, each_in, each_from}
+use Rattle.xc_search.proofs.ListingLemmas.{proper_whole, takes, nones}
+use Rattle.xc_search.specs.inner.Levels.{take_branch}
 use Rattle.xc_count.proofs.AnyItem.{count, count_by_item}
 use Rattle.xc_count.proofs.LeftBy.{AreOnce, proper_left, picked, given_up}
 use Rattle.xc_count.specs.inner.Held.{Held, fits, left_by, holding_option, without_item, below}

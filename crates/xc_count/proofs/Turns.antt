@@ -3,7 +3,7 @@ use Rattle.std.proofs.Common.{ℕ, ◌≡◌, ◌+◌, ◌-◌, ◌<◌, ◌++�
 use Rattle.std.proofs.Common.{◌∙◌, arith, subst, inl, inr, length-append, ◌⊎◌}
 use Rattle.std.specs.Prelude.{IfSome}
 use Rattle.xc_input.specs.Problem.{Puzzle}
-use Rattle.xc_input.proofs.Cases.{by_option}
+use Rattle.xc_input.proofs.ListLemmas.{by_option}
 use Rattle.xc_search.specs.declared.span.Halt.{Halt}
 use Rattle.xc_search.specs.declared.span.Halt.TheVariants.{Member, End, Steps}
 use Rattle.xc_search.specs.declared.span.Went.{Went}
@@ -13,8 +13,7 @@ use Rattle.xc_search.specs.Listing.{whole}
 use Rattle.xc_search.specs.Nodes.{IsRowOf, row_count}
 use Rattle.xc_search.specs.Spans.{precedes, between}
 use Rattle.xc_search.specs.Cover.{members}
-use Rattle.xc_search.proofs.spans.Rising.{all_between}
-use Rattle.xc_search.proofs.spans.Ranks.{rank, rank_within, rank_rises}
+use Rattle.xc_search.proofs.RowLemmas.{all_between, rank, rank_within, rank_rises}
 
 -- how many rows of the tree come after one at the least
 abbrev pub rows_after : Puzzle → Option (List ℕ) → ℕ

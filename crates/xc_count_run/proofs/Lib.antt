@@ -1,2 +1,1 @@
 mod LineLemmas
-mod SolutionLemmas

@@ -6,7 +6,7 @@ ghost use Rattle.std.specs.Str.{byte};
 ghost use Rattle.xc_list.specs.Settings.{long_number};
 ghost use Rattle.xc_tools.specs.Judges.{numbered_kind};
 ghost use Rattle.xc_count_run.specs.Words.{asked_count, asked_more, bound_word, is_positive, question_word};
-ghost use Rattle.xc_count_run.specs.inner.Questions.{meaning};
+ghost use Rattle.xc_count_run.specs.inner.{meaning};
 
 use xc_input::Kind;
 
@@ -14,7 +14,7 @@ use xc_input::Kind;
 const MEGABYTES: u64 = 512;
 
 /// The number that is here in decimal.
-#[tactic(auto, using(xc_list::proofs::Digits::too_large))]
+#[tactic(auto, using(xc_list::proofs::Writing::too_large))]
 fn long_number(digits: &[u8]) -> Option<u64>
     ensures { result ≡ long_number digits.now }
 {

@@ -6,7 +6,7 @@ ghost use Rattle.xc_list.specs.Texts.{seen, WasTold};
 ghost use Rattle.xc_tools.specs.WholeRuns.{no_problem, sinks};
 ghost use Rattle.xc_count_run.specs.Counts.{DidAnswer, DidCount, DidCountWords, DidWarnAndAnswer, Reports};
 ghost use Rattle.xc_count_run.specs.LastLine.{Concludes};
-ghost use Rattle.xc_count_run.specs.inner.Questions.{meaning};
+ghost use Rattle.xc_count_run.specs.inner.{meaning};
 
 use crate::asked::{Asked, Question, asked_count};
 use crate::messages::count_line;

@@ -1,4 +1,5 @@
 -- What no public clause cites: it helps to prove the public ones.
 pub mod Left
 pub mod Lists
-pub mod Links
+pub mod Tables
+pub mod Walks

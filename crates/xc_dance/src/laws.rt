@@ -12,7 +12,7 @@ use crate::{Count, Dance, Field, Full, Links, Memory, Move};
 
 /// Makes a legal move and undoes it. Each field of the tables is then what it was, those of nodes
 /// that no list shows included, and both wrote as many cells. Where the trail is full, nothing changes.
-#[tactic(auto, using(std::proofs::lemmas::Grind::common_steps, crate::proofs::LinkedTables::Moves::MoveStep::none_newest))]
+#[tactic(auto, using(std::proofs::lemmas::Grind::common_steps, crate::proofs::MoveSteps::none_newest))]
 pub fn there_and_back(links: &mut Links, m: Move) -> Result<(Count, Count), Full>
     requires { IsLegal links.old.puzzle links.old.trail m }
     ensures same { IsSame links.old.puzzle links.old.trail links.new.puzzle links.new.trail }

@@ -8,7 +8,7 @@ ghost use Rattle.xc_input.specs.Problem.{IsOption, uses_of};
 ghost use Rattle.xc_dance.specs.Fields.{link_place};
 ghost use Rattle.xc_dance.specs.Commits.{IsUseAt};
 ghost use Rattle.xc_input.specs.UsePlaces.{place_in};
-ghost use Rattle.xc_dance.specs.inner.Links.OptionPlaces.{start_at};
+ghost use Rattle.xc_dance.specs.inner.Tables.{start_at};
 
 use xc_input::{Problem, place_in};
 
@@ -23,7 +23,7 @@ pub(crate) fn node_place(problem: &Problem, i: u32, o: u32) -> u32
 
 /// The place of the first node of option `o`: after the items' own nodes, a spacer, and the nodes of each option
 /// before it, with the spacer after them.
-#[tactic(auto, using(crate::proofs::LinkedTables::Laid::PlaceLemmas::option_place))]
+#[tactic(auto, using(crate::proofs::PlaceLemmas::option_place))]
 fn first_place(problem: &Problem, o: u32) -> u32
     requires { IsOption problem.now.puzzle o }
     ensures { result ≡ start_at problem.now.puzzle (o - 1) }
@@ -36,7 +36,7 @@ fn first_place(problem: &Problem, o: u32) -> u32
 }
 
 /// The option whose node is at this place: the first one with the spacer after it further on.
-#[tactic(auto, using(crate::proofs::LinkedTables::Laid::PlaceLemmas::option_place))]
+#[tactic(auto, using(crate::proofs::PlaceLemmas::option_place))]
 pub(crate) fn number_at(problem: &Problem, place: u32) -> u32
     requires { (i x : ℕ) × IsUseAt problem.now.puzzle i x place }
     ensures { (i x : ℕ) → IsUseAt problem.now.puzzle i x place → result ≡ x }

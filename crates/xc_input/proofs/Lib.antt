@@ -1,12 +1,7 @@
-pub mod Cases
-pub mod OptionSteps
-pub mod lists
-pub mod FaultyLemmas
 pub mod LineLemmas
 pub mod TokenLemmas
 pub mod FaultLemmas
 pub mod GrammarLemmas
-pub mod ValidLemmas
 pub mod OptionLemmas
-pub mod Numerals
 pub mod WrittenTexts
+pub mod ListLemmas

@@ -1,14 +1,5 @@
 pub mod Stored
-pub mod Flat
-pub mod Vectors
-pub mod Fronts
 pub mod Builders
 pub mod Feeding
-pub mod LinesCut
 pub mod CutTokens
-pub mod EndedLines
-pub mod BoundTexts
-pub mod ColourNumbers
 pub mod Stages
-pub mod Sheets
-pub mod GuessedWords

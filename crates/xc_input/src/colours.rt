@@ -20,7 +20,7 @@ use std::alloc::Global;
 /// The place of a colour, if it is the one that was guessed. Most have one byte, by which they are guessed. No colour
 /// occurs twice, so one at the guessed place has no other.
 #[inline(always)]
-#[tactic(auto, using(crate::proofs::TokenLemmas::TableNames::known_names))]
+#[tactic(auto, using(crate::proofs::TokenLemmas::known_names))]
 fn guessed_colour(colours: &NameSet, guesses: &ColourGuesses, colour: &[u8]) -> Option<usize>
     requires { AreDistinct (key_names colours.now.keys) }
     ensures { IfSome result (λ at. place (key_names colours.now.keys) colour.now ≡ Some at) }

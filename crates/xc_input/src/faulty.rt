@@ -12,7 +12,7 @@ ghost use Rattle.xc_input.specs.Faults.{first, checks_of_each, part_checks, toke
 ghost use Rattle.xc_input.specs.FaultyTokens.{IsAtFault, IsFaulty, IsFaultyToken, Tells};
 ghost use Rattle.xc_input.specs.Limits.{most_items};
 ghost use Rattle.xc_input.specs.inner.Stages.{context, no_row};
-ghost use Rattle.xc_input.specs.inner.Fronts.{StandsBefore};
+ghost use Rattle.xc_input.specs.inner.CutTokens.{StandsBefore};
 ghost use Rattle.xc_input.specs.inner.Builders.{AreNames, AreMarks, IsItemTable, row_of_line};
 ghost use Rattle.xc_input.specs.inner.Stored.{key_names};
 

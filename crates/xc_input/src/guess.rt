@@ -13,8 +13,7 @@
 ghost use Rattle.std.specs.Prelude.{◌≡◌, ◌<◌, ◌≤◌, ◌↔◌, ℕ, ◌+◌, ◌*◌, ◌%◌, ◌^◌, [], ◌∷◌, Some, IfOk, IfSome, length};
 ghost use Rattle.std.specs.Prelude.{take, slice_get, slice_set, unwrap_or, min, replicate, All};
 ghost use Rattle.xc_input.specs.Limits.{most_uses};
-ghost use Rattle.xc_input.specs.inner.GuessedWords.{word_number, IsWordOf, AreWords};
-ghost use Rattle.xc_input.specs.inner.Stored.{key_names};
+ghost use Rattle.xc_input.specs.inner.Stored.{word_number, IsWordOf, AreWords, key_names};
 
 use crate::limits::{LONGEST_NAME, MOST_ITEMS, MOST_USES};
 use crate::names::NameSet;
@@ -190,7 +189,7 @@ fn number(bytes: u64, size: usize) -> usize
 /// most a space, and its length; or of another front of the text. The length comes from the text alone, so the start
 /// of the next token doesn't wait for a table.
 #[inline(always)]
-#[tactic(auto, using(crate::proofs::TokenLemmas::WordNumbers::word_numbers))]
+#[tactic(auto, using(crate::proofs::TokenLemmas::word_numbers))]
 pub fn short_word(text: &[u8]) -> Option<(u64, usize)>
     ensures { IfSome result (λ p. (p.1 ≤ length text.now) × (p.0 ≡ word_number (take p.1 text.now))) }
 {
@@ -231,7 +230,7 @@ fn last_word(text: &[u8]) -> (u64, usize)
 }
 
 /// A number that no other text has; 0 for a text of more than seven bytes.
-#[tactic(auto, using(crate::proofs::TokenLemmas::WordNumbers::word_numbers))]
+#[tactic(auto, using(crate::proofs::TokenLemmas::word_numbers))]
 fn short_number(text: &[u8]) -> u64
     ensures { IsWordOf text.now result }
 {
@@ -242,7 +241,7 @@ fn short_number(text: &[u8]) -> u64
 }
 
 /// The number of a word.
-#[tactic(auto, using(crate::proofs::TokenLemmas::WordNumbers::word_numbers, std::proofs::lemmas::Grind::common_steps))]
+#[tactic(auto, using(crate::proofs::TokenLemmas::word_numbers, std::proofs::lemmas::Grind::common_steps))]
 fn word_of(bytes: &[u8]) -> u64
     requires { length bytes.now ≤ 7 }
     ensures { result ≡ word_number bytes.now }

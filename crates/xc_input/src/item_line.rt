@@ -6,8 +6,8 @@ ghost use Rattle.xc_input.specs.Tokens.{parts, is_space};
 ghost use Rattle.xc_input.specs.Words.{number};
 ghost use Rattle.xc_input.specs.Faults.{first, name_checks, is_bounds, prefix_checks, bound_checks, item_checks};
 ghost use Rattle.xc_input.specs.inner.Stages.{entry, staged_part_checks, with_part, row_checks, row_with_parts, no_row};
-ghost use Rattle.xc_input.specs.inner.Sheets.{names_of};
-ghost use Rattle.xc_input.specs.inner.BoundTexts.{low_text, high_text};
+ghost use Rattle.xc_input.specs.inner.Stages.{names_of};
+ghost use Rattle.xc_input.specs.inner.CutTokens.{low_text, high_text};
 ghost use Rattle.xc_input.specs.inner.Builders.{Judged, IsItemTable, row_of_line, entry_of};
 ghost use Rattle.indexmap.specs.IndexSet.{hasher_of};
 

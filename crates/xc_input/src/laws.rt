@@ -32,7 +32,7 @@ pub fn problems_have_texts()
 
 /// The token that `faulty_token` finds in a line has the fault that a reader reports of the line, after lines without a
 /// fault.
-#[tactic(auto, using(crate::proofs::FaultLemmas::AgreeingTokens::tokens_agree))]
+#[tactic(auto, using(crate::proofs::FaultLemmas::tokens_agree))]
 pub fn tokens_agree()
     ensures { TokensAgree }
 {}

@@ -6,7 +6,7 @@
 ghost use Rattle.std.specs.Prelude.{◌≡◌, ◌≤◌, [], false, length, take, IfOk, MatchOption, OnOk};
 ghost use Rattle.xc_input.specs.LinesRead.{Advanced, IsLine};
 ghost use Rattle.xc_input.specs.Words.{has};
-ghost use Rattle.xc_input.specs.inner.LinesCut.{Cut, ReadOnce, ended_carry};
+ghost use Rattle.xc_input.specs.inner.Feeding.{Cut, ReadOnce, ended_carry};
 ghost use Rattle.xc_input.specs.declared.line_reader.Unread.TheVariants.{Device, Memory};
 
 use crate::source::{ReadFailed, Source};

@@ -6,8 +6,7 @@
 ghost use Rattle.std.specs.Prelude.{◌≡◌, ◌≤◌, ◌++◌, ◌∷◌, [], length, map, None, OnOk, IfOk};
 ghost use Rattle.xc_input.specs.Limits.{most_uses};
 ghost use Rattle.xc_input.specs.Words.{place};
-ghost use Rattle.xc_input.specs.inner.Stored.{number_in};
-ghost use Rattle.xc_input.specs.inner.Stored.{key_names};
+ghost use Rattle.xc_input.specs.inner.Stored.{number_in, key_names};
 ghost use Rattle.xc_input.specs.inner.Builders.{Judged};
 ghost use Rattle.indexmap.specs.IndexSet.{hasher_of};
 

@@ -5,9 +5,8 @@ ghost use Rattle.std.specs.Prelude.{OnOk, MatchResult, length, map, get_or, ℕ,
 ghost use Rattle.xc_input.specs.Tokens.{tokens};
 ghost use Rattle.xc_input.specs.Faults.{first, is_plain, is_bad_colour, name_checks};
 ghost use Rattle.xc_input.specs.Sheets.{with_colour};
-ghost use Rattle.xc_input.specs.inner.Sheets.{with_uses};
-ghost use Rattle.xc_input.specs.inner.Stages.{staged_token_checks, staged_option_checks, written, context};
-ghost use Rattle.xc_input.specs.inner.ColourNumbers.{numbered, use_behind};
+ghost use Rattle.xc_input.specs.inner.Stages.{with_uses, staged_token_checks, staged_option_checks, written, context};
+ghost use Rattle.xc_input.specs.inner.Stages.{numbered, use_behind};
 ghost use Rattle.xc_input.specs.Limits.{most_items, most_uses};
 ghost use Rattle.xc_input.specs.declared.fault.FaultKind.TheVariants.{UnknownItem};
 ghost use Rattle.xc_input.specs.Named.{IsName};

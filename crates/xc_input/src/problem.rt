@@ -8,10 +8,9 @@ ghost use Rattle.xc_input.specs.Problem.{item_count, option_count, IsItem, numbe
 ghost use Rattle.xc_input.specs.Problem.{IsSecondary, use_count, IsOption};
 ghost use Rattle.xc_input.specs.Limits.{greatest_bound, most_uses};
 ghost use Rattle.xc_input.specs.ItemBounds.{bounds_of, secondary_bounds};
-ghost use Rattle.xc_input.specs.inner.Vectors.{IsOptional, AreOptionStarts, named_from};
+ghost use Rattle.xc_input.specs.inner.Stored.{IsOptional, AreOptionStarts, named_from, key_names};
 ghost use Rattle.xc_input.specs.Named.{Named, AreColoursKnown, IsKnownUse, IsWellNamed, IsName, IsColour, IsSound};
 ghost use Rattle.xc_input.specs.Words.{place};
-ghost use Rattle.xc_input.specs.inner.Stored.{key_names};
 ghost use Rattle.indexmap.specs.IndexSet.{hasher_of};
 
 use crate::names::{NameSet, number_of_name};
@@ -71,8 +70,7 @@ pub struct Problem {
 impl Model for Problem {
     ghost use Rattle.std.specs.Prelude.{◌≡◌, ◌≤◌, length, map, drop, All};
     ghost use Rattle.xc_input.specs.Named.{Named, IsSound};
-    ghost use Rattle.xc_input.specs.inner.Vectors.{IsOptional, AreOptionStarts, named_from};
-    ghost use Rattle.xc_input.specs.inner.Stored.{key_names};
+    ghost use Rattle.xc_input.specs.inner.Stored.{IsOptional, AreOptionStarts, named_from, key_names};
     ghost use Rattle.indexmap.specs.IndexSet.{hasher_of};
 
     ghost Value = { Named };
@@ -219,7 +217,7 @@ impl Problem {
     }
 
     /// The bytes of the colour of this number.
-    #[tactic(auto, using(crate::proofs::OptionLemmas::FlatParts::flat_parts))]
+    #[tactic(auto, using(crate::proofs::TokenLemmas::flat_parts))]
     pub fn colour(&self, c: u32) -> &[u8]
         requires { (1 ≤ c) × (c ≤ length self.now.colours) }
         ensures { numbered_get self.now.colours c ≡ Some result.now }
@@ -240,7 +238,7 @@ impl Problem {
     }
 
     /// How many options there are.
-    #[tactic(auto, using(crate::proofs::OptionLemmas::FlatParts::flat_parts))]
+    #[tactic(auto, using(crate::proofs::TokenLemmas::flat_parts))]
     pub fn options(&self) -> u32
         ensures value { result ≡ option_count self.now.puzzle }
         ensures whole { IsSound self.now }
@@ -273,7 +271,7 @@ impl Problem {
     }
 
     /// How many uses all options have.
-    #[tactic(auto, using(crate::proofs::OptionLemmas::FlatParts::flat_parts))]
+    #[tactic(auto, using(crate::proofs::TokenLemmas::flat_parts))]
     pub fn uses(&self) -> usize
         ensures value { result ≡ use_count self.now.puzzle.options }
         ensures whole { IsSound self.now }

@@ -44,7 +44,7 @@ impl Model for Reader {
     ghost use Rattle.xc_input.specs.FirstFault.{line_number};
     ghost use Rattle.xc_input.specs.inner.Stages.{stage_of};
     ghost use Rattle.xc_input.specs.inner.Builders.{IsBuilder, stage_of_builder};
-    ghost use Rattle.xc_input.specs.inner.EndedLines.{AreWhole};
+    ghost use Rattle.xc_input.specs.inner.Feeding.{AreWhole};
     ghost use Rattle.std.specs.Prelude.{◌≡◌, length, MatchOption};
     ghost use Rattle.indexmap.specs.IndexSet.{hasher_of};
 

@@ -9,13 +9,11 @@
 ghost use Rattle.std.specs.Prelude.{◌≡◌, ◌++◌, ◌∷◌, ◌<◌, ◌≤◌, [], ℕ, List, length, take, drop, MatchOption, map, false};
 ghost use Rattle.std.specs.Prelude.{true, None, Some, OnOk, IfOk, IfSome};
 ghost use Rattle.xc_input.specs.Tokens.{is_space, tokens, parts, is_skipped};
-ghost use Rattle.xc_input.specs.inner.Fronts.{drop_white, word, StandsBefore};
+ghost use Rattle.xc_input.specs.inner.CutTokens.{drop_white, word, StandsBefore, IsCutToken, IsCutBehind, StandsFirst};
 ghost use Rattle.xc_input.specs.Words.{has, before, after, place, are_digits};
 ghost use Rattle.xc_input.specs.Limits.{most_uses};
 ghost use Rattle.xc_input.specs.inner.Builders.{AreNames, Judged};
-ghost use Rattle.xc_input.specs.inner.CutTokens.{IsCutToken, IsCutBehind, StandsFirst};
-ghost use Rattle.xc_input.specs.inner.GuessedWords.{AreWords};
-ghost use Rattle.xc_input.specs.inner.Stored.{key_names};
+ghost use Rattle.xc_input.specs.inner.Stored.{AreWords, key_names};
 
 use crate::guess::{Guesses, long_word, short_word};
 use crate::names::{NameSet, place_of};

@@ -12,8 +12,7 @@ ghost use Rattle.xc_input.specs.UsePlaces.{place_in};
 ghost use Rattle.xc_input.specs.Named.{IsKnownUse};
 ghost use Rattle.xc_list.specs.Texts.{Writes};
 ghost use Rattle.xc_list.specs.Output.{from_item};
-ghost use Rattle.xc_list.specs.inner.LineParts.{use_text};
-ghost use Rattle.xc_list.specs.inner.Layout.{AreLaid, ArePadded, first_item, uses_text};
+ghost use Rattle.xc_list.specs.inner.Writing.{use_text, AreLaid, ArePadded, first_item, uses_text};
 ghost use Rattle.xc_list.specs.declared.page.TheConstants.{PADDING, ROOM};
 
 use crate::page::{PADDING, ROOM, put_part};
@@ -145,7 +144,7 @@ fn items_of_first_uses(alloc: Global, problem: &Problem) -> Result<Vec<u32>, Mem
 }
 
 /// The texts of a problem's options, if there is memory for them.
-#[tactic(auto, using(std::proofs::Common::take_all, crate::proofs::OutputLemmas::LaidOptions::options_left, crate::proofs::Outputs::take_next))]
+#[tactic(auto, using(std::proofs::Common::take_all, crate::proofs::OutputLemmas::options_left, crate::proofs::Writing::take_next))]
 fn lay_out(alloc: Global, problem: &Problem) -> Result<Layout, Memory>
     ensures laid { IfOk result (λ l. ArePadded problem.now problem.now.puzzle.options l.texts.items l.starts.items) }
     ensures firsts { IfOk result (λ l. l.firsts.items ≡ map first_item problem.now.puzzle.options) }
@@ -227,7 +226,7 @@ fn put_cut(
 
 /// The text of an option, cut before an item's use.
 #[inline(always)]
-#[tactic(auto, using(crate::proofs::OutputLemmas::LaidOptions::cut_within, crate::proofs::OutputLemmas::LaidOptions::cut_gives))]
+#[tactic(auto, using(crate::proofs::OutputLemmas::cut_within, crate::proofs::OutputLemmas::cut_gives))]
 fn cut_text<'a>(problem: &Problem, layout: &'a Layout, item: u32, o: u32) -> (&'a [u8], &'a [u8])
     requires laid { ArePadded problem.now problem.now.puzzle.options layout.now.texts.items layout.now.starts.items }
     requires known { IsOption problem.now.puzzle o }
@@ -249,7 +248,7 @@ pub struct Bodies<'a> {
 impl<'a> Model for Bodies<'a> {
     ghost use Rattle.std.specs.Prelude.{◌≡◌, IfSome, map};
     ghost use Rattle.xc_input.specs.Named.{Named};
-    ghost use Rattle.xc_list.specs.inner.Layout.{ArePadded, first_item};
+    ghost use Rattle.xc_list.specs.inner.Writing.{ArePadded, first_item};
 
     ghost Value = { Named };
 
@@ -340,7 +339,7 @@ pub struct LaidOut<'b> {
 impl<'b> Model for LaidOut<'b> {
     ghost use Rattle.std.specs.Prelude.{◌≡◌, map};
     ghost use Rattle.xc_input.specs.Named.{Named};
-    ghost use Rattle.xc_list.specs.inner.Layout.{ArePadded, first_item};
+    ghost use Rattle.xc_list.specs.inner.Writing.{ArePadded, first_item};
 
     ghost Value = { Named };
 
@@ -356,7 +355,7 @@ impl<'b> LaidOut<'b> {
     /// Puts an option's uses on a page, cyclically from an item's; none where there is no room for them
     /// and a little more.
     #[inline(always)]
-    #[tactic(auto, using(crate::proofs::OutputLemmas::LaidOptions::first_read, crate::proofs::OutputLemmas::LaidOptions::from_first))]
+    #[tactic(auto, using(crate::proofs::OutputLemmas::first_read, crate::proofs::OutputLemmas::from_first))]
     pub fn put_option(&self, item: u32, o: u32, page: &mut [u8], at: usize) -> Option<usize>
         requires known { IsOption self.now.puzzle o }
         requires room { (at ≤ ROOM) × (length page.old ≡ ROOM) }

@@ -8,9 +8,8 @@ ghost use Rattle.std.specs.Prelude.{OnOk, IfOk, IfErr, IfSome, MatchResult};
 ghost use Rattle.xc_input.specs.Named.{IsSound};
 ghost use Rattle.xc_input.specs.Lines.{lines_of};
 ghost use Rattle.xc_list.specs.ListingLines.{words_in};
-ghost use Rattle.xc_list.specs.inner.ReadLines.{read, Header, Body};
+ghost use Rattle.xc_list.specs.inner.Listings.{read, Header, Body, IsClassOfLine};
 ghost use Rattle.xc_list.specs.inner.Classes.{IsClassOfBody};
-ghost use Rattle.xc_list.specs.inner.SeenLines.{IsClassOfLine};
 ghost use Rattle.xc_list.specs.Listed.{fault_in_lines, AreVerdicts, IsListingFault};
 ghost use Rattle.xc_list.specs.inner.Checking.{IsProgress, AreAllTaken, Closes, Takes, Refuses};
 ghost use Rattle.xc_list.specs.Output.{output};
@@ -85,10 +84,9 @@ struct Checker<'a> {
 
 impl<'a> Model for Checker<'a> {
     ghost use Rattle.std.specs.Prelude.{◌≡◌, ◌<◌, length, All};
-    ghost use Rattle.xc_list.specs.inner.Classes.{IsIndexed};
-    ghost use Rattle.xc_list.specs.inner.CoverCounts.{places_of};
+    ghost use Rattle.xc_list.specs.inner.Classes.{IsIndexed, places_of};
     ghost use Rattle.xc_list.specs.inner.Checking.{Progress};
-    ghost use Rattle.xc_list.specs.inner.SeenLines.{IsRightly};
+    ghost use Rattle.xc_list.specs.inner.Listings.{IsRightly};
 
     ghost Value = { Progress };
 
@@ -109,7 +107,7 @@ impl<'a> Model for Checker<'a> {
 
 impl<'a> Checker<'a> {
     /// No line of any listing is judged.
-    #[tactic(auto, using(crate::proofs::CheckLemmas::ListedSolutions::listed_solutions))]
+    #[tactic(auto, using(crate::proofs::CheckLemmas::listed_solutions))]
     fn new(alloc: Global, problem: &'a Problem, places: usize) -> Result<Checker<'a>, AllocError>
         ensures problem { IfOk result (λ s. s.options.problem ≡ problem.now) }
         ensures sound { IfOk result (λ s. IsSound s.options.problem) }
@@ -140,7 +138,7 @@ impl<'a> Checker<'a> {
         Ok(())
     }
 
-    #[tactic(auto, using(crate::proofs::CheckLemmas::CheckedLines::header_taken, crate::proofs::CheckLemmas::CheckedLines::progress))]
+    #[tactic(auto, using(crate::proofs::CheckLemmas::header_taken, crate::proofs::CheckLemmas::progress))]
     fn take_header(&mut self, number: u64) -> Result<(), AllocError>
         ensures options { self.new.options ≡ self.old.options }
         ensures takes { OnOk result (Takes (Header number) self.old self.new) }

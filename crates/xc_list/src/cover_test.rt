@@ -3,7 +3,7 @@ ghost use Rattle.std.specs.Prelude.{◌≡◌, ◌≢◌, ◌+◌, ◌<◌, ◌�
 ghost use Rattle.std.specs.List.{list_all};
 ghost use Rattle.xc_input.specs.Problem.{IsOption, IsPrimary, IsValid, colour_in, primary_count, uses_of};
 ghost use Rattle.xc_search.specs.Cover.{IsCover, times_held};
-ghost use Rattle.xc_list.specs.inner.Tested.{is_use_met, are_uses_met, do_agree, is_held_within};
+ghost use Rattle.xc_list.specs.inner.Classes.{is_use_met, are_uses_met, do_agree, is_held_within};
 
 use xc_input::{Problem, Use};
 

@@ -4,8 +4,8 @@ ghost use Rattle.xc_input.specs.Hashing.{folded, taken};
 ghost use Rattle.xc_input.specs.ItemBounds.{bounds_of};
 ghost use Rattle.xc_input.specs.Named.{IsSound};
 ghost use Rattle.xc_list.specs.Digests.{problem_numbers, length_first, digest_after, digest_of};
-ghost use Rattle.xc_list.specs.inner.DigestParts.{bounds_numbers, bytes_numbers, use_number, uses_numbers};
-ghost use Rattle.xc_list.specs.inner.DigestParts.{digest_multiplier, digest_start};
+ghost use Rattle.xc_list.specs.inner.Writing.{bounds_numbers, bytes_numbers, use_number, uses_numbers};
+ghost use Rattle.xc_list.specs.inner.Writing.{digest_multiplier, digest_start};
 
 use hex::encode_to_slice;
 use xc_input::{Item, Problem, Use};
@@ -108,7 +108,7 @@ fn after_options(state: u64, problem: &Problem) -> u64
 }
 
 /// The state after the numbers of a whole problem.
-#[tactic(auto, using(crate::proofs::DigestStates::after_parts))]
+#[tactic(auto, using(crate::proofs::ProblemTexts::after_parts))]
 fn after_problem(problem: &Problem) -> u64
     ensures state { result ≡ digest_after digest_start (problem_numbers problem.now) }
     ensures whole { IsSound problem.now }

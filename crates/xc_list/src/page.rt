@@ -5,7 +5,7 @@
 ghost use Rattle.std.specs.Prelude.{◌≡◌, ◌+◌, ◌<◌, ◌≤◌, [], ◌∷◌, ◌++◌, length, take, drop, decimal, codes};
 ghost use Rattle.std.specs.Prelude.{IfSome, true};
 ghost use Rattle.xc_input.specs.Named.{Named};
-ghost use Rattle.xc_list.specs.inner.Pages.{AreKept, held_text};
+ghost use Rattle.xc_list.specs.inner.Writing.{AreKept, held_text};
 ghost use Rattle.xc_list.specs.declared.page.TheConstants.{LINES, PADDING, ROOM};
 
 use itoa::write_digits;
@@ -137,7 +137,7 @@ pub struct Held {
 /// Puts a part of a text on a page. A short one is copied by one load and one store of `PADDING` bytes; the bytes
 /// after it are overwritten later.
 #[inline(always)]
-#[tactic(auto, using(crate::proofs::PageLemmas::short_put))]
+#[tactic(auto, using(crate::proofs::Writing::short_put))]
 pub fn put_part(page: &mut [u8], at: usize, text: &[u8], from: usize, count: usize)
     requires room { at + count + PADDING ≤ length page.old }
     requires padded { from + count + PADDING ≤ length text.now }

@@ -16,8 +16,7 @@ ghost use Rattle.std.specs.Prelude.{IfOk, IfSome, IsNone, MatchResult};
 ghost use Rattle.xc_list.specs.Texts.{Writes};
 ghost use Rattle.xc_input.specs.Problem.{IsItem};
 ghost use Rattle.xc_list.specs.Output.{bytes_at, body_text, choice_text, member_text};
-ghost use Rattle.xc_list.specs.inner.LineParts.{branch_text};
-ghost use Rattle.xc_list.specs.inner.Pages.{IsPut, held_text, AreKept, MatchMark, lines_end};
+ghost use Rattle.xc_list.specs.inner.Writing.{branch_text, IsPut, held_text, AreKept, MatchMark, lines_end};
 ghost use Rattle.xc_search.specs.Marks.{marked, IsMark};
 ghost use Rattle.xc_list.specs.Known.{IsKnownChoice};
 ghost use Rattle.xc_list.specs.declared.page.TheConstants.{LINES, PADDING, ROOM};
@@ -446,7 +445,7 @@ fn keep_lines<'a, D: Dance>(
 /// at once, and the lines that are on the page from the last solution are kept.
 // It takes the walk and not a `Solution`, which holds its address: out of line the compiler would then copy the walk
 // once more at each call of `pass`. So nothing that takes a `Solution` is out of line.
-#[tactic(auto, using(crate::proofs::PageLemmas::held_more, std::proofs::lemmas::Slice::between_is))]
+#[tactic(auto, using(crate::proofs::Writing::held_more, std::proofs::lemmas::Slice::between_is))]
 #[inline(always)]
 pub fn write_by_page<'a, D: Dance, S: Sink>(
     number: u64,

@@ -14,8 +14,7 @@ ghost use Rattle.xc_dance.specs.Linked.{dancing_of};
 ghost use Rattle.xc_list.specs.Output.{is_printed};
 ghost use Rattle.xc_list.specs.Known.{IsKnownChoice};
 ghost use Rattle.xc_list.specs.Runs.{IsRun, AnswersRun, RunMakesFew, solutions_found};
-ghost use Rattle.xc_list.specs.inner.Ends.{printed_text, WentTo};
-ghost use Rattle.xc_list.specs.inner.Pages.{AreKept};
+ghost use Rattle.xc_list.specs.inner.Writing.{printed_text, WentTo, AreKept};
 ghost use Rattle.xc_dance.specs.Same.{IsSame};
 
 use crate::bodies::Bodies;

@@ -15,9 +15,9 @@ ghost use Rattle.xc_list.specs.Digests.{digest_of};
 ghost use Rattle.xc_list.specs.SearchedSpans.{AreSmall};
 ghost use Rattle.xc_list.specs.SpanWords.{asked_of};
 ghost use Rattle.xc_list.specs.SpanRuns.{most_steps, OfSpan, AnswersSpan, SpanMakesFew};
-ghost use Rattle.xc_list.specs.inner.SpanSteps.{dotted, numbers_text, text_at, row_in, branches_in, until_text};
-ghost use Rattle.xc_list.specs.inner.SpanSteps.{counts_text, rows_text, told_text, WentOn, BeginsAt, written_text};
-ghost use Rattle.xc_list.specs.inner.SpanSteps.{GoesFew, SpanWritten};
+ghost use Rattle.xc_list.specs.inner.Writing.{dotted, numbers_text, text_at, row_in, branches_in, until_text};
+ghost use Rattle.xc_list.specs.inner.Writing.{counts_text, rows_text, told_text, WentOn, BeginsAt, written_text};
+ghost use Rattle.xc_list.specs.inner.Writing.{GoesFew, SpanWritten};
 
 use crate::bodies::Bodies;
 use crate::digest::problem_digest;

@@ -24,7 +24,7 @@ pub enum WordFault {
 }
 
 /// The number that is here in decimal.
-#[tactic(auto, using(crate::proofs::Digits::too_large))]
+#[tactic(auto, using(crate::proofs::Writing::too_large))]
 pub(crate) fn long_number(bytes: &[u8]) -> Option<u64>
     ensures { result ≡ long_number bytes.now }
 {
@@ -79,7 +79,7 @@ impl Default for Words {
 
 impl Words {
     /// What the words mean, or the first faulty one.
-    #[tactic(auto, using(crate::proofs::WordLemmas::in_turn))]
+    #[tactic(auto, using(crate::proofs::Writing::in_turn))]
     pub fn read(words: &[Vec<u8>]) -> Result<Words, WordFault>
         ensures { result ≡ read_words (map (λ w. w.items) words.now) }
     {

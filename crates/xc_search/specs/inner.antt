@@ -1,10 +1,3 @@
 pub mod Ahead
-pub mod Commits
-pub mod Due
 pub mod Levels
-pub mod MostLevels
-pub mod Paths
-pub mod Residual
-pub mod Sparing
-pub mod Sizes
 pub mod Spanning

@@ -1,7 +1,7 @@
 //! How many levels a search has at most.
 ghost use Rattle.std.specs.Prelude.{◌≡◌, ◌<◌, true};
 ghost use Rattle.xc_input.specs.Problem.{IsValid};
-ghost use Rattle.xc_search.specs.inner.MostLevels.{high_total, most_levels, primary_uses, IsOnce, IsEven};
+ghost use Rattle.xc_search.specs.inner.Levels.{high_total, most_levels, primary_uses, IsOnce, IsEven};
 
 use xc_input::{Problem, Use};
 

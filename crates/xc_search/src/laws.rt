@@ -18,7 +18,7 @@ use crate::search::Step;
 use crate::span::{Halt, RowNumber, Went};
 
 /// The listing is one level over itself.
-#[tactic(auto, using(crate::proofs::listing::Unrolled::listing_unrolled))]
+#[tactic(auto, using(crate::proofs::ListingLemmas::listing_unrolled))]
 pub fn listing_unrolls()
     ensures { (r : Residual) → listing r ≡ level listing (branch_item r) r }
 {}
@@ -29,7 +29,7 @@ pub fn each_member_covers()
 {}
 
 /// Each cover of a valid problem is the set of options of a member of its listing.
-#[tactic(auto, using(crate::proofs::completeness::Covering::each_cover_is_listed))]
+#[tactic(auto, using(crate::proofs::Completeness::each_cover_is_listed))]
 pub fn each_cover_is_listed()
     ensures { (p : Puzzle) (s : List ℕ) → IsValid p → IsCover p s → (k : ℕ) × HasSetAt p k s }
 {}
@@ -40,13 +40,13 @@ pub fn no_set_twice()
 {}
 
 /// Each cover of a valid problem is the set of options of exactly one member of its listing.
-#[tactic(auto, using(crate::proofs::completeness::Exactly::each_cover_is_listed_once))]
+#[tactic(auto, using(crate::proofs::Completeness::each_cover_is_listed_once))]
 pub fn each_cover_is_listed_once()
     ensures { (p : Puzzle) → IsValid p → EachCoverIsListedOnce p }
 {}
 
 /// As many of the ends of a search's tree are solutions as the listing has members.
-#[tactic(auto, using(crate::proofs::ends::Tree::solutions_counted, crate::proofs::ends::Tree::as_many_solutions))]
+#[tactic(auto, using(crate::proofs::EndLemmas::solutions_counted, crate::proofs::EndLemmas::as_many_solutions))]
 pub fn solutions_are_members()
     ensures { (r : Residual) → count_by (λ e. e) (ends r) ≡ length (listing r) }
 {}
@@ -97,20 +97,20 @@ pub fn clones()
 {}
 
 /// The members of a listing are in the order of their rows.
-#[tactic(auto, using(crate::proofs::spans::Rising::members_rise))]
+#[tactic(auto, using(crate::proofs::RowLemmas::members_rise))]
 pub fn rows_rise()
     ensures { (p : Puzzle) → AllPairs (λ a b. precedes (row_of a) (row_of b) ≡ true) (members p) }
 {}
 
 /// Two spans whose ends meet are one span.
-#[tactic(auto, using(crate::proofs::spans::Rising::spans_meet))]
+#[tactic(auto, using(crate::proofs::RowLemmas::spans_meet))]
 pub fn spans_meet()
     ensures { (p : Puzzle) (a b : List ℕ) (until : Option (List ℕ)) → precedes b a ≡ false →
         IfSome until (λ u. precedes u b ≡ false) → between p a (Some b) ++ between p b until ≡ between p a until }
 {}
 
 /// Rows that rise, from the empty row to the end, cut the listing into spans that in turn are all of its members.
-#[tactic(auto, using(crate::proofs::spans::Rising::spans_join))]
+#[tactic(auto, using(crate::proofs::RowLemmas::spans_join))]
 pub fn spans_join()
     ensures { (p : Puzzle) (rows : List (List ℕ)) → RowsRise [] rows → spans_from p [] rows ≡ members p }
 {}
@@ -120,7 +120,7 @@ pub fn spans_join()
 /// So searches of spans that each begin at the row where the last one halted, with a member and a step to go, come to
 /// the end: `Span::new` is at no row before the one that it was asked for, and `Span::go_on` ends or is at a later one
 /// of the tree (`row`, `later`, `node`).
-#[tactic(auto, using(crate::proofs::spans::Ranks::rows_end))]
+#[tactic(auto, using(crate::proofs::RowLemmas::rows_end))]
 pub fn rows_come_to_an_end()
     ensures { (p : Puzzle) (from : List ℕ) (rows : List (List ℕ)) → IsRowOf (whole p) from → RowsGoOn p from rows →
         length rows < row_count (whole p) }

@@ -18,19 +18,15 @@ ghost use Rattle.std.specs.Prelude.{◌≡◌, ◌+◌, ◌-◌, ◌<◌, ◌≤
 ghost use Rattle.std.specs.Prelude.{None, Bool, ℕ, Option, option_map, IfSome, IsNone, IsSome};
 ghost use Rattle.xc_input.specs.Problem.{Puzzle};
 ghost use Rattle.xc_dance.specs.Dancing.{moves_made};
-ghost use Rattle.xc_search.specs.inner.MostLevels.{most_levels};
-ghost use Rattle.xc_search.specs.inner.Levels.{AreStacked, IsNext, IsSearchable, IsStanding, IsEntered, begun_level};
-ghost use Rattle.xc_search.specs.inner.Levels.{AreAllWanted, IsEarlyChoice};
-ghost use Rattle.xc_search.specs.inner.Due.{Pays};
-ghost use Rattle.xc_search.specs.inner.Commits.{oldest};
-ghost use Rattle.xc_search.specs.inner.Ahead.{EntersBranch, IsDone, IsSolved, branched};
+ghost use Rattle.xc_search.specs.inner.Levels.{most_levels, AreStacked, IsNext, IsSearchable, IsStanding, IsEntered};
+ghost use Rattle.xc_search.specs.inner.Levels.{begun_level, AreAllWanted, IsEarlyChoice, oldest, residual_of};
+ghost use Rattle.xc_search.specs.inner.Ahead.{Pays, EntersBranch, IsDone, IsSolved, branched, KeepsBy, IsChosenBy};
+ghost use Rattle.xc_search.specs.inner.Ahead.{AreLater};
 ghost use Rattle.xc_search.specs.inner.Spanning.{Enters, Ends, Falls, IsRest, IsSeenBy, LeavesOut, RunsTo, row_at};
 ghost use Rattle.xc_search.specs.Listing.{listing};
 ghost use Rattle.xc_search.specs.Room.{room_for};
 ghost use Rattle.xc_search.specs.Spans.{is_before, precedes};
-ghost use Rattle.xc_search.specs.inner.Residual.{residual_of};
 ghost use Rattle.xc_search.specs.Residuals.{choice_after, wanted_after};
-ghost use Rattle.xc_search.specs.inner.Paths.{KeepsBy, IsChosenBy, AreLater};
 
 use crate::level::{Begun, Level, begin_level};
 use crate::position::Position;
@@ -115,7 +111,7 @@ fn deepen<D: Dance, const WAY: bool>(
 }
 
 /// Ends a level, the newest one.
-#[tactic(auto, using(crate::proofs::stacked::LoopSteps::ended_level, crate::proofs::stacked::BackAtLevel::ends_tweaks))]
+#[tactic(auto, using(crate::proofs::LoopSteps::ended_level, crate::proofs::LoopSteps::ends_tweaks))]
 fn end_level<D: Dance, const WAY: bool>(position: &mut Position<D>, level: &Level)
     requires stacked { (p : Puzzle) × (ls : List Level) × AreStacked p position.old.trail (level.now ∷ ls) }
     ensures { position.new ≡ record position.old {
@@ -141,7 +137,7 @@ fn number_after(k: u32, many: u32) -> u32
 }
 
 /// Enters the next branch of a level, the newest one, which has another.
-#[tactic(auto, using(crate::proofs::stacked::LoopSteps::back_at))]
+#[tactic(auto, using(crate::proofs::LoopSteps::back_at))]
 fn enter_next<D: Dance, const WAY: bool>(position: &mut Position<D>, level: &Level) -> Begun
     requires stacked { (ls : List Level) × AreStacked position.old.puzzle position.old.trail (level.now ∷ ls) }
     requires more { level.now.begun < level.now.count }

@@ -2,10 +2,8 @@
 ghost use Rattle.std.specs.Prelude.{◌≡◌, ◌<◌, ◌≤◌, length, true, IfSome, ◌^◌};
 ghost use Rattle.xc_search.specs.Residuals.{wanted_after, choice_after};
 ghost use Rattle.xc_search.specs.Room.{room_for};
-ghost use Rattle.xc_search.specs.inner.Levels.{AreAllWanted, IsEarlyChoice, IsSearchable};
+ghost use Rattle.xc_search.specs.inner.Levels.{AreAllWanted, IsEarlyChoice, IsSearchable, residual_of, IsOnce};
 ghost use Rattle.xc_search.specs.Listing.{listing};
-ghost use Rattle.xc_search.specs.inner.Residual.{residual_of};
-ghost use Rattle.xc_search.specs.inner.MostLevels.{IsOnce};
 
 mod branches;
 mod moves;
@@ -32,7 +30,7 @@ impl<'a, D: Dance> Model for Position<'a, D> {
     ghost use Rattle.std.specs.Prelude.{◌≡◌, ◌<◌, ◌≤◌, true};
     ghost use Rattle.xc_dance.specs.Dancing.{Dancing};
     ghost use Rattle.xc_search.specs.Room.{room_for};
-    ghost use Rattle.xc_search.specs.inner.MostLevels.{IsOnce, IsEven};
+    ghost use Rattle.xc_search.specs.inner.Levels.{IsOnce, IsEven};
 
     ghost Value = { Dancing };
 

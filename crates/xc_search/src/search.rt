@@ -40,7 +40,7 @@ pub struct Search<'a, D: Dance> {
 impl<'a, D: Dance> Model for Search<'a, D> {
     ghost use Rattle.std.specs.Prelude.{◌≡◌, vec_capacity};
     ghost use Rattle.xc_search.specs.Outlook.{Outlook};
-    ghost use Rattle.xc_search.specs.inner.MostLevels.{most_levels};
+    ghost use Rattle.xc_search.specs.inner.Levels.{most_levels};
 
     ghost Value = { Outlook };
 
@@ -107,7 +107,7 @@ impl<'a, D: Dance> Search<'a, D> {
 
     /// Goes on by so many solutions, or over all where fewer are left, and returns by how many.
     /// `choices` then returns those of the last one; none where fewer were left.
-    #[tactic(auto, using(crate::proofs::stacked::PassedOver::shown_past, std::proofs::lemmas::Grind::common_steps, crate::proofs::stacked::PassedOver::search_over))]
+    #[tactic(auto, using(crate::proofs::LoopSteps::shown_past, std::proofs::lemmas::Grind::common_steps, crate::proofs::LoopSteps::search_over))]
     pub fn pass(&mut self, many: u64) -> u64
         ensures went { self.new ≡ record self.old {
           to_come = drop many self.old.to_come;

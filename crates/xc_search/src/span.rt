@@ -104,10 +104,8 @@ impl<'a, D: Dance> Model for Span<'a, D> {
     ghost use Rattle.xc_search.specs.InSpan.{InSpan};
     ghost use Rattle.xc_dance.specs.Dancing.{moves_made};
     ghost use Rattle.xc_search.specs.Spans.{is_before};
-    ghost use Rattle.xc_search.specs.inner.Ahead.{IsSolved};
-    ghost use Rattle.xc_search.specs.inner.MostLevels.{most_levels};
-    ghost use Rattle.xc_search.specs.inner.Levels.{AreStacked, IsStanding};
-    ghost use Rattle.xc_search.specs.inner.Paths.{AreLed};
+    ghost use Rattle.xc_search.specs.inner.Ahead.{IsSolved, AreLed};
+    ghost use Rattle.xc_search.specs.inner.Levels.{most_levels, AreStacked, IsStanding};
     ghost use Rattle.xc_search.specs.inner.Spanning.{row_at, row_from};
 
     ghost Value = { InSpan };

@@ -15,10 +15,9 @@
 ghost use Rattle.std.specs.Prelude.{◌≡◌, ◌<◌, ◌≤◌, ℕ, Option, [], true, false, not};
 ghost use Rattle.std.specs.Prelude.{map, length, option_map, IsSome, Some, vec_capacity};
 ghost use Rattle.xc_search.specs.Spans.{is_before};
-ghost use Rattle.xc_search.specs.inner.MostLevels.{most_levels};
+ghost use Rattle.xc_search.specs.inner.Levels.{most_levels, AreAllWanted, IsStanding};
 ghost use Rattle.xc_search.specs.Residuals.{choice_after, wanted_after};
-ghost use Rattle.xc_search.specs.inner.Levels.{AreAllWanted, IsStanding};
-ghost use Rattle.xc_search.specs.inner.Paths.{AreLed, AreLedBy};
+ghost use Rattle.xc_search.specs.inner.Ahead.{AreLed, AreLedBy};
 ghost use Rattle.xc_search.specs.inner.Spanning.{CanGoTo, CanRun, Reaches, Runs, RanTo, Settles};
 
 use crate::level::Level;

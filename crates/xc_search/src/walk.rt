@@ -18,8 +18,7 @@ ghost use Rattle.xc_search.specs.Listing.{whole};
 ghost use Rattle.xc_search.specs.Ends.{ends, ends_after};
 ghost use Rattle.xc_search.specs.Room.{room_for};
 ghost use Rattle.xc_search.specs.Cover.{members, EachMemberCovers, EachCoverIsListedOnce};
-ghost use Rattle.xc_search.specs.inner.MostLevels.{most_levels};
-ghost use Rattle.xc_search.specs.inner.Levels.{coming, choices_of, IsStanding};
+ghost use Rattle.xc_search.specs.inner.Levels.{most_levels, coming, choices_of, IsStanding};
 
 use crate::choice::Choice;
 use crate::counts::most_levels;
@@ -60,10 +59,8 @@ impl<'a, D: Dance> Model for Walk<'a, D> {
     ghost use Rattle.std.specs.Prelude.{◌≡◌, ◌≢◌, ◌<◌, [], false};
     ghost use Rattle.xc_search.specs.Outlook.{Outlook};
     ghost use Rattle.xc_dance.specs.Dancing.{moves_made};
-    ghost use Rattle.xc_search.specs.inner.Ahead.{IsSolved};
-    ghost use Rattle.xc_search.specs.inner.Due.{ends_ahead};
-    ghost use Rattle.xc_search.specs.inner.MostLevels.{most_levels};
-    ghost use Rattle.xc_search.specs.inner.Levels.{choices_of, coming, IsStanding};
+    ghost use Rattle.xc_search.specs.inner.Ahead.{IsSolved, ends_ahead};
+    ghost use Rattle.xc_search.specs.inner.Levels.{most_levels, choices_of, coming, IsStanding};
 
     ghost Value = { Outlook };
 
@@ -148,7 +145,7 @@ impl<'a, D: Dance> Walk<'a, D> {
     }
 
     /// Puts the choices of `solution` in the place of those in `shown`.
-    #[tactic(auto, using(crate::proofs::stacked::ShownLevels::all_shown))]
+    #[tactic(auto, using(crate::proofs::BranchLemmas::all_shown))]
     pub(crate) fn show(&self, shown: &mut Vec<Choice>)
         requires { most_levels self.now.puzzle ≤ vec_capacity shown.old }
         ensures items { shown.new.items ≡ self.now.shown }
@@ -241,10 +238,8 @@ impl<'w, 'a, D: Dance> Solution<'w, 'a, D> {
 }
 
 impl<'a, D: Dance> Standing<'a, D> {
-    ghost use Rattle.xc_search.specs.inner.Ahead.{WentBy, IsSolved};
-    ghost use Rattle.xc_search.specs.inner.Due.{PaysFor};
-    ghost use Rattle.xc_search.specs.inner.Levels.{IsStanding};
-    ghost use Rattle.xc_search.specs.inner.MostLevels.{most_levels};
+    ghost use Rattle.xc_search.specs.inner.Ahead.{WentBy, IsSolved, PaysFor};
+    ghost use Rattle.xc_search.specs.inner.Levels.{IsStanding, most_levels};
 
     /// Whether no level is left, and what is left was searched.
     #[inline(always)]

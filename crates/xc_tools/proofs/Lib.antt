@@ -1,8 +1,7 @@
-pub mod JoinLemmas
-pub mod JudgeLemmas
-pub mod NameLemmas
 pub mod RunLemmas
-pub mod SpanEnds
-pub mod StreamLemmas
-pub mod WordLemmas
-pub mod WrittenTexts
+pub mod SpanWords
+pub mod SpanLines
+pub mod Chains
+pub mod TakenLines
+pub mod ReadTexts
+pub mod Stopped

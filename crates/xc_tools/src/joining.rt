@@ -10,7 +10,7 @@ ghost use Rattle.xc_list.specs.declared.runs.End.TheVariants.{Done, Limit};
 ghost use Rattle.xc_input.specs.Pieces.{GaveAll};
 ghost use Rattle.xc_input.specs.LinesRead.{IsLine};
 ghost use Rattle.xc_input.specs.Words.{has};
-ghost use Rattle.xc_input.specs.inner.EndedLines.{ended};
+ghost use Rattle.xc_input.specs.inner.Feeding.{ended};
 ghost use Rattle.xc_list.specs.Texts.{seen, Took, WasTold, Writes};
 ghost use Rattle.xc_tools.specs.Joins.{asked_join, gap_text, at_line, no_text, other_text, unread_text, DidJoin};
 ghost use Rattle.xc_tools.specs.Joins.{DidJoinWords};
@@ -18,7 +18,7 @@ ghost use Rattle.xc_tools.specs.WholeRuns.{sinks};
 ghost use Rattle.xc_tools.specs.declared.joining.Stop.TheVariants.{Memory, WriteFailed};
 ghost use Rattle.xc_tools.specs.inner.Joining.{joined_text, fed_lines, stop_of, Adds, EndsAt, IsAfter, JoinsAll};
 ghost use Rattle.xc_tools.specs.inner.Joining.{StopsIn, unread_stop};
-ghost use Rattle.xc_tools.specs.inner.Flushes.{FlushFailed, WasFlushed};
+ghost use Rattle.xc_tools.specs.inner.Streams.{FlushFailed, WasFlushed};
 ghost use Rattle.xc_tools.specs.inner.Joining.{StopsReading, ToldStop};
 ghost use Rattle.xc_tools.specs.inner.SpanLines.{act_text};
 

@@ -1,7 +1,7 @@
 //! Rows of solutions that rise, each compared while it is read.
 ghost use Rattle.std.specs.Prelude.{◌≡◌, IfOk};
 ghost use Rattle.xc_search.specs.Spans.{precedes};
-ghost use Rattle.xc_tools.specs.inner.RisingRows.{ends_before, has_risen, risen, TakesNumber};
+ghost use Rattle.xc_tools.specs.inner.SpanLines.{ends_before, has_risen, risen, TakesNumber};
 
 use std::alloc::AllocError;
 

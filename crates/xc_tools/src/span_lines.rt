@@ -4,9 +4,8 @@ ghost use Rattle.std.specs.Prelude.{option_map};
 ghost use Rattle.std.specs.Str.{byte, bytes_eq};
 ghost use Rattle.xc_list.specs.ListingLines.{before_last, words_in};
 ghost use Rattle.xc_tools.specs.inner.SpanLines.{act_text, begins_with, by_choice, by_header, by_heading, by_last};
-ghost use Rattle.xc_tools.specs.inner.SpanLines.{by_line};
-ghost use Rattle.xc_tools.specs.inner.SpanLines.{by_record, closed, ends_well, inside, is_header};
-ghost use Rattle.xc_tools.specs.inner.SpanLines.{goes, join_of, meets, start, KeepsProblem, TakesLine, Unmet};
+ghost use Rattle.xc_tools.specs.inner.SpanLines.{by_line, by_record, closed, ends_well, inside, is_header, goes};
+ghost use Rattle.xc_tools.specs.inner.SpanLines.{join_of, meets, start, KeepsProblem, TakesLine, Unmet};
 ghost use Rattle.xc_tools.specs.declared.span_lines.Refusal.TheVariants.{Memory};
 ghost use Rattle.xc_tools.specs.declared.span_lines.Act.TheVariants.{Nothing};
 

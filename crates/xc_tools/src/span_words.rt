@@ -5,10 +5,9 @@ ghost use Rattle.std.specs.List.{list_all, slice_split};
 ghost use Rattle.std.specs.Str.{byte, bytes_eq};
 ghost use Rattle.xc_list.specs.ListingLines.{words_in};
 ghost use Rattle.xc_tools.specs.SpanShapes.{is_digest, is_hex};
-ghost use Rattle.xc_tools.specs.inner.SpanWords.{are_counts, are_ends, begins, is_problem, row_parts};
-ghost use Rattle.xc_tools.specs.inner.SpanWords.{counted_of, counts_of, heading_of, is_number, is_row};
-ghost use Rattle.xc_tools.specs.inner.SpanWords.{headed_of, numbers_in, record_of, recorded_counts, saturating_number};
-ghost use Rattle.xc_tools.specs.inner.SpanWords.{told_of};
+ghost use Rattle.xc_tools.specs.inner.SpanLines.{are_counts, are_ends, begins, is_problem, row_parts, counted_of};
+ghost use Rattle.xc_tools.specs.inner.SpanLines.{counts_of, heading_of, is_number, is_row, headed_of, numbers_in};
+ghost use Rattle.xc_tools.specs.inner.SpanLines.{record_of, recorded_counts, saturating_number, told_of};
 
 use itoa::Buffer;
 use std::alloc::{AllocError, Global};

@@ -3,7 +3,7 @@ ghost use Rattle.std.specs.Prelude.{◌≡◌, ◌⊎◌, ◌+◌, IfErr, IsTrue
 ghost use Rattle.std.specs.Io.KnownBytes.{Keeps};
 ghost use Rattle.xc_input.specs.Calls.{Rose};
 ghost use Rattle.xc_list.specs.Texts.{WasTold};
-ghost use Rattle.xc_tools.specs.inner.Flushes.{FlushFailed, WasFlushed};
+ghost use Rattle.xc_tools.specs.inner.Streams.{FlushFailed, WasFlushed};
 
 use xc_list::{Sink, write_all};
 

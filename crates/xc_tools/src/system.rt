@@ -5,7 +5,7 @@
 ghost use Rattle.std.specs.Prelude.{◌≡◌, ◌≤◌, ℕ, List, Option, length, IfOk};
 ghost use Rattle.std.specs.Io.KnownBytes.{Keeps, ReadConsumes, WriteAppends};
 ghost use Rattle.xc_tools.specs.Streams.{Asked, answered, calls_of, flushed, write_answer, answer_of};
-ghost use Rattle.xc_tools.specs.inner.TakenAnswers.{taken_answer};
+ghost use Rattle.xc_tools.specs.inner.Streams.{taken_answer};
 ghost use Rattle.xc_tools.specs.declared.system.Answer.{Answer};
 ghost use Rattle.xc_tools.specs.declared.system.Answer.TheVariants.{Whole, Flushed};
 

@@ -6,7 +6,7 @@ ghost use Rattle.std.specs.Prelude.{◌≡◌, ℕ, ◌-◌, ◌<◌, ◌∷◌,
 ghost use Rattle.xc_input.specs.Problem.{IsPrimary, IsSecondary, high_at};
 ghost use Rattle.xc_dance.specs.Commits.{CanStand, IsUseAt, after_spend, after_use, after_uses};
 ghost use Rattle.xc_dance.specs.Cost.{HasWritten};
-ghost use Rattle.xc_dance.specs.inner.Links.UseNodes.{uses_behind, uses_before};
+ghost use Rattle.xc_dance.specs.inner.Tables.{uses_behind, uses_before};
 ghost use Rattle.xc_dance.specs.Fields.{layout, spacer_place, used};
 ghost use Rattle.xc_dance.specs.Moves.{is_open, spends};
 ghost use Rattle.xc_input.specs.declared.problem.Use.{Use};

@@ -2,15 +2,14 @@
 ghost use Rattle.std.specs.Prelude.{◌≡◌, ◌≤◌, ◌+◌, [], IfOk};
 ghost use Rattle.xc_input.specs.Problem.{IsValid, IsWithinLimits, IsPrimary, item_count, primary_count, high_at};
 ghost use Rattle.xc_input.specs.Problem.{low_at};
-ghost use Rattle.xc_dance.specs.inner.Links.ItemCells.{llink_at, rlink_at, items_after};
-ghost use Rattle.xc_dance.specs.inner.Links.FirstItems.{linked_to, bound_to};
+ghost use Rattle.xc_dance.specs.inner.Tables.{llink_at, rlink_at, items_after, linked_to, bound_to};
 
 use crate::links::cells::Items;
 use std::alloc::{AllocError, Global};
 use xc_input::Problem;
 
 /// The item table before any move.
-#[tactic(auto, using(crate::proofs::LinkedTables::Laid::FirstTables::item_columns))]
+#[tactic(auto, using(crate::proofs::WholeTables::item_columns))]
 pub(crate) fn first_items(alloc: Global, problem: &Problem) -> Result<Items, AllocError>
     requires { IsValid problem.now.puzzle }
     ensures { IfOk result (λ t. t.cells ≡ items_after problem.now.puzzle []) }
@@ -22,7 +21,7 @@ pub(crate) fn first_items(alloc: Global, problem: &Problem) -> Result<Items, All
 }
 
 /// Links the items with their rings' heads.
-#[tactic(auto, using(crate::proofs::LinkedTables::Laid::FirstTables::item_columns))]
+#[tactic(auto, using(crate::proofs::WholeTables::item_columns))]
 fn link_rings(items: &mut Items, problem: &Problem)
     requires { items.old.cells ≡ linked_to problem.now.puzzle 0 }
     ensures { items.new.cells ≡ linked_to problem.now.puzzle (item_count problem.now.puzzle + 2) }
@@ -45,7 +44,7 @@ fn set_bounds(items: &mut Items, problem: &Problem)
 }
 
 /// The left neighbour at a place of the item table.
-#[tactic(auto, using(std::proofs::lemmas::Grind::common_steps, crate::proofs::LinkedTables::Laid::FirstTables::left_is))]
+#[tactic(auto, using(std::proofs::lemmas::Grind::common_steps, crate::proofs::WholeTables::left_is))]
 fn first_left(problem: &Problem, i: u32) -> u32
     requires { i ≤ item_count problem.now.puzzle + 1 }
     ensures { result ≡ llink_at problem.now.puzzle [] i }
@@ -60,7 +59,7 @@ fn first_left(problem: &Problem, i: u32) -> u32
 }
 
 /// The right neighbour at a place of the item table.
-#[tactic(auto, using(std::proofs::lemmas::Grind::common_steps, crate::proofs::LinkedTables::Laid::FirstTables::right_is))]
+#[tactic(auto, using(std::proofs::lemmas::Grind::common_steps, crate::proofs::WholeTables::right_is))]
 fn first_right(problem: &Problem, i: u32) -> u32
     requires { i ≤ item_count problem.now.puzzle + 1 }
     ensures { result ≡ rlink_at problem.now.puzzle [] i }

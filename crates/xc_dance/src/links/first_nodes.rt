@@ -2,10 +2,9 @@
 ghost use Rattle.std.specs.Prelude.{◌≡◌, ◌+◌, ◌≤◌, ◌<◌, [], length, IfOk};
 ghost use Rattle.xc_input.specs.Problem.{IsWithinLimits, item_count, option_count};
 ghost use Rattle.xc_dance.specs.Fields.{layout, spacer};
-ghost use Rattle.xc_dance.specs.inner.Links.Laid.{IsFit};
-ghost use Rattle.xc_dance.specs.inner.Links.Cells.{fixed_up, fixed_down, nodes_from, nodes_after, color_in};
+ghost use Rattle.xc_dance.specs.inner.Tables.{IsFit, fixed_up, fixed_down, nodes_from, nodes_after, color_in, laid_to};
+ghost use Rattle.xc_dance.specs.inner.Tables.{blanks};
 ghost use Rattle.xc_dance.specs.Fields.{spacer_place};
-ghost use Rattle.xc_dance.specs.inner.Links.FirstNodes.{laid_to, blanks};
 
 use crate::links::cells::{Nodes, SPACER};
 use crate::links::node_counts::node_count;
@@ -46,7 +45,7 @@ fn lay_items(rows: &mut Rows, problem: &Problem)
 
 /// Lays the options' nodes and the spacers round them. A use's node leads to its item's own node
 /// alone.
-#[tactic(auto, using(crate::proofs::LinkedTables::Laid::FirstTables::spacer_above))]
+#[tactic(auto, using(crate::proofs::WholeTables::spacer_above))]
 fn lay_options(rows: &mut Rows, problem: &Problem)
     requires limits { IsWithinLimits problem.now.puzzle }
     requires before { rows.old ≡ laid_to problem.now.puzzle (item_count problem.now.puzzle + 1) }
@@ -83,7 +82,7 @@ fn lay_spacer(rows: &mut Rows, problem: &Problem, o: u32, place: u32, above: u32
 }
 
 /// The last node of the option after the spacer after option `o`; 0 if there is none.
-#[tactic(auto, using(crate::proofs::LinkedTables::Laid::FirstTables::spacer_below))]
+#[tactic(auto, using(crate::proofs::WholeTables::spacer_below))]
 fn last_node(problem: &Problem, o: u32, place: u32) -> u32
     requires limits { IsWithinLimits problem.now.puzzle }
     requires option { o ≤ option_count problem.now.puzzle }

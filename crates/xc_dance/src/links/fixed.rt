@@ -2,10 +2,8 @@
 ghost use Rattle.std.specs.Prelude.{◌≡◌, false, ◌-◌, ◌≤◌, ◌↔◌, IsTrue, IfOk};
 ghost use Rattle.xc_input.specs.Problem.{IsValid, IsWithinLimits, IsItem, IsPrimary, IsSecondary, item_count};
 ghost use Rattle.xc_input.specs.Problem.{primary_count, IsOption};
-ghost use Rattle.xc_dance.specs.inner.Links.Laid.{IsFit};
-ghost use Rattle.xc_dance.specs.inner.Links.OptionPlaces.{start_at};
-ghost use Rattle.xc_dance.specs.inner.Links.OptionSpans.{spans_of};
-ghost use Rattle.xc_dance.specs.inner.Links.Unmarked.{IsPlain};
+ghost use Rattle.xc_dance.specs.inner.Tables.{IsFit, start_at, spans_of};
+ghost use Rattle.xc_dance.specs.inner.Walks.{IsPlain};
 
 use crate::links::node_counts::option_starts;
 use crate::links::spans::Spans;
@@ -30,9 +28,8 @@ pub(crate) struct Fixed {
 impl Model for Fixed {
     ghost use Rattle.std.specs.Prelude.{◌≡◌, false};
     ghost use Rattle.xc_input.specs.Problem.{Puzzle, item_count, primary_count};
-    ghost use Rattle.xc_dance.specs.inner.Links.OptionPlaces.{starts_of};
-    ghost use Rattle.xc_dance.specs.inner.Links.OptionSpans.{spans_of};
-    ghost use Rattle.xc_dance.specs.inner.Links.Unmarked.{IsPlain};
+    ghost use Rattle.xc_dance.specs.inner.Tables.{starts_of, spans_of};
+    ghost use Rattle.xc_dance.specs.inner.Walks.{IsPlain};
 
     ghost Value = { Puzzle };
 
@@ -48,7 +45,7 @@ impl Model for Fixed {
 }
 
 impl Fixed {
-    #[tactic(auto, using(crate::proofs::LinkedTables::Laid::FittedLemmas::known_fit))]
+    #[tactic(auto, using(crate::proofs::PlaceLemmas::known_fit))]
     pub(crate) fn new(alloc: Global, problem: &Problem) -> Result<Fixed, AllocError>
         ensures value { IfOk result (λ f. f ≡ problem.now.puzzle) }
         ensures valid { IsValid problem.now.puzzle }

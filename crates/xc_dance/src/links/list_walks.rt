@@ -4,13 +4,10 @@
 //! Cover and Purify have one walk, by which colour is kept, if any. It goes by the list's length: 2 % more instructions
 //! than a walk that ends at the item's own node, as in Knuth's programs, and no more time.
 ghost use Rattle.std.specs.Prelude.{◌≡◌, ℕ, ◌+◌, ◌-◌, ◌*◌, ◌<◌, ◌≤◌, ◌^◌, length, slice_index, fold, None, false};
-ghost use Rattle.xc_dance.specs.inner.Links.Columns.{values};
-ghost use Rattle.xc_dance.specs.inner.Links.Lent.{lent_all, all_writes, IsRow, IsLinkRow};
-ghost use Rattle.xc_dance.specs.inner.Links.Steps.{list_of, list_back};
-ghost use Rattle.xc_dance.specs.inner.Links.ListWalks.{is_kept_colour, left_node, leave_cost, back_node, back_cost};
-ghost use Rattle.xc_dance.specs.inner.Links.ListWalks.{CanLeave, CanReturn, walk_costs, back_costs, CanHideList};
-ghost use Rattle.xc_dance.specs.inner.Links.ListWalks.{CanUnhideList};
-ghost use Rattle.xc_dance.specs.inner.Links.Unmarked.{IsUnmarked};
+ghost use Rattle.xc_dance.specs.inner.Tables.{values, lent_all, all_writes, IsRow, IsLinkRow};
+ghost use Rattle.xc_dance.specs.inner.Walks.{list_of, list_back, is_kept_colour, left_node, leave_cost, back_node};
+ghost use Rattle.xc_dance.specs.inner.Walks.{back_cost, CanLeave, CanReturn, walk_costs, back_costs, CanHideList};
+ghost use Rattle.xc_dance.specs.inner.Walks.{CanUnhideList, IsUnmarked};
 
 use crate::links::cells::{Cells, CellsMut, LinksMut, MARK};
 use crate::links::spans::Spans;

@@ -3,11 +3,10 @@
 //! Undoing tests for a Cover and then for a Spend, which are nearly all that a search undoes; of one match over four
 //! moves the compiler makes a table of jumps. Tried at an undoing and not faster: a look for a Spend below each move, a
 //! test for a Spend alone, and two moves of an item at once.
-ghost use Rattle.xc_dance.specs.inner.Links.Made.{CanMake, CanUnmake, nodes_made, items_made, nodes_unmade};
-ghost use Rattle.xc_dance.specs.inner.Links.Made.{items_unmade, made_cost, unmade_cost};
-ghost use Rattle.xc_dance.specs.inner.Links.Taken.{CanNote, noted, CanRecall, IsRecalled};
+ghost use Rattle.xc_dance.specs.inner.Walks.{CanMake, CanUnmake, nodes_made, items_made, nodes_unmade, items_unmade};
+ghost use Rattle.xc_dance.specs.inner.Walks.{made_cost, unmade_cost, IsUnmarked};
+ghost use Rattle.xc_dance.specs.inner.Tables.{CanNote, noted, CanRecall, IsRecalled};
 ghost use Rattle.std.specs.Prelude.{◌≡◌, false, ◌+◌, ◌<◌, length, vec_capacity};
-ghost use Rattle.xc_dance.specs.inner.Links.Unmarked.{IsUnmarked};
 
 use crate::dance::Move;
 use crate::links::cells::{Items, Nodes};

@@ -2,14 +2,14 @@
 ghost use Rattle.std.specs.Prelude.{◌≡◌, length, IfOk};
 ghost use Rattle.xc_dance.specs.Fields.{layout};
 ghost use Rattle.xc_input.specs.Problem.{IsWithinLimits};
-ghost use Rattle.xc_dance.specs.inner.Links.OptionPlaces.{starts_of};
+ghost use Rattle.xc_dance.specs.inner.Tables.{starts_of};
 
 use std::alloc::{AllocError, Global};
 use xc_input::Problem;
 
 /// How many nodes there are: the unused one, one for each item and each use, the first spacer, and one after each
 /// option.
-#[tactic(auto, using(crate::proofs::LinkedTables::Laid::PlaceLemmas::counted_nodes))]
+#[tactic(auto, using(crate::proofs::PlaceLemmas::counted_nodes))]
 pub(crate) fn node_count(problem: &Problem) -> u32
     requires { IsWithinLimits problem.now.puzzle }
     ensures { result ≡ length (layout problem.now.puzzle) }

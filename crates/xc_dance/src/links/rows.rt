@@ -25,7 +25,7 @@ pub(crate) struct Rows {
 
 impl Model for Rows {
     ghost use Rattle.std.specs.Prelude.{◌≡◌, ◌≤◌, length, vec_capacity};
-    ghost use Rattle.xc_dance.specs.inner.Links.Columns.{columns, Laying};
+    ghost use Rattle.xc_dance.specs.inner.Tables.{columns, Laying};
 
     ghost Value = { Laying };
 
@@ -44,7 +44,7 @@ impl Model for Rows {
 }
 
 impl Rows {
-    ghost use Rattle.xc_dance.specs.inner.Links.FirstNodes.{with_node, no_rows};
+    ghost use Rattle.xc_dance.specs.inner.Tables.{with_node, no_rows};
 
     /// None of so many nodes.
     pub(crate) fn new(alloc: Global, count: usize) -> Result<Rows, AllocError>

@@ -1,6 +1,6 @@
 //! What tables show: any cell, and whether two tables are the same.
 ghost use Rattle.std.specs.Prelude.{◌≡◌, ◌↔◌, option_map, pos, IsTrue};
-ghost use Rattle.xc_dance.specs.inner.Links.Read.{color_read, top_read};
+ghost use Rattle.xc_dance.specs.inner.Tables.{color_read, top_read};
 ghost use Rattle.xc_dance.specs.Same.{IsSame};
 
 use crate::dance::Move;

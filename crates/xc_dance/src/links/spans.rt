@@ -2,7 +2,7 @@
 //! spacers, Knuth's idea in 7.2.2.1 (in his paper of 2000 the nodes of an option were a ring). Spans that are kept
 //! would take 8 bytes a node, and a load at another place for each option that is hidden.
 ghost use Rattle.std.specs.Prelude.{◌≡◌};
-ghost use Rattle.xc_dance.specs.inner.Links.OptionSpans.{spans_of};
+ghost use Rattle.xc_dance.specs.inner.Tables.{spans_of};
 
 use std::marker::Model;
 use std::snapshot::Snapshot;
@@ -16,8 +16,7 @@ pub(crate) struct Spans {
 
 impl Model for Spans {
     ghost use Rattle.std.specs.Prelude.{List};
-    ghost use Rattle.xc_dance.specs.inner.Links.Span.{Span};
-    ghost use Rattle.xc_dance.specs.inner.Links.OptionSpans.{spans_of};
+    ghost use Rattle.xc_dance.specs.inner.Tables.{Span, spans_of};
 
     ghost Value = { List Span };
 

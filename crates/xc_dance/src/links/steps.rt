@@ -7,13 +7,11 @@
 //! instructions. That the item of a node is read after the writes to its neighbours saves 2 %.
 ghost use Rattle.std.specs.Prelude.{◌≡◌, ◌≢◌, false, ℕ, ◌+◌, ◌-◌, ◌*◌, ◌<◌, ◌≤◌, ◌^◌, length, slice_index, fold};
 ghost use Rattle.std.specs.Prelude.{reverse};
-ghost use Rattle.xc_dance.specs.inner.Links.Columns.{values};
-ghost use Rattle.xc_dance.specs.inner.Links.Lent.{lent, lent_writes, IsRow, IsLinkRow};
-ghost use Rattle.xc_dance.specs.inner.Links.Steps.{HasSize, NamesPlaces, unlinked, relinked, hidden, hide_cost};
-ghost use Rattle.xc_dance.specs.inner.Links.Steps.{hide_costs, CanHide, CanHideAll, places, unhidden, CanUnhide};
-ghost use Rattle.xc_dance.specs.inner.Links.Steps.{CanUnhideAll, unhide_costs, others_of, hidden_node, unhidden_node};
-ghost use Rattle.xc_dance.specs.inner.Links.Steps.{CanHideNode, CanUnhideNode};
-ghost use Rattle.xc_dance.specs.inner.Links.Unmarked.{AreUnmarked, IsUnmarked};
+ghost use Rattle.xc_dance.specs.inner.Tables.{values, lent, lent_writes, IsRow, IsLinkRow};
+ghost use Rattle.xc_dance.specs.inner.Walks.{HasSize, NamesPlaces, unlinked, relinked, hidden, hide_cost, hide_costs};
+ghost use Rattle.xc_dance.specs.inner.Walks.{CanHide, CanHideAll, places, unhidden, CanUnhide, CanUnhideAll};
+ghost use Rattle.xc_dance.specs.inner.Walks.{unhide_costs, others_of, hidden_node, unhidden_node, CanHideNode};
+ghost use Rattle.xc_dance.specs.inner.Walks.{CanUnhideNode, AreUnmarked, IsUnmarked};
 ghost use Rattle.xc_dance.specs.declared.links.cells.nodes.TheConstants.{MARK};
 
 use crate::links::cells::{Cells, CellsMut, LinksMut, MARK, SPACER};
@@ -88,7 +86,7 @@ fn hide_one(
 
 /// Steps of hide at the places from a to below b.
 #[inline(always)]
-#[tactic(auto, using(crate::proofs::LinkedTables::Lines::Walks::places_more, crate::proofs::LinkedTables::Lines::Walks::step_can, crate::proofs::LinkedTables::Lines::Walks::step_on))]
+#[tactic(auto, using(crate::proofs::WalkLemmas::places_more, crate::proofs::WalkLemmas::step_can, crate::proofs::WalkLemmas::step_on))]
 fn hide_range(
     top: &mut CellsMut<'_>,
     links: &mut LinksMut<'_>,
@@ -172,7 +170,7 @@ fn unhide_one(
 
 /// Steps of unhide at the places from below b down to a.
 #[inline(always)]
-#[tactic(auto, using(crate::proofs::LinkedTables::Lines::Walks::last_first, crate::proofs::LinkedTables::Lines::Walks::step_can, crate::proofs::LinkedTables::Lines::Walks::step_on))]
+#[tactic(auto, using(crate::proofs::WalkLemmas::last_first, crate::proofs::WalkLemmas::step_can, crate::proofs::WalkLemmas::step_on))]
 fn unhide_range(
     top: &mut CellsMut<'_>,
     links: &mut LinksMut<'_>,

@@ -5,14 +5,10 @@
 //! `bring_back`. Each saves 2 % of the instructions where there are bounds; that they and the walks with marks are cold
 //! saves 3 % where there are none.
 ghost use Rattle.std.specs.Prelude.{◌≡◌, ℕ, ◌+◌, ◌*◌, ◌<◌, ◌≤◌, ◌^◌, length, fold, reverse, false, if◌then◌else◌};
-ghost use Rattle.xc_dance.specs.inner.Links.Columns.{values};
-ghost use Rattle.xc_dance.specs.inner.Links.Lent.{lent, lent_writes, IsRow, IsLinkRow};
-ghost use Rattle.xc_dance.specs.inner.Links.Steps.{hide_costs, CanHideNode, CanUnhideNode, unhide_costs, others_of};
-ghost use Rattle.xc_dance.specs.inner.Links.Steps.{followed};
-ghost use Rattle.xc_dance.specs.inner.Links.Tweaking.{hidden_unless, unhidden_unless};
-ghost use Rattle.xc_dance.specs.inner.Links.TweaksBack.{brought_back, bring_back_cost, CanBringBack, CanBringBackAll};
-ghost use Rattle.xc_dance.specs.inner.Links.TweaksBack.{bring_back_costs};
-ghost use Rattle.xc_dance.specs.inner.Links.Unmarked.{IsUnmarked};
+ghost use Rattle.xc_dance.specs.inner.Tables.{values, lent, lent_writes, IsRow, IsLinkRow};
+ghost use Rattle.xc_dance.specs.inner.Walks.{hide_costs, CanHideNode, CanUnhideNode, unhide_costs, others_of, followed};
+ghost use Rattle.xc_dance.specs.inner.Walks.{hidden_unless, unhidden_unless, brought_back, bring_back_cost};
+ghost use Rattle.xc_dance.specs.inner.Walks.{CanBringBack, CanBringBackAll, bring_back_costs, IsUnmarked};
 
 use crate::links::cells::{Cells, CellsMut, LinksMut};
 use crate::links::spans::Spans;

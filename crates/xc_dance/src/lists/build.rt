@@ -1,7 +1,6 @@
 //! The lists before any move.
 ghost use Rattle.std.specs.Prelude.{◌≡◌, ◌≢◌, ◌≤◌, [], length, replicate, All, AllPairs, IfOk};
-ghost use Rattle.xc_dance.specs.inner.Lists.Taking.{numbers_of};
-ghost use Rattle.xc_dance.specs.inner.Lists.Losing.{enlisted, lists_after};
+ghost use Rattle.xc_dance.specs.inner.Lists.{numbers_of, enlisted, lists_after};
 
 use crate::lists::table::Table;
 use std::alloc::{AllocError, Global};

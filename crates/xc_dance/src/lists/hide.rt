@@ -2,8 +2,7 @@
 ghost use Rattle.std.specs.Prelude.{◌≡◌, ◌-◌, ◌<◌, ◌≤◌, ◌==◌, ◌&&◌, not, [], ◌∷◌, length, filter, if◌then◌else◌};
 ghost use Rattle.xc_input.specs.Problem.{IsItem, IsOption, colour_in};
 ghost use Rattle.xc_dance.specs.Moves.{IsLegal, is_open, is_other_colour};
-ghost use Rattle.xc_dance.specs.inner.Lists.Taking.{list_at};
-ghost use Rattle.xc_dance.specs.inner.Lists.Losing.{lose, keeps_colour, AreLists, lists_after};
+ghost use Rattle.xc_dance.specs.inner.Lists.{list_at, lose, keeps_colour, AreLists, lists_after};
 
 use crate::Move;
 use crate::lists::table::Table;

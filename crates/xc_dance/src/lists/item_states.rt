@@ -1,6 +1,6 @@
 //! What the moves on the trail make of the items.
 ghost use Rattle.std.specs.Prelude.{IfOk, []};
-ghost use Rattle.xc_dance.specs.inner.Lists.States.{AreStates, AreLeft};
+ghost use Rattle.xc_dance.specs.inner.Lists.{AreStates, AreLeft};
 
 use crate::lists::table::Table;
 use std::alloc::{AllocError, Global};

@@ -31,7 +31,7 @@ impl Model for Trail {
     ghost use Rattle.xc_input.specs.Problem.{IsWithinLimits};
     ghost use Rattle.xc_dance.specs.Dancing.{Dancing};
     ghost use Rattle.xc_dance.specs.Moves.{AreLegal};
-    ghost use Rattle.xc_dance.specs.inner.Lists.States.{AreStates, AreLeft};
+    ghost use Rattle.xc_dance.specs.inner.Lists.{AreStates, AreLeft};
 
     ghost Value = { Dancing };
 
@@ -102,7 +102,7 @@ impl Trail {
         self.moves.len() == self.room
     }
 
-    #[tactic(auto, using(std::proofs::lemmas::Grind::common_steps, crate::proofs::MoveLemmas::StateLemmas::open_by_state, crate::proofs::MoveLemmas::StateLemmas::closed_state))]
+    #[tactic(auto, using(std::proofs::lemmas::Grind::common_steps, crate::proofs::StateLemmas::open_by_state, crate::proofs::StateLemmas::closed_state))]
     pub(crate) fn is_open(&self, item: u32) -> bool
         requires { IsItem self.now.puzzle item }
         ensures { result ≡ is_open item self.now.trail }
@@ -110,7 +110,7 @@ impl Trail {
         matches!(self.states[item as usize - 1], ItemState::Open)
     }
 
-    #[tactic(auto, using(std::proofs::lemmas::Grind::common_steps, crate::proofs::MoveLemmas::StateLemmas::purified_by_state, crate::proofs::MoveLemmas::StateLemmas::unpurified_state))]
+    #[tactic(auto, using(std::proofs::lemmas::Grind::common_steps, crate::proofs::StateLemmas::purified_by_state, crate::proofs::StateLemmas::unpurified_state))]
     pub(crate) fn is_purified(&self, item: u32) -> bool
         requires { IsItem self.now.puzzle item }
         ensures { result ≡ is_some (purified item self.now.trail) }
@@ -127,7 +127,7 @@ impl Trail {
     }
 
     /// The next open primary item above `item`.
-    #[tactic(auto, using(crate::proofs::MoveLemmas::StateLemmas::next_open))]
+    #[tactic(auto, using(crate::proofs::StateLemmas::next_open))]
     pub(crate) fn open_after(&self, item: u32) -> Option<u32>
         ensures { result ≡ next_above item (open_items self.now.puzzle self.now.trail) }
     {

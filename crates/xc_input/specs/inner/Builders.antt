@@ -14,13 +14,9 @@ use Rattle.xc_input.specs.declared.builder.ProblemBuilder.{ProblemBuilder}
 use Rattle.xc_input.specs.declared.tables.Tables.{Tables}
 use Rattle.xc_input.specs.Named.{Named, IsName, IsSound}
 use Rattle.xc_input.specs.Tokens.{is_space}
-use Rattle.xc_input.specs.inner.Flat.{pieces}
-use Rattle.xc_input.specs.inner.GuessedWords.{AreWords}
-use Rattle.xc_input.specs.inner.Vectors.{named_from, IsOptional, AreOptionStarts}
-use Rattle.xc_input.specs.inner.Stored.{key_names}
-use Rattle.xc_input.specs.inner.Stages.{Stage, Row}
+use Rattle.xc_input.specs.inner.Stored.{pieces, AreWords, named_from, IsOptional, AreOptionStarts, key_names}
+use Rattle.xc_input.specs.inner.Stages.{Stage, Row, Sheet, names_of}
 use Rattle.xc_input.specs.Sheets.{Entry, Written}
-use Rattle.xc_input.specs.inner.Sheets.{Sheet, names_of}
 use Rattle.xc_input.specs.Limits.{most_items, most_uses}
 use Rattle.indexmap.specs.IndexSet.{hasher_of}
 

@@ -1,9 +1,11 @@
--- No public clause cites this module. The lines of a text, one after another: what the reader knows after each, and the
--- checks of the next one by it.
-use Rattle.std.specs.Prelude.{ℕ, ◌+◌, length, List, [], ◌∷◌, ◌++◌, Bool, true, false, ◌&&◌, Option, None, Some, not}
-use Rattle.std.specs.Prelude.{nat_eq, nat_lt, fold, is_none, is_some, map, unwrap_or, if◌then◌else◌}
+-- No public clause cites this module. The lines of a text, one after another: what they wrote down so far, what
+-- the reader knows after each, and the checks of the next one by it.
 use Prim.Native.Char.{code}
+use Rattle.std.specs.Prelude.{ℕ, List, map, fold, ◌+◌, length, [], ◌∷◌, ◌++◌, Bool, true, false, ◌&&◌, Option, None}
+use Rattle.std.specs.Prelude.{Some, not, nat_eq, nat_lt, is_none, is_some, unwrap_or, if◌then◌else◌}
 use Rattle.std.specs.List.{list_any}
+use Rattle.xc_input.specs.declared.problem.Use.{Use}
+use Rattle.xc_input.specs.Sheets.{Entry, Written, with_colour, number_uses, colour_number}
 use Rattle.xc_input.specs.Problem.{use_count}
 use Rattle.xc_input.specs.declared.kind.Kind.{Kind}
 use Rattle.xc_input.specs.declared.fault.FaultKind.{FaultKind}
@@ -12,11 +14,39 @@ use Rattle.xc_input.specs.declared.fault.FaultKind.TheVariants.{BadColour, Colou
 use Rattle.xc_input.specs.Limits.{most_uses}
 use Rattle.xc_input.specs.Words.{has, before, after, place, number}
 use Rattle.xc_input.specs.Tokens.{tokens, parts, is_bar, is_skipped}
-use Rattle.xc_input.specs.Sheets.{Entry, Written, number_uses}
-use Rattle.xc_input.specs.inner.Sheets.{Sheet, names_of, with_uses}
 use Rattle.xc_input.specs.Faults.{Context, is_plain, name_checks, has_prefix, name_of, bound_texts, item_checks}
 use Rattle.xc_input.specs.Faults.{is_bad_colour, has_primary}
 use Rattle.xc_input.specs.FirstFault.{line_number}
+
+-- ======== What the lines so far wrote down.
+
+-- the items in order, how many of them are primary, the options in file order, and the colours by their numbers, from 1
+pub record Sheet : Type 0 where
+  pub entries : List Entry
+  pub primaries : ℕ
+  pub options : List (List Use)
+  pub colours : List (List ℕ)
+
+-- the names of items
+abbrev pub names_of : List Entry → List (List ℕ)
+names_of entries = map (λ e. e.name) entries
+
+-- the colours so far and those of the option
+abbrev pub with_uses : List (List ℕ) → List Written → List (List ℕ)
+with_uses colours us = fold (λ cs u. with_colour cs u.colour) colours us
+
+-- ======== The uses of an option that is kept, with the numbers of their colours.
+
+-- the uses of an option that is kept, after options that used these colours
+abbrev pub numbered : List (List ℕ) → List Written → List Use
+numbered colours us = number_uses (with_uses colours us) us
+
+-- a use with the number of its colour, after uses that had these colours
+abbrev pub use_behind : List (List ℕ) → Written → Use
+use_behind colours u = record { item = u.item; colour = colour_number (with_colour colours u.colour) u.colour }
+
+-- ======== The lines of a text, one after another: what the reader knows after each, and the checks of the next one
+-- by it.
 
 -- AN ITEM LINE
 

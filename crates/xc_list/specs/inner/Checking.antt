@@ -1,11 +1,10 @@
 -- No public clause cites this module. What the checker makes of the lines of a listing, one by one.
 use Rattle.std.specs.Prelude.{ℕ, ◌+◌, ◌-◌, ◌^◌, ◌≡◌, ◌==◌, not, min, List, [], ◌∷◌, ◌++◌, filter, Option, Some, None}
 use Rattle.std.specs.Prelude.{is_some}
-use Rattle.xc_list.specs.inner.Listings.{Listing, listing_of}
+use Rattle.xc_list.specs.inner.Listings.{Listing, listing_of, ReadLine, read}
 use Rattle.std.specs.List.{AllZip}
 use Rattle.xc_list.specs.ListingLines.{words_in}
-use Rattle.xc_list.specs.inner.ReadLines.{ReadLine, read}
-use Rattle.xc_list.specs.inner.ReadLines as lines
+use Rattle.xc_list.specs.inner.Listings as lines
 use Rattle.xc_list.specs.Listed.{Solution, is_known, fault_in_lines, IsVerdictOn, AreVerdicts}
 use Rattle.xc_list.specs.Listed.{IsListingFault}
 use Rattle.xc_list.specs.inner.Classes.{Classes, IsClassOfBody}

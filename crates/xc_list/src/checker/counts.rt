@@ -3,10 +3,8 @@ ghost use Rattle.std.specs.Prelude.{◌≡◌, ◌≢◌, ℕ, ◌+◌, ◌-◌,
 ghost use Rattle.std.specs.Prelude.{slice_index, slice_set, All, AllPairs, IfOk};
 ghost use Rattle.std.specs.List.{list_all};
 ghost use Rattle.xc_input.specs.Problem.{item_count};
-ghost use Rattle.xc_list.specs.inner.Classes.{IsIndexed};
-ghost use Rattle.xc_list.specs.inner.CoverCounts.{added, colours_after, cleared, raised, lowered, uses_in, short_of};
-ghost use Rattle.xc_list.specs.inner.CoverCounts.{is_met};
-ghost use Rattle.xc_list.specs.inner.CoverCounts.{is_class_met};
+ghost use Rattle.xc_list.specs.inner.Classes.{IsIndexed, added, colours_after, cleared, raised, lowered, uses_in};
+ghost use Rattle.xc_list.specs.inner.Classes.{short_of, is_met, is_class_met};
 
 use crate::checker::option_index::OptionIndex;
 use std::alloc::{AllocError, Global};

@@ -2,8 +2,7 @@
 ghost use Rattle.std.specs.Prelude.{count_by, nat_lt, ◌≡◌, ◌↔◌, ℕ, ◌<◌, List, [], length, All, IfOk, IsTrue};
 ghost use Rattle.std.specs.List.{AllZip};
 ghost use Rattle.xc_input.specs.Problem.{item_count};
-ghost use Rattle.xc_list.specs.inner.Classes.{IsIndexed, IsOfClass, IsCoverOfClasses};
-ghost use Rattle.xc_list.specs.inner.CoverCounts.{places_of, short_of};
+ghost use Rattle.xc_list.specs.inner.Classes.{IsIndexed, IsOfClass, IsCoverOfClasses, places_of, short_of};
 
 use crate::checker::counts::Counts;
 use crate::checker::option_index::OptionIndex;
@@ -24,7 +23,7 @@ pub struct CoverCounter {
 
 impl Model for CoverCounter {
     ghost use Rattle.std.specs.Prelude.{count_by, nat_lt, ◌≡◌, length, replicate};
-    ghost use Rattle.xc_list.specs.inner.CoverCounts.{Places, short_of};
+    ghost use Rattle.xc_list.specs.inner.Classes.{Places, short_of};
 
     ghost Value = { Places };
 

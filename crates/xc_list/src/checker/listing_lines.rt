@@ -12,7 +12,7 @@ ghost use Rattle.xc_list.specs.ListingLines.{words_in, before_last, header_numbe
 ghost use Rattle.xc_list.specs.ListingLines.{is_opening, is_closing, is_ending, body_of_words, body_of};
 ghost use Rattle.xc_list.specs.ListingLines.{number_in_words, branch_number};
 ghost use Rattle.xc_input.specs.Words.{are_digits};
-ghost use Rattle.xc_list.specs.inner.ReadLines.{read};
+ghost use Rattle.xc_list.specs.inner.Listings.{read};
 ghost use Rattle.xc_list.specs.inner.Checking.{line_said};
 
 use crate::words::long_number;
@@ -48,7 +48,7 @@ pub fn cut_line(text: &[u8]) -> (&[u8], &[u8])
 }
 
 /// The first word of a text whose words single spaces part, and what is left after that space.
-#[tactic(auto, using(std::proofs::lemmas::Grind::common_steps, crate::proofs::CheckLemmas::CutLines::first_word, crate::proofs::CheckLemmas::CutLines::one_word))]
+#[tactic(auto, using(std::proofs::lemmas::Grind::common_steps, crate::proofs::CheckLemmas::first_word, crate::proofs::CheckLemmas::one_word))]
 pub fn cut_word(text: &[u8]) -> (&[u8], Option<&[u8]>)
     ensures { MatchOption result.1 (words_in text.now ≡ result.0.now ∷ [])
         (λ rest. (words_in text.now ≡ result.0.now ∷ words_in rest.now) × (length rest.now < length text.now)) }
@@ -150,7 +150,7 @@ fn is_white(b: u8) -> bool
 }
 
 /// Whether a text is words that single spaces part.
-#[tactic(auto, using(crate::proofs::CheckLemmas::CutBodies::all_words))]
+#[tactic(auto, using(crate::proofs::CheckLemmas::all_words))]
 fn are_words(text: &[u8]) -> bool
     ensures { result ≡ list_all is_word (words_in text.now) }
 {
@@ -181,7 +181,7 @@ fn cut_last_word(text: &[u8]) -> Option<(&[u8], &[u8])>
 }
 
 /// What is before the last three words of at least four.
-#[tactic(auto, using(std::proofs::lemmas::Grind::common_steps, crate::proofs::CheckLemmas::CutLines::some_words, crate::proofs::CheckLemmas::CutBodies::before_three))]
+#[tactic(auto, using(std::proofs::lemmas::Grind::common_steps, crate::proofs::CheckLemmas::some_words, crate::proofs::CheckLemmas::before_three))]
 fn body_of_words(text: &[u8]) -> Option<&[u8]>
     ensures { option_map (λ body. words_in body.now) result ≡ body_of_words (words_in text.now) }
 {

@@ -6,8 +6,8 @@ ghost use Rattle.xc_input.specs.Problem.{primary_count, option_count, IsValid, I
 ghost use Rattle.xc_input.specs.Named.{IsKnownUse, IsSound};
 ghost use Rattle.xc_list.specs.ListingLines.{words_in};
 ghost use Rattle.xc_list.specs.Listed.{is_none};
-ghost use Rattle.xc_list.specs.inner.Classes.{IsIndexed, IsClassOfBody, class_size};
-ghost use Rattle.xc_list.specs.inner.OptionIndex.{IsUseOfWord, IsReading, AreClassesTo, key_uses};
+ghost use Rattle.xc_list.specs.inner.Classes.{IsIndexed, IsClassOfBody, class_size, IsUseOfWord, IsReading};
+ghost use Rattle.xc_list.specs.inner.Classes.{AreClassesTo, key_uses};
 
 use crate::checker::listing_lines::{cut_first, cut_word};
 use crate::checker::rotation::rotate;
@@ -95,8 +95,7 @@ pub struct OptionIndex<'a> {
 }
 
 impl<'a> Model for OptionIndex<'a> {
-    ghost use Rattle.xc_list.specs.inner.Classes.{Classes};
-    ghost use Rattle.xc_list.specs.inner.OptionIndex.{key_uses, IsOptionIndex};
+    ghost use Rattle.xc_list.specs.inner.Classes.{Classes, key_uses, IsOptionIndex};
 
     ghost Value = { Classes };
 

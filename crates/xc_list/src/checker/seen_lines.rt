@@ -4,7 +4,7 @@
 //! word: the judge takes half the time or less. The cost is a table with a place for each 64 bytes of the listing, at
 //! most 65,536 of them. Lines chosen to share places make it useless but not larger.
 ghost use Rattle.std.specs.Prelude.{◌≡◌, None, All, IfOk, IfSome};
-ghost use Rattle.xc_list.specs.inner.SeenLines.{IsFoundIn, IsNotedIn, IsBlankOr};
+ghost use Rattle.xc_list.specs.inner.Listings.{IsFoundIn, IsNotedIn, IsBlankOr};
 
 use std::alloc::{AllocError, Global};
 

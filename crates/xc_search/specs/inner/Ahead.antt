@@ -1,19 +1,21 @@
--- No public clause cites this module. How much work a search has ahead, and what a step of its loop does.
-use Rattle.std.specs.Prelude.{ℕ, zero, suc, ◌+◌, ◌<◌, ◌≤◌, ◌≡◌, Bool, true, false, List, [], ◌∷◌, drop, length}
-use Rattle.std.specs.Prelude.{None}
-use Rattle.xc_search.specs.inner.Sizes.{size_of}
-use Rattle.xc_dance.specs.declared.dance.Move.{Move}
-use Rattle.xc_search.specs.declared.level.Level.{Level}
+-- No public clause cites this module. What a search has ahead: its work, its paths and its moves.
+use Rattle.std.specs.Prelude.{ℕ, zero, suc, ◌+◌, ◌<◌, ◌≤◌, ◌≡◌, Bool, true, false, List, [], ◌∷◌, drop, length, None}
+use Rattle.std.specs.Prelude.{◌-◌, ◌⊎◌, Option, Some, slice_get, map, reverse, Contains, ◌*◌, ◌++◌, flat_map}
 use Rattle.xc_input.specs.Problem.{Puzzle}
-use Rattle.xc_search.specs.Listing.{Residual, Branch}
-use Rattle.xc_search.specs.inner.Residual.{residual_of}
-use Rattle.xc_search.specs.Outlook.{shown_after}
-use Rattle.xc_search.specs.Residuals.{choice_after}
+use Rattle.xc_dance.specs.declared.dance.Move.{Move}
 use Rattle.xc_dance.specs.Dancing.{Dancing, moves_made}
 use Rattle.xc_dance.specs.Commits.{option_at}
-use Rattle.xc_search.specs.inner.Commits.{oldest}
-use Rattle.xc_search.specs.inner.Levels.{Levels, IsStanding, coming, choices_of, branches_at}
-use Rattle.xc_search.specs.inner.Levels.{IsPlace, CanBranch, after_branch}
+use Rattle.xc_search.specs.inner.Levels.{size_of, residual_of, oldest, Levels, IsStanding, coming, choices_of}
+use Rattle.xc_search.specs.inner.Levels.{branches_at, IsPlace, CanBranch, after_branch, IsEarlyChoice, chosen}
+use Rattle.xc_search.specs.declared.level.Level.{Level}
+use Rattle.xc_search.specs.Listing.{Residual, Branch, Wanted, branch_count, branch_item, level, listing}
+use Rattle.xc_search.specs.Outlook.{shown_after}
+use Rattle.xc_search.specs.Residuals.{choice_after, wanted_at}
+use Rattle.xc_search.specs.Spans.{precedes}
+use Rattle.xc_search.specs.Ends.{ends, ends_after}
+use Rattle.xc_search.specs.Room.{room_for}
+
+-- ======== How much work a search has ahead, and what a step of its loop does.
 
 -- the work of these branches, each by the work of what it leaves
 abbrev pub cost : (Residual → ℕ) → List Branch → ℕ
@@ -108,3 +110,102 @@ pub record WentBy (d : Dancing) (ls : Levels) (down : Bool) (many n : ℕ) (e : 
   pub over : n ≡ many → WentOver d ls down many e ks
   pub past : n < many → WentPast d ls down n e ks
   pub searched : below ≡ false
+
+-- ======== The paths that the levels of a search stand for.
+
+-- item i is the branch item of what the moves leave
+abbrev pub IsBranchItem : Puzzle → List Move → ℕ → Type 0
+IsBranchItem p t i = branch_item (residual_of p t) ≡ Some (wanted_at p t i)
+
+-- An item that is left has no branches, so what is left has no solution.
+pub record IsStuck (r : Residual) : Type 0 where
+  pub item : Wanted
+  pub known : Contains r.items item
+  pub sound : item.low ≤ item.high
+  pub without : branch_count r item ≡ 0
+
+-- exactly: item i is the branch item; else it lists what is left, and is the branch item where each item has branches
+abbrev pub MayLead : Bool → Puzzle → List Move → ℕ → Type 0
+MayLead true p t i = IsBranchItem p t i
+MayLead false p t i =
+    (listing (residual_of p t) ≡ level listing (Some (wanted_at p t i)) (residual_of p t))
+    × (IsBranchItem p t i ⊎ IsStuck (residual_of p t))
+
+-- the branch item was chosen; or else an early choice was made
+abbrev pub IsChosenBy : Bool → Puzzle → List Move → Option (ℕ × ℕ) → Type 0
+IsChosenBy true p t o = o ≡ choice_after p t
+IsChosenBy false p t o = IsEarlyChoice p t o
+
+-- the level's newest branch is one of an item that may lead, and leaves what the moves t leave
+pub record IsLed (exact : Bool) (p : Puzzle) (t : List Move) (l : Level) : Type 0 where
+  pub leads : MayLead exact p (oldest l.mark t) l.item
+  pub branch : Branch
+  pub at : slice_get (branches_at p (oldest l.mark t) l.item) (l.begun - 1) ≡ Some branch
+  pub choice : chosen p l ≡ branch.choice
+  pub next : residual_of p t ≡ branch.next
+
+-- from the moves u the newest branches of the levels lead to the moves t
+abbrev pub AreLedBy : Bool → Puzzle → List Move → List Move → List Level → Type 0
+AreLedBy exact p u t [] = t ≡ u
+AreLedBy exact p u t (l ∷ ls) = IsLed exact p t l × AreLedBy exact p u (oldest l.mark t) ls
+
+-- by the branch items alone
+abbrev pub AreLed : Puzzle → List Move → List Move → List Level → Type 0
+AreLed p u t ls = AreLedBy true p u t ls
+
+-- Where levels ls led to state d, levels ks lead to state e from the same moves.
+abbrev pub KeepsBy : Bool → Dancing → Levels → Dancing → Levels → Type 0
+KeepsBy exact d ls e ks =
+    (u : List Move) → AreLedBy exact d.puzzle u d.trail ls.levels → AreLedBy exact e.puzzle u e.trail ks.levels
+
+-- the numbers of the levels' branches, from the first level down
+abbrev pub numbers : List Level → List ℕ
+numbers ls = map (λ l. l.begun) (reverse ls)
+
+-- levels ks are at a later row than levels ls
+abbrev pub AreLater : Levels → Levels → Type 0
+AreLater ls ks = precedes (numbers ls.levels) (numbers ks.levels) ≡ true
+
+-- ======== The moves that a search may still make, by the ends of its tree.
+
+-- the ends after these branches
+abbrev pub ends_of : List Branch → List Bool
+ends_of bs = flat_map (λ b. ends b.next) bs
+
+-- the ends after the branches of the levels that weren't begun
+abbrev pub ends_behind : Puzzle → List Move → List Level → List Bool
+ends_behind p t [] = []
+ends_behind p t (l ∷ ls) =
+    ends_of (drop l.begun (branches_at p (oldest l.mark t) l.item)) ++ ends_behind p (oldest l.mark t) ls
+
+-- and before them, where what is left wasn't searched yet, its own
+abbrev pub ends_ahead : Puzzle → List Move → List Level → Bool → List Bool
+ends_ahead p t ls true = ends (residual_of p t) ++ ends_behind p t ls
+ends_ahead p t ls false = ends_behind p t ls
+
+-- what is left takes no more than the moves on the trail if it is a solution, and else what its ends may take
+abbrev pub here : Option Wanted → ℕ → ℕ → ℕ
+here None stand may = stand
+here (Some w) stand may = may
+
+-- how many moves will have been undone at most, once all was searched and undone
+abbrev pub due : Dancing → Levels → Bool → ℕ
+due d ls true = d.undone + (here (branch_item (residual_of d.puzzle d.trail)) (length d.trail)
+    (room_for d.puzzle * length (ends (residual_of d.puzzle d.trail)))
+    + room_for d.puzzle * length (ends_behind d.puzzle d.trail ls.levels))
+due d ls false = d.undone + (length d.trail + room_for d.puzzle * length (ends_behind d.puzzle d.trail ls.levels))
+
+-- From levels ls in state d, where m solutions were to be passed over, it came to levels ks in state e, where n are:
+-- the ends after them are the same, and no more moves are due.
+pub record Pays (d : Dancing) (ls : Levels) (down : Bool) (m : ℕ) (e : Dancing) (ks : Levels) (below : Bool) (n : ℕ) :
+    Type 0 where
+  pub ends : ends_after (suc m) (ends_ahead d.puzzle d.trail ls.levels down)
+      ≡ ends_after (suc n) (ends_ahead e.puzzle e.trail ks.levels below)
+  pub due : due e ks below ≤ due d ls down
+
+-- It went over so many solutions: the ends after them are left, and those before them paid for the moves.
+pub record PaysFor (d : Dancing) (ls : Levels) (down : Bool) (many : ℕ) (e : Dancing) (ks : Levels) : Type 0 where
+  pub ends : ends_after many (ends_ahead d.puzzle d.trail ls.levels down)
+      ≡ ends_ahead e.puzzle e.trail ks.levels false
+  pub made : moves_made e + room_for d.puzzle * length (ends_ahead e.puzzle e.trail ks.levels false)
+      ≤ moves_made d + room_for d.puzzle * length (ends_ahead d.puzzle d.trail ls.levels down)

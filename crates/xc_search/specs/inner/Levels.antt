@@ -1,28 +1,104 @@
--- No public clause cites this module. The levels of a search.
-use Rattle.std.specs.Prelude.{◌⊎◌, ◌<◌, ℕ, suc, All, IfSome, ◌+◌, ◌≤◌, ◌≡◌, Bool, true, false, nat_lt, min, List, []}
-use Rattle.std.specs.Prelude.{◌∷◌}
-use Rattle.std.specs.Prelude.{◌++◌, length, map, drop, reverse, Option, Some, None, option_map, unwrap_or, slice_get}
-use Rattle.std.specs.Prelude.{flat_map, if◌then◌else◌}
-use Rattle.xc_search.specs.inner.Sizes.{size_of}
+-- No public clause cites this module. The levels of a search, their moves, and what these leave of a problem.
+use Rattle.std.specs.Prelude.{ℕ, ◌+◌, length, ◌==◌, List, Option, Some, None, find, ◌-◌, ◌≤◌, ◌≡◌, Bool, true, false}
+use Rattle.std.specs.Prelude.{◌&&◌, [], ◌∷◌, ◌++◌, drop, if◌then◌else◌, replicate, suc, ◌⊎◌, ◌<◌, All, IfSome, nat_lt}
+use Rattle.std.specs.Prelude.{min, map, reverse, option_map, unwrap_or, slice_get, flat_map, sum_by, count_by, nat_le}
 use Rattle.std.specs.List.{AllByRecursion}
-use Rattle.xc_search.specs.declared.choice.Choice.{Choice}
+use Rattle.xc_input.specs.Problem.{Puzzle, Numbered, low_at, high_at, primary_count, use_count, IsValid, IsItem}
+use Rattle.xc_input.specs.Problem.{IsPrimary, IsOption, numbered_get, holding, uses_of, option_count}
+use Rattle.xc_input.specs.declared.problem.Use.{Use}
+use Rattle.xc_input.specs.UsePlaces.{place_in}
 use Rattle.xc_dance.specs.declared.dance.Move.{Move}
+use Rattle.xc_dance.specs.inner.Left.{left}
+use Rattle.xc_dance.specs.declared.dance.Move.TheVariants.{Cover, Tweak, Spend, Purify}
+use Rattle.xc_dance.specs.Moves.{is_open, spends, AreLegal, open_items, IsOpenPrimary}
+use Rattle.xc_dance.specs.Fields.{link_place}
+use Rattle.xc_dance.specs.Commits.{option_at, IsUseAt, after_spend, after_uses, others}
+use Rattle.xc_search.specs.Listing.{Residual, Wanted, Branch, branch, pick, none, branch_count, branches_of, level}
+use Rattle.xc_search.specs.Listing.{listing}
+use Rattle.xc_search.specs.Residuals.{wanted_after, wanted_at, branches_after, choice_after}
+use Rattle.xc_search.specs.Room.{room_for}
+use Rattle.xc_search.specs.declared.choice.Choice.{Choice}
 use Rattle.xc_search.specs.declared.level.Level.{Level}
 use Rattle.xc_search.specs.declared.marks.Mark.{Mark}
 use Rattle.xc_search.specs.declared.level.Begun.{Begun}
-use Rattle.xc_input.specs.declared.problem.Use.{Use}
-use Rattle.xc_input.specs.Problem.{Puzzle, Numbered, IsValid, IsItem, IsPrimary, IsOption, numbered_get, holding}
-use Rattle.xc_input.specs.Problem.{uses_of, option_count, primary_count}
-use Rattle.xc_search.specs.Listing.{Wanted, Branch, branch_count, branches_of, level, listing}
-use Rattle.xc_dance.specs.Moves.{is_open, AreLegal, IsOpenPrimary}
-use Rattle.xc_search.specs.Residuals.{wanted_at, wanted_after, branches_after, choice_after}
-use Rattle.xc_search.specs.inner.Residual.{residual_of}
-use Rattle.xc_dance.specs.inner.Left.{left}
-use Rattle.xc_dance.specs.Fields.{link_place}
-use Rattle.xc_dance.specs.Commits.{option_at, IsUseAt, after_spend, after_uses, others}
-use Rattle.xc_input.specs.UsePlaces.{place_in}
-use Rattle.xc_search.specs.inner.Commits.{MayStand, NoTweakAbove, after_none, oldest, tweaked, walks}
-use Rattle.xc_search.specs.inner.Sparing.{IsSparing}
+
+-- ======== How much is left of a problem.
+
+-- each level of the listing takes an item or an option away
+abbrev pub size_of : Residual → ℕ
+size_of r = length r.items + length r.options
+
+-- ======== What moves leave of a problem, as the listing sees it.
+
+-- the open primary items with what the Spends leave, and the options left
+abbrev pub residual_of : Puzzle → List Move → Residual
+residual_of p t = record { items = wanted_after p t; options = left p t }
+
+-- item i, where it is left
+abbrev pub item_left : Residual → ℕ → Option Wanted
+item_left r i = find (λ w. w.item == i) r.items
+
+-- the branch that takes the k-th option of an item, of n branches
+abbrev pub take_branch : Residual → ℕ → ℕ → ℕ × Numbered → Branch
+take_branch r i n kx = branch i kx.0 n (Some kx.1.number) (pick r i kx.1)
+
+-- the branch that takes none
+abbrev pub none_branch : Residual → ℕ → ℕ → Branch
+none_branch r i n = branch i n n None (none r i)
+
+-- ======== The moves of a level.
+
+-- moves that may be on the trail: they are legal, and a search has room for them
+pub record MayStand (p : Puzzle) (t : List Move) : Type 0 where
+  pub legal : AreLegal p t
+  pub room : length t ≤ room_for p
+
+-- the oldest n moves
+abbrev pub oldest : ℕ → List Move → List Move
+oldest n t = drop (length t - n) t
+
+-- after the Spend nothing is left of the bound, and the bounds are equal: the item's list is walked
+abbrev pub walks : Puzzle → List Move → ℕ → Bool
+walks p t i = (high_at p i - spends i (Spend i ∷ t)) == 0 && low_at p i == high_at p i
+
+-- k tweaks of item i
+abbrev pub tweaked : ℕ → ℕ → List Move → List Move
+tweaked k i t = replicate k (Tweak i) ++ t
+
+-- a move is a tweak
+abbrev pub is_tweak : Move → Bool
+is_tweak (Tweak i) = true
+is_tweak _ = false
+
+-- above the oldest n moves is no tweak
+unfoldable pub NoTweakAbove : ℕ → List Move → Type 0
+NoTweakAbove n [] = Unit {0}
+NoTweakAbove n (m ∷ t) = n ≤ length t → (is_tweak m ≡ false) × NoTweakAbove n t
+
+-- the branch of none: the item is covered where it is open
+abbrev pub after_none : ℕ → List Move → List Move
+after_none i t = if is_open i t then Cover i ∷ t else t
+
+-- ======== The Spends of a search.
+
+-- how many of the moves are Spends
+abbrev pub spendings : List Move → ℕ
+spendings [] = 0
+spendings (Cover j ∷ t) = spendings t
+spendings (Purify j c ∷ t) = spendings t
+spendings (Tweak j ∷ t) = spendings t
+spendings (Spend j ∷ t) = suc (spendings t)
+
+-- the uses of these options
+abbrev pub count_of_uses : List Numbered → ℕ
+count_of_uses [] = 0
+count_of_uses (o ∷ os) = length o.uses + count_of_uses os
+
+-- The Spends on the trail are no more than the uses of options that were taken and the items that were left out.
+abbrev pub IsSparing : Puzzle → List Move → Type 0
+IsSparing p t = spendings t + length (open_items p t) + count_of_uses (left p t) ≤ use_count p.options + primary_count p
+
+-- ======== The levels of a search.
 
 -- What a stack stands for.
 pub record Levels : Type 0 where
@@ -223,3 +299,27 @@ pub record IsEntered (p : Puzzle) (t : List Move) (l : Level) (s : List Move) (k
 -- the number of the option that a level's next branch takes
 abbrev pub next_number : Puzzle → List Move → Level → Option ℕ
 next_number p t l = option_map (λ o. o.number) (slice_get (options_at p (oldest l.mark t) l.item) l.begun)
+
+-- ======== How many levels a search has at most, and whether its bounds are all 1.
+
+-- how often the primary items can be spent in all
+abbrev pub high_total : Puzzle → ℕ
+high_total p = sum_by (λ b. b.high) p.bounds
+
+-- The most levels that a search has: each but the last takes an option or a primary item away, and each has a Spend
+-- of its own.
+abbrev pub most_levels : Puzzle → ℕ
+most_levels p = min (option_count p + primary_count p) (high_total p)
+
+-- each primary item is to be held exactly once
+abbrev pub IsOnce : Puzzle → Type 0
+IsOnce p = (i : ℕ) → IsPrimary p i → (low_at p i ≡ 1) × (high_at p i ≡ 1)
+
+-- how many primary items these uses hold
+abbrev pub primary_uses : Puzzle → List Use → ℕ
+primary_uses p us = count_by (λ u. nat_le u.item (primary_count p)) us
+
+-- each primary item is to be held exactly once, and each option holds n of them
+pub record IsEven (p : Puzzle) (n : ℕ) : Type 0 where
+  pub once : IsOnce p
+  pub each : AllByRecursion (λ us. primary_uses p us ≡ n) p.options

@@ -14,9 +14,8 @@ use Rattle.xc_dance.specs.Commits.{option_at}
 use Rattle.xc_search.specs.Nodes.{longest_row}
 use Rattle.xc_search.specs.Spans.{row_of, precedes, is_before, between}
 use Rattle.xc_search.specs.inner.Levels.{Levels, IsStanding, AreStacked, IsPlace, CanBranch, choices_of, coming}
-use Rattle.xc_search.specs.inner.Ahead.{IsSolved, work_left, branched}
-use Rattle.xc_search.specs.inner.MostLevels.{most_levels}
-use Rattle.xc_search.specs.inner.Paths.{AreLed, AreLedBy, KeepsBy, AreLater, numbers}
+use Rattle.xc_search.specs.inner.Levels.{most_levels}
+use Rattle.xc_search.specs.inner.Ahead.{IsSolved, work_left, branched, AreLed, AreLedBy, KeepsBy, AreLater, numbers}
 
 -- the row of the levels
 abbrev pub row_at : Puzzle → List Level → List ℕ

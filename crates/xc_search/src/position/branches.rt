@@ -3,10 +3,9 @@ ghost use Rattle.std.specs.Prelude.{ℕ, ◌≡◌, ◌+◌, ◌-◌, ◌<◌, l
 ghost use Rattle.xc_input.specs.Problem.{IsItem, IsPrimary, high_at, low_at};
 ghost use Rattle.xc_dance.specs.Fields.{link_place, first_above};
 ghost use Rattle.xc_dance.specs.Commits.{IsListedAt, IsUseAt, option_at, after_spend};
-ghost use Rattle.xc_search.specs.inner.Commits.{oldest, tweaked};
+ghost use Rattle.xc_search.specs.inner.Levels.{oldest, tweaked, IsNode, MayBegin, IsEntered, CanBranch, after_branch};
+ghost use Rattle.xc_search.specs.inner.Levels.{first_level, next_number, begun_level, IsPlace, IsShown, chosen};
 ghost use Rattle.xc_dance.specs.Moves.{listed_numbers, next_above, spends};
-ghost use Rattle.xc_search.specs.inner.Levels.{IsNode, MayBegin, IsEntered, CanBranch, after_branch, first_level};
-ghost use Rattle.xc_search.specs.inner.Levels.{next_number, begun_level, IsPlace, IsShown, chosen};
 ghost use Rattle.xc_search.specs.Marks.{marked, IsMark};
 
 use crate::choice::Choice;

@@ -3,7 +3,7 @@ ghost use Rattle.std.specs.Prelude.{ℕ, ◌≡◌, ◌+◌, ◌-◌, ◌<◌, �
 ghost use Rattle.xc_dance.specs.Dancing.{moves_made};
 ghost use Rattle.xc_input.specs.Problem.{IsItem};
 ghost use Rattle.xc_dance.specs.Commits.{IsUseAt, after_option, after_spend};
-ghost use Rattle.xc_search.specs.inner.Commits.{MayStand, NoTweakAbove, oldest, after_none};
+ghost use Rattle.xc_search.specs.inner.Levels.{MayStand, NoTweakAbove, oldest, after_none};
 ghost use Rattle.xc_dance.specs.Moves.{IsLegal, AreTweaks};
 ghost use Rattle.xc_search.specs.Room.{room_for};
 

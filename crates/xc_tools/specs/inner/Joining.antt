@@ -2,7 +2,7 @@
 use Rattle.std.specs.Prelude.{ℕ, ◌≡◌, ◌⊎◌, Bool, true, false, List, [], ◌++◌, None, Result, Ok, Err}
 use Rattle.xc_input.specs.Calls.{Rose}
 use Rattle.xc_input.specs.Words.{has}
-use Rattle.xc_input.specs.inner.EndedLines.{ended, AreWhole}
+use Rattle.xc_input.specs.inner.Feeding.{ended, AreWhole}
 use Rattle.xc_input.specs.Pieces.{SourceState, Gave, GaveAll}
 use Rattle.xc_input.specs.declared.line_reader.Unread.{Unread}
 use Rattle.xc_input.specs.declared.line_reader.Unread.TheVariants as unread
@@ -16,7 +16,7 @@ use Rattle.xc_tools.specs.declared.joining.Stop.TheVariants.{NotText, Other, Gap
 use Rattle.xc_tools.specs.declared.span_lines.Joint.{Joint}
 use Rattle.xc_tools.specs.declared.span_lines.Refusal.{Refusal}
 use Rattle.xc_tools.specs.declared.span_lines.Refusal.TheVariants as refusals
-use Rattle.xc_tools.specs.inner.Flushes.{FlushFailed, WasFlushed}
+use Rattle.xc_tools.specs.inner.Streams.{FlushFailed, WasFlushed}
 use Rattle.xc_tools.specs.inner.SpanLines.{Stand, goes, faulty, mixed, apart, stand_after, join_of, start, wrote}
 
 -- the state after lines from the beginning on

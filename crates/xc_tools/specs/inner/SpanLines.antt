@@ -1,17 +1,165 @@
--- No public clause cites this module. What is made of the lines of the texts of spans, one by one.
-use Rattle.std.specs.Prelude.{ℕ, ◌+◌, ◌≡◌, nat_lt, min, Bool, true, false, not, ◌&&◌, ◌||◌, ◌==◌, length}
-use Rattle.std.specs.Prelude.{List, [], ◌∷◌, ◌++◌, decimal, codes, Option, Some, None}
-use Rattle.std.specs.Prelude.{if◌then◌else◌, Result, Ok, Err}
+-- No public clause cites this module. What is made of the lines of the texts of spans, word by word and one by
+-- one.
+use Rattle.std.specs.Prelude.{ℕ, ◌+◌, ◌==◌, ◌&&◌, ◌||◌, not, nat_lt, Bool, true, false, ◌≡◌, List, [], ◌∷◌, ◌++◌}
+use Rattle.std.specs.Prelude.{length, take, slice_get, Option, Some, None, if◌then◌else◌, ◌-◌, ◌*◌, min, map, fold}
+use Rattle.std.specs.Prelude.{decimal, codes, option_map, Result, Ok, Err}
+use Rattle.std.specs.List.{list_all, slice_split}
 use Rattle.std.specs.Str.{byte, bytes_eq}
+use Rattle.xc_search.specs.Spans.{precedes}
 use Rattle.xc_list.specs.SpanTexts.{most_counted}
 use Rattle.xc_list.specs.ListingLines.{before_last, branch_number, words_in}
+use Rattle.xc_tools.specs.declared.rising.Rising.{Rising}
+use Rattle.xc_tools.specs.SpanShapes.{is_digest}
+use Rattle.xc_tools.specs.declared.span_words.Counts.{Counts}
+use Rattle.xc_tools.specs.declared.span_words.Heading.{Heading}
+use Rattle.xc_tools.specs.declared.span_words.Record.{Record}
 use Rattle.xc_tools.specs.declared.span_lines.Act.{Act}
 use Rattle.xc_tools.specs.declared.span_lines.Act.TheVariants.{Nothing, Copy, Header}
 use Rattle.xc_tools.specs.declared.span_lines.Joint.{Joint}
 use Rattle.xc_tools.specs.declared.span_lines.Refusal.{Refusal}
 use Rattle.xc_tools.specs.declared.span_lines.Refusal.TheVariants.{NotText, Other, Gap, Memory}
-use Rattle.xc_tools.specs.inner.RisingRows.{Risen, risen_after, ends_before, has_risen, risen}
-use Rattle.xc_tools.specs.inner.SpanWords.{Headed, Told, heading_of, numbers_in, record_of}
+
+-- ======== How the row of an open solution stands beside the one before it.
+
+-- the row before, and how many of its first numbers are those of the open one; none where this is past it, and then it
+-- is here in its place
+pub record Risen : Type 0 where
+  pub row : List ℕ
+  pub tied : Option ℕ
+
+-- the same as the code holds it
+abbrev pub risen : Rising → Risen
+risen r = record { row = r.row.items; tied = r.tied }
+
+-- past the row before from this depth on
+abbrev pub past_at : Risen → ℕ → ℕ → Risen
+past_at r depth k = record { row = take depth r.row ++ k ∷ []; tied = None }
+
+-- behind a number more at this depth; none where the open row comes before the one before it
+abbrev pub beside : Risen → ℕ → ℕ → Option ℕ → Option Risen
+beside r depth k None = Some (past_at r depth k)
+beside r depth k (Some n) =
+    if nat_lt k n then None
+    else if k == n then Some (record r { tied = Some (depth + 1) })
+    else Some (past_at r depth k)
+
+-- behind a number more
+abbrev pub risen_after : Risen → ℕ → Option Risen
+risen_after r k = elim r.tied [
+  | None ↦ Some (record r { row = r.row ++ k ∷ [] })
+  | Some depth ↦ beside r depth k (slice_get r.row depth)
+]
+
+-- what taking a number more answers
+abbrev pub TakesNumber : Risen → ℕ → Bool → Risen → Type 0
+TakesNumber old k true new = risen_after old k ≡ Some new
+TakesNumber old k false new = risen_after old k ≡ None
+
+-- whether the open row, which ends, comes after the one before it, or is that where it may be
+abbrev pub has_risen : Risen → Bool → Bool
+has_risen r may_be_same = elim r.tied [ None ↦ true | Some depth ↦ may_be_same && depth == length r.row ]
+
+-- whether a span may end here after so many solutions, of which the last has this row, or after none from it on
+abbrev pub ends_before : List ℕ → ℕ → List ℕ → Bool
+ends_before row found until =
+    length until == 0 || (if found == 0 then not (precedes until row) else precedes row until)
+
+-- ======== What the words of headings and records mean.
+
+-- what the words of a heading mean
+pub record Headed : Type 0 where
+  pub row : List ℕ
+  pub digest : List ℕ
+
+-- the last words of a record: how many solutions, and of which problem
+pub record ToldCounts : Type 0 where
+  pub solutions : ℕ
+  pub digest : List ℕ
+
+-- what the words of a record mean
+pub record Told : Type 0 where
+  pub from : List ℕ
+  pub until : List ℕ
+  pub counts : ToldCounts
+
+-- the number that digits stand for, up to 2^64 - 1
+abbrev pub saturating_number : List ℕ → ℕ
+saturating_number digits = fold (λ n b. min most_counted (min most_counted (n * 10) + (b - byte "0"))) 0 digits
+
+-- a number as it is written
+abbrev pub is_number : List ℕ → Bool
+is_number word = bytes_eq word (decimal (saturating_number word))
+
+-- the parts of a row's word
+abbrev pub row_parts : List ℕ → List (List ℕ)
+row_parts word = slice_split (λ b. b == byte ".") word
+
+-- a dash, or numbers with points between
+abbrev pub is_row : List ℕ → Bool
+is_row word = bytes_eq word (codes "-") || list_all is_number (row_parts word)
+
+-- the numbers of a row
+abbrev pub numbers_in : List ℕ → List ℕ
+numbers_in word = if bytes_eq word (codes "-") then [] else map saturating_number (row_parts word)
+
+-- the words of a problem's digest
+abbrev pub is_problem : List ℕ → List ℕ → Bool
+is_problem name digest = bytes_eq name (codes "problem") && is_digest digest
+
+-- the words of the row where a listing begins
+abbrev pub begins : List ℕ → List ℕ → Bool
+begins from row = bytes_eq from (codes "from") && is_row row
+
+-- what these words mean, if they are a heading
+abbrev pub heading_of : List (List ℕ) → Option Headed
+heading_of (from ∷ row ∷ name ∷ digest ∷ []) =
+    if begins from row && is_problem name digest
+    then Some (record { row = row; digest = digest }) else None
+heading_of _ = None
+
+-- the words of two counts
+abbrev pub are_counts : List ℕ → List ℕ → List ℕ → List ℕ → Bool
+are_counts s n t m = bytes_eq s (codes "solutions") && bytes_eq t (codes "steps") && is_number n && is_number m
+
+-- what the last words of a record mean
+abbrev pub recorded_counts : List (List ℕ) → Option ToldCounts
+recorded_counts (s ∷ n ∷ t ∷ m ∷ name ∷ digest ∷ []) =
+    if are_counts s n t m && is_problem name digest
+    then Some (record { solutions = saturating_number n; digest = digest }) else None
+recorded_counts _ = None
+
+-- the same after the branches of a row, if they are reported
+abbrev pub counts_of : List (List ℕ) → Option ToldCounts
+counts_of (o ∷ row ∷ rest) =
+    if bytes_eq o (codes "of") && is_row row then recorded_counts rest else recorded_counts (o ∷ row ∷ rest)
+counts_of words = recorded_counts words
+
+-- the words of the rows where a span begins and ends
+abbrev pub are_ends : List ℕ → List ℕ → List ℕ → List ℕ → Bool
+are_ends a from b until = bytes_eq a (codes "from") && bytes_eq b (codes "until") && is_row from && is_row until
+
+-- what these words mean, if they are a record
+abbrev pub record_of : List (List ℕ) → Option Told
+record_of (a ∷ from ∷ b ∷ until ∷ rest) =
+    if are_ends a from b until
+    then option_map (λ counts. record { from = from; until = until; counts = counts }) (counts_of rest) else None
+record_of _ = None
+
+-- the same as the code holds it
+abbrev pub headed_of : Heading → Headed
+headed_of h = record { row = h.row.now; digest = h.digest.now }
+
+abbrev pub counted_of : Counts → ToldCounts
+counted_of c = record { solutions = c.solutions; digest = c.digest.now }
+
+abbrev pub told_of : Record → Told
+told_of r = record {
+  from = r.from.now;
+  until = r.until.now;
+  counts = record { solutions = r.solutions; digest = r.digest.now };
+}
+
+-- ======== What is made of the lines of the texts of spans, one by one.
 
 -- How far texts were read: whether they are listings; the digest of the first one's problem, once there is one; the
 -- word

@@ -67,7 +67,7 @@ impl Held {
     }
 
     /// Drops the first bytes, and moves the rest to the front.
-    #[tactic(auto, using(std::proofs::lemmas::Grind::common_steps, crate::proofs::StreamLemmas::moved_to_front))]
+    #[tactic(auto, using(std::proofs::lemmas::Grind::common_steps, crate::proofs::RunLemmas::moved_to_front))]
     pub(crate) fn remove_front(&mut self, count: usize)
         requires { count ≤ length self.old }
         ensures { self.new ≡ drop count self.old }
@@ -88,7 +88,7 @@ impl Held {
 /// Puts bytes in the place of others by their first `N` and their last, which may overlap. Each
 /// piece is one load and one store.
 #[inline(always)]
-#[tactic(auto, using(crate::proofs::StreamLemmas::two_pieces))]
+#[tactic(auto, using(crate::proofs::RunLemmas::two_pieces))]
 fn put_ends<const N: usize>(buffer: &mut [u8], at: usize, bytes: &[u8])
     requires room { at + length bytes.now ≤ length buffer.old }
     requires pieces { (N ≤ length bytes.now) × (length bytes.now ≤ N + N) }

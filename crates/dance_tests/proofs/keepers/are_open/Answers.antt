@@ -1,5 +1,5 @@
 use Rattle.std.proofs.Common.{◌≡◌, sym, ◌∙◌}
-use Rattle.xc_dance.proofs.MoveLemmas.ListLemmas.{next_above-open}
+use Rattle.xc_dance.proofs.MoveLemmas.{next_above-open}
 use Rattle.dance_tests.proofs.keepers.are_open.Goals as goal
 
 pub loop-i-init : goal.loop-i-init

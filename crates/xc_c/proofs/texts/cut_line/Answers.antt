@@ -1,8 +1,8 @@
 use Rattle.std.proofs.lemmas.Grind.{common_steps}
 use Rattle.std.proofs.Common.{arith}
-use Rattle.xc_input.proofs.TokenLemmas.Bytes.{has-all}
-use Rattle.xc_input.proofs.LineLemmas.TextLines.{lines_of-part}
-use Rattle.xc_list.proofs.CheckLemmas.CutLines.{first_cut, first_line}
+use Rattle.xc_input.proofs.FaultLemmas.{has-all}
+use Rattle.xc_input.proofs.LineLemmas.{lines_of-part}
+use Rattle.xc_list.proofs.CheckLemmas.{first_cut, first_line}
 use Rattle.xc_c.proofs.texts.cut_line.Goals as goal
 
 pub returns-in-Some-clause-whole : goal.returns-in-Some-clause-whole

@@ -1,5 +1,5 @@
 use Rattle.std.proofs.Common.{sym}
-use Rattle.xc_c.proofs.Listings.{listed}
+use Rattle.xc_c.proofs.TextLemmas.{listed}
 use Rattle.xc_c.proofs.texts.list_problem.Goals as goal
 
 pub returns-clause-lists : goal.returns-clause-lists

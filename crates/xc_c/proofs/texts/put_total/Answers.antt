@@ -1,9 +1,8 @@
 use Rattle.std.proofs.Common.{arith, subst, sym}
-use Rattle.xc_input.proofs.FaultLemmas.FirstFaults.{stands-only}
+use Rattle.xc_input.proofs.LineLemmas.{stands-only}
 use Rattle.xc_input.specs.Problem.{IsValid}
-use Rattle.xc_search.proofs.completeness.Covering.{each_member_covers}
-use Rattle.xc_search.proofs.completeness.Exactly.{each_cover_is_listed_once}
-use Rattle.xc_c.proofs.TextLines.{faultless-content}
+use Rattle.xc_search.proofs.Completeness.{each_member_covers, each_cover_is_listed_once}
+use Rattle.xc_c.proofs.TextLemmas.{faultless-content}
 use Rattle.xc_c.proofs.texts.put_total.Goals as goal
 
 pub returns-clause-memory : goal.returns-clause-memory

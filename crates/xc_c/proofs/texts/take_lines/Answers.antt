@@ -4,7 +4,7 @@ use Rattle.xc_input.specs.declared.kind.Kind.{Kind}
 use Rattle.xc_input.specs.Lines.{lines_of}
 use Rattle.xc_input.specs.FirstFault.{first_fault}
 use Rattle.xc_input.specs.Readings.{IsErrorFor}
-use Rattle.xc_c.proofs.TextLines.{error-of-text, has-content}
+use Rattle.xc_c.proofs.TextLemmas.{error-of-text, has-content}
 use Rattle.xc_c.proofs.texts.take_lines.Goals as goal
 
 pub returns-in_err-line-clause-error : goal.returns-in_err-line-clause-error

@@ -4,7 +4,7 @@ use Rattle.std.proofs.lemmas.List.{drop_all}
 use Rattle.std.proofs.lemmas.Map.Keys.{le_from_is_le}
 use Rattle.std.proofs.lemmas.Option.{slice_get-get_or}
 use Rattle.xc_input.specs.Problem.{numbered_get, option_count, uses_of}
-use Rattle.xc_input.proofs.lists.Members.{contains-in, in-slice_get}
+use Rattle.xc_input.proofs.ListLemmas.{contains-in, in-slice_get}
 use Rattle.xc_search.specs.Listing.{listing}
 use Rattle.xc_count.specs.inner.Held.{holding_uses, left_by}
 use Rattle.xc_count.specs.inner.Numbered.{IsLess, behind_taken, left_by_key, size_left}

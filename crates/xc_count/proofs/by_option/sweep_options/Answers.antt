@@ -2,7 +2,7 @@ use Rattle.std.proofs.Common.{suc, arith, refl, ◌≡◌, ◌≤◌, ◌+◌, �
 use Rattle.std.specs.Prelude.{unwrap_or}
 use Rattle.std.proofs.lemmas.List.{get_or_default}
 use Rattle.xc_input.specs.Problem.{IsSoundOption, uses_of}
-use Rattle.xc_input.proofs.ValidLemmas.Known.{at_number}
+use Rattle.xc_input.proofs.LineLemmas.{at_number}
 use Rattle.xc_count.specs.inner.ByOption.{AtMost, ways_from}
 use Rattle.xc_count.specs.inner.Worth.{worth_by}
 use Rattle.xc_count.proofs.ByOption.{ways_many}

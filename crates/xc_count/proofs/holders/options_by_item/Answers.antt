@@ -1,7 +1,7 @@
 use Rattle.std.proofs.Common.{arith, ◌+◌, ◌∙◌}
 use Rattle.std.proofs.lemmas.List.Elements.{recursion_from_All}
 use Rattle.xc_input.specs.Problem.{IsSoundOption}
-use Rattle.xc_input.proofs.ValidLemmas.Known.{at_number}
+use Rattle.xc_input.proofs.LineLemmas.{at_number}
 use Rattle.xc_count.proofs.HolderLemmas.{lists_begin, lists_step, lists_end}
 use Rattle.xc_count.proofs.holders.options_by_item.Goals as goal
 

@@ -5,7 +5,7 @@ use Rattle.xc_search.specs.Cover.{IsCover, options_of}
 use Rattle.xc_search.specs.InSpan.{left_of}
 use Rattle.xc_search.specs.Listing.{whole}
 use Rattle.xc_search.specs.Nodes.{IsRowOf}
-use Rattle.xc_search.proofs.completeness.Covering.{each_member_covers}
+use Rattle.xc_search.proofs.Completeness.{each_member_covers}
 use Rattle.xc_count.specs.Occurrences.{occurrences_of, takes}
 use Rattle.xc_count.proofs.OptionCounts.{all_counted, all_head, all_tail, arrived, counted_more, ended, fewer, hit}
 use Rattle.xc_count.proofs.OptionCounts.{none_yet, options_within, refilled}

@@ -1,5 +1,5 @@
 use Rattle.std.proofs.Common.{◌≡◌, ◌<◌, ◌^◌, drop}
-use Rattle.xc_list.proofs.Digits.{digits_in}
+use Rattle.xc_list.proofs.Writing.{digits_in}
 use Rattle.xc_count_run.proofs.asked.long_number.Given as goal
 
 -- the digits so far have this value

@@ -3,7 +3,7 @@ use Rattle.std.specs.Prelude.{All, option_map}
 use Rattle.xc_input.specs.Problem.{numbered_get}
 use Rattle.xc_search.specs.Cover.{members}
 use Rattle.xc_list.specs.Known.{IsKnownChoice}
-use Rattle.xc_count_run.proofs.SolutionLemmas.{known_at}
+use Rattle.xc_count_run.proofs.LineLemmas.{known_at}
 use Rattle.xc_count_run.proofs.solution.find_numbered.Goals as goal
 
 pub tell_solution-requires : goal.tell_solution-requires

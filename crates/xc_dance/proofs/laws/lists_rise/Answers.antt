@@ -2,12 +2,10 @@ use Rattle.std.proofs.Common.{ℕ, ◌≡◌, ◌<◌, ◌≤◌, List, [], ◌�
 use Rattle.std.proofs.Common.{length-append, le-ltb}
 use Rattle.std.specs.Prelude.{slice_get}
 use Rattle.std.specs.List.{AllByRecursion}
-use Rattle.xc_input.proofs.lists.EachTwo.{EachTwo, AllPairs-from_each_two}
+use Rattle.xc_input.proofs.ListLemmas.{EachTwo, AllPairs-from_each_two}
 use Rattle.xc_dance.specs.Moves.{listed_numbers, next_above}
-use Rattle.xc_dance.specs.inner.Lists.Rising.{Rises}
-use Rattle.xc_dance.proofs.MoveLemmas.ListLemmas.{Rises-weaker}
-use Rattle.xc_dance.proofs.MoveLemmas.NextPlaces.{next_first}
-use Rattle.xc_dance.proofs.MoveLemmas.Shortened.{rises_listed}
+use Rattle.xc_dance.specs.inner.Lists.{Rises}
+use Rattle.xc_dance.proofs.MoveLemmas.{Rises-weaker, next_first, rises_listed}
 use Rattle.xc_dance.proofs.laws.lists_rise.Goals as goal
 
 each_above : (n : ℕ) (xs : List ℕ) → Rises n xs → AllByRecursion (λ k. n < k) xs

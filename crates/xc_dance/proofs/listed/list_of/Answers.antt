@@ -1,6 +1,5 @@
 use Rattle.std.proofs.Common.{arith}
-use Rattle.xc_dance.proofs.MoveLemmas.ListLemmas.{above_all}
-use Rattle.xc_dance.proofs.MoveLemmas.Shortened.{rises_listed}
+use Rattle.xc_dance.proofs.MoveLemmas.{above_all, rises_listed}
 use Rattle.xc_dance.proofs.listed.list_of.Goals as goal
 
 pub returns : goal.returns

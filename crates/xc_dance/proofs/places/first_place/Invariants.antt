@@ -1,5 +1,5 @@
 use Rattle.std.proofs.Common.{◌≡◌}
-use Rattle.xc_dance.specs.inner.Links.OptionPlaces.{start_at}
+use Rattle.xc_dance.specs.inner.Tables.{start_at}
 use Rattle.xc_dance.proofs.places.first_place.Given as goal
 
 abbrev pub invariant-loop-before : goal.invariant-loop-before

@@ -1,5 +1,5 @@
 use Rattle.std.proofs.Common.{arith}
-use Rattle.xc_dance.proofs.LinkedTables.Laid.PassedOptions.{UseStands, use_stands}
+use Rattle.xc_dance.proofs.PlaceLemmas.{UseStands, use_stands}
 use Rattle.xc_dance.proofs.places.node_place.Goals.{After-place_in}
 use Rattle.xc_dance.proofs.places.node_place.Goals as goal
 

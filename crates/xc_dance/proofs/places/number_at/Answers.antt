@@ -1,7 +1,6 @@
 use Rattle.std.proofs.Common.{arith, ◌+◌, ◌<◌}
 use Rattle.xc_input.specs.Problem.{option_count}
-use Rattle.xc_dance.proofs.LinkedTables.Laid.PlaceLemmas.{option_fits, uses_here}
-use Rattle.xc_dance.proofs.LinkedTables.Laid.PassedOptions.{option_between}
+use Rattle.xc_dance.proofs.PlaceLemmas.{option_fits, uses_here, option_between}
 use Rattle.xc_dance.proofs.places.number_at.Goals as goal
 
 pub returns-then-place-spacer : goal.returns-then-place-spacer

@@ -1,8 +1,7 @@
 //! A column of a table.
 ghost use Rattle.std.specs.Prelude.{◌≡◌, ◌+◌, ◌<◌, ◌≤◌, ◌++◌, ◌∷◌, [], length, vec_capacity, slice_index, slice_set};
 ghost use Rattle.std.specs.Prelude.{replicate, IfOk, slice_get, ◌↔◌, IsTrue};
-ghost use Rattle.xc_dance.specs.inner.Links.Columns.{values, writes};
-ghost use Rattle.xc_dance.specs.inner.Links.Lent.{IsRow};
+ghost use Rattle.xc_dance.specs.inner.Tables.{values, writes, IsRow};
 
 use crate::links::cells::{Cell, Cells};
 use std::alloc::{AllocError, Global};
@@ -91,7 +90,7 @@ impl Column {
 
     /// Writes one cell.
     #[inline(always)]
-    #[tactic(auto, using(crate::proofs::LinkedTables::Cells::LinkColumns::one_written))]
+    #[tactic(auto, using(crate::proofs::LineLemmas::one_written))]
     pub(crate) fn set(&mut self, place: u32, value: u32)
         requires { place < length (values self.old.cells.items) }
         ensures value { values self.new.cells.items ≡ slice_set (values self.old.cells.items) place value }

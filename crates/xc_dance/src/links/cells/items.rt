@@ -19,7 +19,7 @@ pub(crate) struct Items {
 
 impl Model for Items {
     ghost use Rattle.std.specs.Prelude.{◌+◌};
-    ghost use Rattle.xc_dance.specs.inner.Links.Columns.{ItemTable, values, writes};
+    ghost use Rattle.xc_dance.specs.inner.Tables.{ItemTable, values, writes};
 
     ghost Value = { ItemTable };
 
@@ -36,7 +36,7 @@ impl Model for Items {
 }
 
 impl Items {
-    ghost use Rattle.xc_dance.specs.inner.Links.Rings.{left_ring, back_in_ring, with_bound, is_off};
+    ghost use Rattle.xc_dance.specs.inner.Tables.{left_ring, back_in_ring, with_bound, is_off};
 
     /// Items whose cells are all 0.
     pub(crate) fn new(alloc: Global, items: u32, primary: u32) -> Result<Items, AllocError>

@@ -3,8 +3,7 @@
 //! slices, whose cells a body could exchange with no write counted; and one type for all columns, whose address would
 //! leave the loop. The cost: each walk has a clause (`rows`) that the same memory is still lent.
 ghost use Rattle.std.specs.Prelude.{◌≡◌, ◌+◌, ◌<◌, length, slice_index, slice_set};
-ghost use Rattle.xc_dance.specs.inner.Links.Columns.{values, writes, ups, downs, link_writes};
-ghost use Rattle.xc_dance.specs.inner.Links.Lent.{IsRow, IsLinkRow};
+ghost use Rattle.xc_dance.specs.inner.Tables.{values, writes, ups, downs, link_writes, IsRow, IsLinkRow};
 
 use crate::links::cells::{Cell, Link};
 
@@ -106,7 +105,7 @@ impl CellsMut<'_> {
 
     /// The same by an index.
     #[inline(always)]
-    #[tactic(auto, using(crate::proofs::LinkedTables::Cells::LinkColumns::one_written))]
+    #[tactic(auto, using(crate::proofs::LineLemmas::one_written))]
     pub(crate) fn set_at(&mut self, place: usize, value: u32)
         requires { place < length (values self.old.cells.now) }
         ensures value { values self.new.cells.now ≡ slice_set (values self.old.cells.now) place value }
@@ -170,7 +169,7 @@ impl LinksMut<'_> {
 
     /// The same by an index.
     #[inline(always)]
-    #[tactic(auto, using(crate::proofs::LinkedTables::Cells::LinkColumns::one_written))]
+    #[tactic(auto, using(crate::proofs::LineLemmas::one_written))]
     pub(crate) fn set_up_at(&mut self, place: usize, value: u32)
         requires { place < length (ups self.old.links.now) }
         ensures up { ups self.new.links.now ≡ slice_set (ups self.old.links.now) place value }
@@ -195,7 +194,7 @@ impl LinksMut<'_> {
 
     /// The same by an index.
     #[inline(always)]
-    #[tactic(auto, using(crate::proofs::LinkedTables::Cells::LinkColumns::one_written))]
+    #[tactic(auto, using(crate::proofs::LineLemmas::one_written))]
     pub(crate) fn set_down_at(&mut self, place: usize, value: u32)
         requires { place < length (downs self.old.links.now) }
         ensures down { downs self.new.links.now ≡ slice_set (downs self.old.links.now) place value }

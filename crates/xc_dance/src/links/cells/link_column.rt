@@ -1,8 +1,7 @@
 //! The links of all nodes.
 ghost use Rattle.std.specs.Prelude.{◌≡◌, ◌+◌, ◌<◌, ◌≤◌, ◌++◌, ◌∷◌, [], length, vec_capacity, slice_index, slice_set};
 ghost use Rattle.std.specs.Prelude.{IfOk, slice_get, ◌↔◌, IsTrue};
-ghost use Rattle.xc_dance.specs.inner.Links.Columns.{ups, downs, link_writes};
-ghost use Rattle.xc_dance.specs.inner.Links.Lent.{IsLinkRow};
+ghost use Rattle.xc_dance.specs.inner.Tables.{ups, downs, link_writes, IsLinkRow};
 
 use crate::links::cells::{Cell, Link};
 use std::alloc::{AllocError, Global};
@@ -57,7 +56,7 @@ impl LinkColumn {
 
     /// Writes where the link at a place leads upwards.
     #[inline(always)]
-    #[tactic(auto, using(crate::proofs::LinkedTables::Cells::LinkColumns::one_written))]
+    #[tactic(auto, using(crate::proofs::LineLemmas::one_written))]
     pub(crate) fn set_up(&mut self, place: u32, value: u32)
         requires { place < length (ups self.old.links.items) }
         ensures up { ups self.new.links.items ≡ slice_set (ups self.old.links.items) place value }
@@ -69,7 +68,7 @@ impl LinkColumn {
 
     /// Writes where the link at a place leads downwards.
     #[inline(always)]
-    #[tactic(auto, using(crate::proofs::LinkedTables::Cells::LinkColumns::one_written))]
+    #[tactic(auto, using(crate::proofs::LineLemmas::one_written))]
     pub(crate) fn set_down(&mut self, place: u32, value: u32)
         requires { place < length (downs self.old.links.items) }
         ensures down { downs self.new.links.items ≡ slice_set (downs self.old.links.items) place value }

@@ -11,10 +11,9 @@
 //! A table of each node's next use, 4 bytes more a node, was slower on three of four problems.
 ghost use Rattle.std.specs.Prelude.{◌≡◌, ℕ, ◌+◌, ◌-◌, ◌*◌, ◌<◌, ◌≤◌, ◌^◌, length, slice_index, slice_get, fold, None};
 ghost use Rattle.std.specs.Prelude.{Some, false, if◌then◌else◌, IfOk, IsTrue, ◌↔◌};
-ghost use Rattle.xc_dance.specs.inner.Links.Columns.{columns, column_writes};
-ghost use Rattle.xc_dance.specs.inner.Links.Steps.{list_of, list_back};
-ghost use Rattle.xc_dance.specs.inner.Links.ListWalks.{left_node, back_node, walk_costs, back_costs, CanHideList};
-ghost use Rattle.xc_dance.specs.inner.Links.ListWalks.{CanUnhideList};
+ghost use Rattle.xc_dance.specs.inner.Tables.{columns, column_writes};
+ghost use Rattle.xc_dance.specs.inner.Walks.{list_of, list_back, left_node, back_node, walk_costs, back_costs};
+ghost use Rattle.xc_dance.specs.inner.Walks.{CanHideList, CanUnhideList};
 
 use crate::links::cells::{Cell, CellsMut, Column, Link, LinkColumn, LinksMut};
 use crate::links::list_walks::{hide_list, unhide_list};
@@ -41,7 +40,7 @@ pub(crate) struct Nodes {
 }
 
 impl Model for Nodes {
-    ghost use Rattle.xc_dance.specs.inner.Links.Columns.{NodeTable, columns, column_writes};
+    ghost use Rattle.xc_dance.specs.inner.Tables.{NodeTable, columns, column_writes};
 
     ghost Value = { NodeTable };
 
@@ -52,16 +51,12 @@ impl Model for Nodes {
 }
 
 impl Nodes {
-    ghost use Rattle.xc_dance.specs.inner.Links.Columns.{columns};
-    ghost use Rattle.xc_dance.specs.inner.Links.FirstNodes.{entered};
-    ghost use Rattle.xc_dance.specs.inner.Links.Steps.{HasSize, list_of, list_back};
-    ghost use Rattle.xc_dance.specs.inner.Links.ListWalks.{left_node, back_node, walk_costs, back_costs, CanHideList};
-    ghost use Rattle.xc_dance.specs.inner.Links.ListWalks.{CanUnhideList, recoloured};
-    ghost use Rattle.xc_dance.specs.inner.Links.Unmarked.{IsUnmarked};
-    ghost use Rattle.xc_dance.specs.inner.Links.Purifying.{purified_list, unpurified_list, CanPurify, CanUnpurify};
-    ghost use Rattle.xc_dance.specs.inner.Links.Tweaking.{tweaked_nodes, untweaked, tweak_cost, untweak_cost, CanTweak};
-    ghost use Rattle.xc_dance.specs.inner.Links.Tweaking.{CanUntweak};
-    ghost use Rattle.xc_dance.specs.inner.Links.TweaksBack.{untweaked_all, untweak_all_cost, CanUntweakAll};
+    ghost use Rattle.xc_dance.specs.inner.Tables.{columns, entered};
+    ghost use Rattle.xc_dance.specs.inner.Walks.{HasSize, list_of, list_back, left_node, back_node, walk_costs};
+    ghost use Rattle.xc_dance.specs.inner.Walks.{back_costs, CanHideList, CanUnhideList, recoloured, IsUnmarked};
+    ghost use Rattle.xc_dance.specs.inner.Walks.{purified_list, unpurified_list, CanPurify, CanUnpurify, tweaked_nodes};
+    ghost use Rattle.xc_dance.specs.inner.Walks.{untweaked, tweak_cost, untweak_cost, CanTweak, CanUntweak};
+    ghost use Rattle.xc_dance.specs.inner.Walks.{untweaked_all, untweak_all_cost, CanUntweakAll};
 
     /// The node table of these columns.
     pub(crate) fn of(top: Column, links: LinkColumn, color: Column) -> Nodes

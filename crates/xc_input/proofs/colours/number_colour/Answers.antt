@@ -1,8 +1,8 @@
 use Rattle.std.proofs.lemmas.List.{length-map}
 use Rattle.std.proofs.Common.{arith}
 use Rattle.std.proofs.lemmas.Bool.Decides.{nat_tests}
-use Rattle.xc_input.proofs.OptionLemmas.Drafts.{new-number}
-use Rattle.xc_input.proofs.TokenLemmas.TableNames.{distinct-more}
+use Rattle.xc_input.proofs.OptionLemmas.{new-number}
+use Rattle.xc_input.proofs.TokenLemmas.{distinct-more}
 use Rattle.xc_input.proofs.colours.number_colour.Goals as goal
 
 pub returns-clause-number : goal.returns-clause-number

@@ -1,6 +1,6 @@
 use Rattle.std.proofs.Common.{◌≡◌, ◌<◌, ◌^◌, drop}
 use Rattle.std.specs.Char.{is_ascii_digit}
-use Rattle.xc_input.proofs.TokenLemmas.DecimalValues.{value_from}
+use Rattle.xc_input.proofs.TokenLemmas.{value_from}
 use Rattle.std.specs.List.{list_all}
 use Rattle.xc_input.proofs.digits.number_of.Given as goal
 

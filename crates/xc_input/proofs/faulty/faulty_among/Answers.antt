@@ -5,9 +5,8 @@ use Rattle.xc_input.specs.Faults.{item_of}
 use Rattle.xc_input.specs.Sheets.{Written}
 use Rattle.xc_input.specs.inner.Stages.{context}
 use Rattle.xc_input.specs.inner.Stored.{key_names}
-use Rattle.xc_input.proofs.FaultLemmas.Checks.{map-snoc}
-use Rattle.xc_input.proofs.FaultyLemmas.{read-stands, read-on, read-stop, read-end}
-use Rattle.xc_input.proofs.OptionLemmas.Marks.{mark}
+use Rattle.xc_input.proofs.FaultLemmas.{map-snoc, read-stands, read-on, read-stop, read-end}
+use Rattle.xc_input.proofs.OptionLemmas.{mark}
 use Rattle.xc_input.proofs.faulty.faulty_among.Goals as goal
 
 pub cut_out-requires : goal.cut_out-requires

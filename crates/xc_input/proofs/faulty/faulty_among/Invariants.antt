@@ -4,7 +4,7 @@ use Rattle.xc_input.specs.Faults.{token_checks, item_of}
 use Rattle.xc_input.specs.inner.Stages.{context}
 use Rattle.xc_input.specs.inner.Stored.{key_names}
 use Rattle.xc_input.specs.inner.Builders.{AreMarks}
-use Rattle.xc_input.proofs.FaultyLemmas.{IsReadTo}
+use Rattle.xc_input.proofs.FaultLemmas.{IsReadTo}
 use Rattle.xc_input.proofs.faulty.faulty_among.Given as goal
 
 -- the tokens so far have no fault, and their items are marked

@@ -1,10 +1,9 @@
 use Rattle.std.proofs.Common.{arith}
 use Rattle.std.proofs.Common.{◌++◌, ◌∷◌, [], sym, ap, ◌∙◌}
 use Rattle.xc_input.specs.Faults.{first}
-use Rattle.xc_input.proofs.FaultyLemmas.{read-stands, read-on, read-stop, read-end}
-use Rattle.xc_input.proofs.GrammarLemmas.StageLemmas.{row-checks, no-row}
-use Rattle.xc_input.proofs.GrammarLemmas.StageLemmas.{row-more}
-use Rattle.xc_input.proofs.TokenLemmas.Unbroken.{part-solid}
+use Rattle.xc_input.proofs.FaultLemmas.{read-stands, read-on, read-stop, read-end}
+use Rattle.xc_input.proofs.GrammarLemmas.{row-checks, no-row, row-more}
+use Rattle.xc_input.proofs.TokenLemmas.{part-solid}
 use Rattle.xc_input.proofs.faulty.faulty_behind.Goals as goal
 
 pub loop-part-init : goal.loop-part-init

@@ -2,8 +2,8 @@ use Rattle.std.proofs.Common.{ℕ, List, length}
 use Rattle.xc_input.specs.Tokens.{parts}
 use Rattle.xc_input.specs.Faults.{part_checks}
 use Rattle.xc_input.specs.inner.Builders.{IsItemTable, row_of_line}
-use Rattle.xc_input.proofs.FaultyLemmas.{IsReadTo}
-use Rattle.xc_input.proofs.GrammarLemmas.StageLemmas.{IsRowOf}
+use Rattle.xc_input.proofs.FaultLemmas.{IsReadTo}
+use Rattle.xc_input.proofs.GrammarLemmas.{IsRowOf}
 use Rattle.xc_input.proofs.faulty.faulty_behind.Given as goal
 
 -- the parts so far have no fault, and the items are theirs

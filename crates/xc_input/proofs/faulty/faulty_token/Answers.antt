@@ -1,7 +1,7 @@
 use Rattle.std.proofs.Common.{ℕ, List, Option, IfOk, Bor, sym, ap, ◌∙◌, subst}
 use Rattle.std.specs.Option.{option_map}
 use Rattle.xc_input.specs.FaultyTokens.{IsFaultyToken, Tells}
-use Rattle.xc_input.proofs.FaultyLemmas.{ok-tells-same}
+use Rattle.xc_input.proofs.FaultLemmas.{ok-tells-same}
 use Rattle.xc_input.proofs.faulty.faulty_token.Goals as goal
 
 pub returns-in-Some-clause-faulty : goal.returns-in-Some-clause-faulty

@@ -5,13 +5,10 @@ use Rattle.std.proofs.Common.{unwrap_or, sym, ap, ◌∙◌, subst}
 use Rattle.xc_input.specs.Tokens.{tokens, parts}
 use Rattle.xc_input.specs.Faults.{first, token_checks, Context}
 use Rattle.xc_input.specs.FaultyTokens.{IsAtFault}
-use Rattle.xc_input.specs.inner.Sheets.{names_of}
-use Rattle.xc_input.specs.inner.Stages.{Row, context}
+use Rattle.xc_input.specs.inner.Stages.{names_of, Row, context}
 use Rattle.xc_input.specs.inner.Builders.{entry_of}
-use Rattle.xc_input.proofs.FaultLemmas.Checks.{items-length}
-use Rattle.xc_input.proofs.FaultyLemmas.{keys-length, tells-same}
-use Rattle.xc_input.proofs.GrammarLemmas.ClearLines.{parts-clear}
-use Rattle.xc_input.proofs.GrammarLemmas.StageLemmas.{parts-checked, context-is, no-row, P}
+use Rattle.xc_input.proofs.FaultLemmas.{items-length, keys-length, tells-same}
+use Rattle.xc_input.proofs.GrammarLemmas.{parts-clear, parts-checked, context-is, no-row, P}
 use Rattle.xc_input.proofs.faulty.faulty_use.Goals as goal
 
 pub returns-in-Err-Fault : goal.returns-in-Err-Fault

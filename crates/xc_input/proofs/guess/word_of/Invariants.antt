@@ -1,5 +1,5 @@
 use Rattle.std.proofs.Common.{◌≡◌, ◌≤◌, length, drop}
-use Rattle.xc_input.specs.inner.GuessedWords.{word_number}
+use Rattle.xc_input.specs.inner.Stored.{word_number}
 use Rattle.xc_input.proofs.guess.word_of.Given as goal
 
 abbrev pub invariant-loop-n : goal.invariant-loop-n

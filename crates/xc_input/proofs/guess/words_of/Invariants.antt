@@ -1,6 +1,5 @@
 use Rattle.std.proofs.Common.{◌-◌, length}
-use Rattle.xc_input.specs.inner.GuessedWords.{AreWords}
-use Rattle.xc_input.specs.inner.Stored.{key_names}
+use Rattle.xc_input.specs.inner.Stored.{AreWords, key_names}
 use Rattle.xc_input.proofs.guess.words_of.Given as goal
 
 abbrev pub invariant-loop-name : goal.invariant-loop-name

@@ -1,6 +1,6 @@
 use Rattle.std.proofs.Common.{refl}
 use Rattle.xc_input.specs.declared.kind.Kind.TheVariants.{Plain, Colours, Bounds}
-use Rattle.xc_input.proofs.GrammarLemmas.KindLemmas.{stands-also}
+use Rattle.xc_input.proofs.GrammarLemmas.{stands-also}
 use Rattle.xc_input.proofs.laws.kinds_that_allow_more.Goals as goal
 
 pub returns-clause-plain_as_colours : goal.returns-clause-plain_as_colours

@@ -1,6 +1,6 @@
 use Rattle.std.proofs.Common.{arith}
-use Rattle.xc_input.proofs.TokenLemmas.Bytes.{has-all, not_false}
-use Rattle.xc_input.proofs.LineLemmas.Cuts.{found-line}
+use Rattle.xc_input.proofs.FaultLemmas.{has-all, not_false}
+use Rattle.xc_input.proofs.LineLemmas.{found-line}
 use Rattle.xc_input.proofs.line_reader.line_len.Goals as goal
 
 pub returns-in_err-find_byte : goal.returns-in_err-find_byte

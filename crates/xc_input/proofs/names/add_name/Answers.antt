@@ -1,8 +1,5 @@
-use Rattle.xc_input.proofs.FaultLemmas.Checks.{no-place}
-use Rattle.xc_input.proofs.TokenLemmas.Bytes.{position-map}
-use Rattle.xc_input.proofs.FaultLemmas.Checks.{last-place}
+use Rattle.xc_input.proofs.FaultLemmas.{no-place, position-map, last-place, new-key}
 use Rattle.std.proofs.Common.{arith}
-use Rattle.xc_input.proofs.FaultLemmas.Checks.{new-key}
 use Rattle.xc_input.proofs.names.add_name.Goals as goal
 
 pub returns-clause-added : goal.returns-clause-added

@@ -1,5 +1,5 @@
 use Rattle.std.proofs.Common.{arith}
-use Rattle.xc_input.proofs.TokenLemmas.Bytes.{position-map}
+use Rattle.xc_input.proofs.FaultLemmas.{position-map}
 use Rattle.xc_input.proofs.names.place_of.Goals as goal
 
 pub returns : goal.returns

@@ -1,5 +1,5 @@
 use Rattle.std.proofs.Common.{◌≡◌, length, drop}
-use Rattle.xc_input.proofs.OptionLemmas.Marks.{AreAmong}
+use Rattle.xc_input.proofs.OptionLemmas.{AreAmong}
 use Rattle.xc_input.proofs.option_line.clear.Given as goal
 
 -- only items of the uses that are left are marked

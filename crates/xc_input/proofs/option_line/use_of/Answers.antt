@@ -1,5 +1,5 @@
 use Rattle.std.proofs.Common.{arith}
-use Rattle.xc_input.proofs.OptionLemmas.OneToken.{not-here, unknown, repeated, bare, on-primary, misfit, coloured}
+use Rattle.xc_input.proofs.OptionLemmas.{not-here, unknown, repeated, bare, on-primary, misfit, coloured}
 use Rattle.std.proofs.Common.{◌∙◌, sym}
 use Rattle.xc_input.proofs.option_line.use_of.Goals as goal
 

@@ -1,10 +1,9 @@
-use Rattle.xc_input.proofs.LineLemmas.TextLines.{lines_of-ended}
+use Rattle.xc_input.proofs.LineLemmas.{lines_of-ended, ends-as, line-ends, last-part}
 use Rattle.std.proofs.lemmas.List.{nil_from_length}
 use Rattle.std.proofs.Common.{append-nil}
 use Rattle.std.proofs.Common.{◌≡◌, ◌<◌, length, arith, refl}
 use Rattle.std.proofs.lemmas.Bool.Decides.{nat_tests}
 use Rattle.std.proofs.lemmas.Result.{err_from_is_err_and}
-use Rattle.xc_input.proofs.LineLemmas.Sources.{ends-as, line-ends, last-part}
 use Rattle.xc_input.proofs.read.end_text.Goals as goal
 
 -- behind a line feed

@@ -1,12 +1,9 @@
 use Rattle.std.proofs.Common.{◌++◌, ◌∙◌, [], ap, sym, subst, refl, append_assoc}
 use Rattle.std.proofs.lemmas.Result.{err_from_is_err_and}
-use Rattle.xc_input.specs.inner.EndedLines.{ended}
-use Rattle.xc_input.specs.inner.Feeding.{fed, Spoils}
+use Rattle.xc_input.specs.inner.Feeding.{ended, fed, Spoils}
 use Rattle.xc_input.specs.Pieces.{Gave, GaveAll}
-use Rattle.xc_input.proofs.LineLemmas.Cuts.{shorter}
-use Rattle.xc_input.proofs.LineLemmas.Pieces.{all_then, came-gave, fed-line, fed-on, gave_none, gave_then, part-spoiled}
-use Rattle.xc_input.proofs.LineLemmas.Pieces.{part-unread, recent-came, recent_none}
-use Rattle.xc_input.proofs.LineLemmas.TextLines.{Spoils-more}
+use Rattle.xc_input.proofs.LineLemmas.{shorter, all_then, came-gave, fed-line, fed-on, gave_none, gave_then}
+use Rattle.xc_input.proofs.LineLemmas.{part-spoiled, part-unread, recent-came, recent_none, Spoils-more}
 use Rattle.xc_input.proofs.read.feed_all.Goals as goal
 
 pub reading-init : goal.reading-init

@@ -1,8 +1,8 @@
 use Rattle.std.proofs.lemmas.Bool.Decides.{nat_tests}
 use Rattle.std.proofs.Common.{arith}
 use Rattle.std.proofs.lemmas.Result.{err_from_is_err_and}
-use Rattle.xc_input.specs.inner.EndedLines.{ended}
-use Rattle.xc_input.proofs.LineLemmas.Pieces.{part-none}
+use Rattle.xc_input.specs.inner.Feeding.{ended}
+use Rattle.xc_input.proofs.LineLemmas.{part-none}
 use Rattle.xc_input.proofs.read.read_problem.Goals as goal
 
 pub read_through-requires-clause-state : goal.read_through-requires-clause-state

@@ -1,6 +1,5 @@
 use Rattle.std.proofs.Common.{arith, refl}
-use Rattle.xc_input.proofs.LineLemmas.Sources.{ends-as}
-use Rattle.xc_input.proofs.LineLemmas.Pieces.{whole-last, part-last, faultless, open-carry}
+use Rattle.xc_input.proofs.LineLemmas.{ends-as, whole-last, part-last, faultless, open-carry}
 use Rattle.xc_input.proofs.read.read_through.Goals as goal
 
 -- what the answer at the end of the input says of what was fed

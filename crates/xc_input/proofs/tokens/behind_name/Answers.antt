@@ -1,5 +1,5 @@
 use Rattle.std.proofs.Common.{sym, arith}
-use Rattle.xc_input.proofs.TokenLemmas.TableNames.{behind-known}
+use Rattle.xc_input.proofs.TokenLemmas.{behind-known}
 use Rattle.xc_input.proofs.tokens.behind_name.Goals as goal
 
 pub returns : goal.returns

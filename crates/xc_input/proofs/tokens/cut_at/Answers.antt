@@ -1,7 +1,7 @@
 use Rattle.std.proofs.lemmas.Grind.{common_steps}
 use Rattle.std.proofs.lemmas.List.{take_rest}
 use Rattle.std.proofs.Common.{◌+◌, drop, arith, sym, ap, ◌∙◌, add-one}
-use Rattle.xc_input.proofs.TokenLemmas.Bytes.{has-all, has-at, not_false}
+use Rattle.xc_input.proofs.FaultLemmas.{has-all, has-at, not_false}
 use Rattle.xc_input.proofs.tokens.cut_at.Goals as goal
 
 pub returns-in-None-clause-front : goal.returns-in-None-clause-front

@@ -2,7 +2,7 @@ use Rattle.std.proofs.lemmas.Grind.{common_steps}
 use Rattle.std.proofs.Common.{ℕ, List, Option, None, Some, ◌≡◌, ◌∙◌, arith, sym, is_some}
 use Rattle.bstr.specs.Find.{IsFirstByte, is_byte}
 use Rattle.xc_input.specs.Words.{has}
-use Rattle.xc_input.proofs.TokenLemmas.Bytes.{has-all, has-at, not_false}
+use Rattle.xc_input.proofs.FaultLemmas.{has-all, has-at, not_false}
 use Rattle.xc_input.proofs.tokens.has_byte.Goals as goal
 
 by-place : (byte : ℕ) (bytes : List ℕ) (at : Option ℕ) → IsFirstByte (is_byte byte) bytes at

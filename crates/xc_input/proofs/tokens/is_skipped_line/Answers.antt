@@ -1,6 +1,6 @@
 use Rattle.std.proofs.Common.{◌≡◌, ◌∙◌, [], length, arith, sym}
 use Rattle.std.proofs.lemmas.List.{nil_from_length}
-use Rattle.xc_input.proofs.TokenLemmas.Bytes.{skipped-front, skipped-first}
+use Rattle.xc_input.proofs.FaultLemmas.{skipped-front, skipped-first}
 use Rattle.xc_input.proofs.tokens.is_skipped_line.Goals as goal
 
 pub returns-in-empty : goal.returns-in-empty

@@ -1,6 +1,6 @@
 use Rattle.std.proofs.Common.{◌-◌, length, drop, arith, rules, refl}
 use Rattle.std.proofs.lemmas.List.{length-drop, take_all}
-use Rattle.xc_input.proofs.TokenLemmas.KnownTokens.{known-first}
+use Rattle.xc_input.proofs.TokenLemmas.{known-first}
 use Rattle.xc_input.proofs.tokens.known_token.Goals as goal
 
 pub returns : goal.returns

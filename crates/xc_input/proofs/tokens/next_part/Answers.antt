@@ -1,4 +1,4 @@
-use Rattle.xc_input.proofs.TokenLemmas.Bytes.{cuts_part, cuts_bar, no-token}
+use Rattle.xc_input.proofs.FaultLemmas.{cuts_part, cuts_bar, no-token}
 use Rattle.std.proofs.lemmas.Bool.{ne_eqb}
 use Rattle.std.proofs.Common.{arith}
 use Rattle.std.proofs.lemmas.Bool.Decides.{nat_tests}

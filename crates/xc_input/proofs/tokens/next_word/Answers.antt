@@ -1,4 +1,4 @@
-use Rattle.xc_input.proofs.TokenLemmas.Bytes.{cuts_first, no-token}
+use Rattle.xc_input.proofs.FaultLemmas.{cuts_first, no-token}
 use Rattle.std.proofs.Common.{arith}
 use Rattle.std.proofs.lemmas.Bool.Decides.{nat_tests}
 use Rattle.xc_input.proofs.tokens.next_word.Goals as goal

@@ -1,10 +1,9 @@
-use Rattle.xc_input.proofs.TokenLemmas.Bytes.{cuts_first, no-token}
+use Rattle.xc_input.proofs.FaultLemmas.{cuts_first, no-token}
 use Rattle.std.proofs.Common.{◌++◌, arith, sym, ap, ◌∙◌, take}
 use Rattle.std.proofs.lemmas.Bool.Decides.{nat_tests}
 use Rattle.std.proofs.lemmas.List.{take-append-drop}
 use Rattle.xc_input.specs.inner.Stored.{key_names}
-use Rattle.xc_input.proofs.TokenLemmas.CutTokens.{cut-token}
-use Rattle.xc_input.proofs.TokenLemmas.KnownTokens.{behind-all-white}
+use Rattle.xc_input.proofs.TokenLemmas.{cut-token, behind-all-white}
 use Rattle.xc_input.proofs.tokens.other_token.Goals as goal
 
 pub returns-then-is_empty : goal.returns-then-is_empty

@@ -1,5 +1,5 @@
 use Rattle.std.proofs.Common.{◌≡◌, length}
-use Rattle.xc_input.specs.inner.Fronts.{drop_white}
+use Rattle.xc_input.specs.inner.CutTokens.{drop_white}
 use Rattle.xc_input.proofs.tokens.skip_white.Given as goal
 
 abbrev pub invariant-loop-rest : goal.invariant-loop-rest

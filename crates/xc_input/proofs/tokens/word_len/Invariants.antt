@@ -1,5 +1,5 @@
 use Rattle.std.proofs.Common.{◌≡◌, ◌≤◌, ◌+◌, ◌-◌, length, drop}
-use Rattle.xc_input.specs.inner.Fronts.{word}
+use Rattle.xc_input.specs.inner.CutTokens.{word}
 use Rattle.xc_input.proofs.tokens.word_len.Given as goal
 
 abbrev pub invariant-loop-n : goal.invariant-loop-n

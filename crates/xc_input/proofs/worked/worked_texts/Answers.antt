@@ -1,7 +1,7 @@
 use Rattle.std.proofs.Common.{refl}
 use Rattle.xc_input.specs.declared.kind.Kind.TheVariants.{Plain, Colours, Bounds}
 use Rattle.xc_input.specs.Worked.{commented, coloured, bounded}
-use Rattle.xc_input.proofs.FaultLemmas.FirstFaults.{faultless-stands}
+use Rattle.xc_input.proofs.LineLemmas.{faultless-stands}
 use Rattle.xc_input.proofs.worked.worked_texts.Goals as goal
 
 pub returns-clause-problems : goal.returns-clause-problems

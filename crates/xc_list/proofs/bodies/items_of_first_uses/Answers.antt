@@ -1,5 +1,5 @@
 use Rattle.std.proofs.Common.{append_assoc}
-use Rattle.xc_list.proofs.OutputLemmas.LaidOptions.{options_left}
+use Rattle.xc_list.proofs.OutputLemmas.{options_left}
 use Rattle.std.proofs.lemmas.Result.{IfOk-from_err}
 use Rattle.xc_list.proofs.bodies.items_of_first_uses.Goals as goal
 

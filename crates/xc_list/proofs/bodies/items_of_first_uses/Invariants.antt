@@ -1,5 +1,5 @@
 use Rattle.std.proofs.Common.{◌≡◌, ◌++◌, map, drop}
-use Rattle.xc_list.specs.inner.Layout.{first_item}
+use Rattle.xc_list.specs.inner.Writing.{first_item}
 use Rattle.xc_list.proofs.bodies.items_of_first_uses.Given as goal
 
 -- those of the options so far, before those of the others

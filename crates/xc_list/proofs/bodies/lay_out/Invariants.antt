@@ -1,5 +1,5 @@
 use Rattle.std.proofs.Common.{take}
-use Rattle.xc_list.specs.inner.Layout.{AreLaid}
+use Rattle.xc_list.specs.inner.Writing.{AreLaid}
 use Rattle.xc_list.proofs.bodies.lay_out.Given as goal
 
 -- the options so far are laid out

@@ -1,5 +1,5 @@
 use Rattle.std.proofs.Common.{arith, ◌≡◌, ap, length}
-use Rattle.xc_list.proofs.OutputLemmas.LaidOptions.{laid_more}
+use Rattle.xc_list.proofs.OutputLemmas.{laid_more}
 use Rattle.xc_list.proofs.bodies.lay_out_option.Goals as goal
 
 pub returns-in-Ok-push : goal.returns-in-Ok-push

@@ -1,5 +1,5 @@
 use Rattle.std.proofs.Common.{◌≡◌, ◌+◌, ◌-◌, ◌≤◌, ◌^◌, length, min, drop}
-use Rattle.xc_list.specs.inner.Layout.{uses_text}
+use Rattle.xc_list.specs.inner.Writing.{uses_text}
 use Rattle.xc_list.proofs.bodies.option_length.Given as goal
 
 abbrev pub invariant-loop-u : goal.invariant-loop-u

@@ -1,5 +1,5 @@
 use Rattle.std.proofs.lemmas.List.Folds.{length-flat_map-take}
-use Rattle.xc_list.specs.inner.LineParts.{use_text}
+use Rattle.xc_list.specs.inner.Writing.{use_text}
 use Rattle.std.proofs.Common.{arith}
 use Rattle.xc_list.proofs.bodies.place_in_text.Goals as goal
 

@@ -1,6 +1,6 @@
 use Rattle.std.proofs.Common.{◌≡◌, ◌+◌, length, take, drop}
 use Rattle.xc_input.specs.UsePlaces.{place_in}
-use Rattle.xc_list.specs.inner.Layout.{uses_text}
+use Rattle.xc_list.specs.inner.Writing.{uses_text}
 use Rattle.xc_list.proofs.bodies.place_in_text.Given as goal
 
 -- the item's use is none so far, and their texts are counted

@@ -2,7 +2,7 @@ use Rattle.std.proofs.Common.{append-nil}
 use Rattle.std.proofs.lemmas.Bool.Decides.{nat_tests}
 use Rattle.std.proofs.lemmas.Grind.{common_steps}
 use Rattle.std.proofs.Common.{arith, ap, length, ◌≤◌}
-use Rattle.xc_list.proofs.OutputLemmas.LaidOptions.{cut_in_span, span-length, text_put}
+use Rattle.xc_list.proofs.OutputLemmas.{cut_in_span, span-length, text_put}
 use Rattle.xc_list.proofs.bodies.put_cut.Goals as goal
 use Rattle.xc_list.proofs.bodies.put_cut.Goals.{After-place_in_text-place}
 

@@ -1,6 +1,6 @@
 use Rattle.std.proofs.Common.{arith}
-use Rattle.xc_input.proofs.FaultLemmas.Checks.{items-length}
-use Rattle.xc_list.proofs.OutputLemmas.LaidOptions.{laid-count, padded_part}
+use Rattle.xc_input.proofs.FaultLemmas.{items-length}
+use Rattle.xc_list.proofs.OutputLemmas.{laid-count, padded_part}
 use Rattle.xc_list.proofs.bodies.span_of.Goals as goal
 
 pub index-requires : goal.index-requires

@@ -1,7 +1,7 @@
 use Rattle.std.proofs.Common.{arith, ◌≡◌, ◌+◌, drop, length, length-append}
 use Rattle.std.specs.Prelude.{flat_map}
-use Rattle.xc_list.specs.inner.Layout.{uses_text}
-use Rattle.xc_list.proofs.OutputLemmas.LaidOptions.{options_left}
+use Rattle.xc_list.specs.inner.Writing.{uses_text}
+use Rattle.xc_list.proofs.OutputLemmas.{options_left}
 use Rattle.xc_list.proofs.bodies.total_length.Goals as goal
 
 pub loop-o-preserved : goal.loop-o-preserved

@@ -1,6 +1,6 @@
 use Rattle.std.proofs.Common.{◌≡◌, ◌+◌, ◌-◌, ◌≤◌, ◌^◌, length, min, drop}
 use Rattle.std.specs.Prelude.{flat_map}
-use Rattle.xc_list.specs.inner.Layout.{uses_text}
+use Rattle.xc_list.specs.inner.Writing.{uses_text}
 use Rattle.xc_list.proofs.bodies.total_length.Given as goal
 
 abbrev pub invariant-loop-o : goal.invariant-loop-o

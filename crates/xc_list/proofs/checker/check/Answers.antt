@@ -5,7 +5,7 @@ use Rattle.xc_input.specs.Lines.{lines_of}
 use Rattle.xc_input.specs.Named.{Named, IsSound}
 use Rattle.xc_list.specs.Listed.{AreVerdicts}
 use Rattle.xc_list.specs.inner.Classes.{Classes}
-use Rattle.xc_list.proofs.OutputLemmas.ListedCovers.{wants_memory, all_yes}
+use Rattle.xc_list.proofs.OutputLemmas.{wants_memory, all_yes}
 use Rattle.xc_list.proofs.checker.check.Goals as goal
 
 pub take_lines-requires : goal.take_lines-requires

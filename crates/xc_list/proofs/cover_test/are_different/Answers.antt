@@ -1,14 +1,11 @@
-use Rattle.xc_input.proofs.lists.Members.{each_from}
-use Rattle.xc_list.proofs.CheckLemmas.ListedNumbers.{any-in}
+use Rattle.xc_input.proofs.ListLemmas.{each_from, each_in, EachTwo, each_two_from_AllPairs, AllPairs-from_each_two}
+use Rattle.xc_list.proofs.ClassLemmas.{any-in, in-any}
 use Rattle.std.proofs.Common.{eq-eqb}
 use Rattle.std.proofs.lemmas.Bool.Decides.{nat_tests}
-use Rattle.xc_list.proofs.CheckLemmas.ListedNumbers.{in-any}
-use Rattle.xc_input.proofs.lists.Members.{each_in}
 use Rattle.std.proofs.lemmas.Bool.{eqb-true}
 use Rattle.std.proofs.Common.{arith}
 use Rattle.std.proofs.Common.{◌≢◌, refl, subst, sym}
 use Rattle.std.proofs.lemmas.List.{nil_from_length}
-use Rattle.xc_input.proofs.lists.EachTwo.{EachTwo, each_two_from_AllPairs, AllPairs-from_each_two}
 use Rattle.xc_list.proofs.cover_test.are_different.Goals as goal
 
 pub returns-then-contains : goal.returns-then-contains

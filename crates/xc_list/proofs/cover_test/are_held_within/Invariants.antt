@@ -1,5 +1,5 @@
 use Rattle.std.proofs.Common.{ℕ, ◌≡◌, ◌<◌, ◌+◌, true}
-use Rattle.xc_list.specs.inner.Tested.{is_held_within}
+use Rattle.xc_list.specs.inner.Classes.{is_held_within}
 use Rattle.xc_list.proofs.cover_test.are_held_within.Given as goal
 
 -- the items so far are held as often as they have to be

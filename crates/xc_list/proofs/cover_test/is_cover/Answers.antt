@@ -1,5 +1,5 @@
 use Rattle.std.proofs.Common.{refl, ◌∙◌, sym}
-use Rattle.xc_list.proofs.CheckLemmas.TestedCovers.{cover_from_tests, tests_of_cover}
+use Rattle.xc_list.proofs.CheckLemmas.{cover_from_tests, tests_of_cover}
 use Rattle.xc_list.proofs.cover_test.is_cover.Goals as goal
 
 pub returns-then-are_held_within : goal.returns-then-are_held_within

@@ -3,7 +3,7 @@ use Rattle.std.specs.Prelude.{flat_map}
 use Rattle.xc_input.specs.Hashing.{taken}
 use Rattle.xc_input.specs.ItemBounds.{bounds_of}
 use Rattle.xc_list.specs.Digests.{digest_after}
-use Rattle.xc_list.specs.inner.DigestParts.{bounds_numbers, digest_multiplier}
+use Rattle.xc_list.specs.inner.Writing.{bounds_numbers, digest_multiplier}
 use Rattle.xc_list.proofs.digest.after_bounds.Given as goal
 
 -- the state after those so far

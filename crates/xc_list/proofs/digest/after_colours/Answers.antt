@@ -1,8 +1,8 @@
 use Rattle.std.proofs.Common.{◌∙◌, ap, length}
 use Rattle.xc_input.specs.Hashing.{taken}
 use Rattle.xc_list.specs.Digests.{digest_after}
-use Rattle.xc_list.specs.inner.DigestParts.{bytes_numbers, digest_multiplier}
-use Rattle.xc_list.proofs.DigestStates.{after_next}
+use Rattle.xc_list.specs.inner.Writing.{bytes_numbers, digest_multiplier}
+use Rattle.xc_list.proofs.ProblemTexts.{after_next}
 use Rattle.xc_list.proofs.digest.after_colours.Goals as goal
 
 pub loop-c-preserved : goal.loop-c-preserved

@@ -1,4 +1,4 @@
-use Rattle.xc_list.proofs.ProblemNumbers.{numbers-tell}
+use Rattle.xc_list.proofs.ProblemTexts.{numbers-tell}
 use Rattle.xc_list.proofs.laws.problems_by_numbers.Goals as goal
 
 pub returns : goal.returns

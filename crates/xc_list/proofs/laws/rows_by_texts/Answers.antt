@@ -1,4 +1,4 @@
-use Rattle.xc_list.proofs.RowTexts.{row_word-row_text}
+use Rattle.xc_list.proofs.Writing.{row_word-row_text}
 use Rattle.xc_list.proofs.laws.rows_by_texts.Goals as goal
 
 pub returns : goal.returns

@@ -1,7 +1,7 @@
 use Rattle.std.proofs.Common.{arith}
 use Rattle.std.proofs.lemmas.Fmt.{length-decimal-le}
 use Rattle.std.proofs.lemmas.List.{length-set}
-use Rattle.xc_list.proofs.PageLemmas.{header_held, header_behind}
+use Rattle.xc_list.proofs.Writing.{header_held, header_behind}
 use Rattle.xc_list.proofs.page.put_header.Goals as goal
 
 pub write_digits-from-requires : goal.write_digits-from-requires

@@ -1,5 +1,5 @@
 use Rattle.std.proofs.Common.{arith}
-use Rattle.xc_list.proofs.KeptLines.{ends_there, first_fits, line_stands}
+use Rattle.xc_list.proofs.ProblemTexts.{ends_there, first_fits, line_stands}
 use Rattle.xc_list.proofs.print.keep_line.Goals as goal
 
 pub returns-in-Some-clause-end : goal.returns-in-Some-clause-end

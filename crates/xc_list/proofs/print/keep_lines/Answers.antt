@@ -3,7 +3,7 @@ use Rattle.std.proofs.Common.{arith, refl, ◌∙◌}
 use Rattle.std.proofs.lemmas.List.Elements.{All-tail}
 use Rattle.xc_search.specs.Marks.{marked, IsMark}
 use Rattle.xc_list.specs.Known.{IsKnownChoice}
-use Rattle.xc_list.proofs.KeptLines.{one_more, all_stand}
+use Rattle.xc_list.proofs.ProblemTexts.{one_line_more as one_more, all_stand}
 use Rattle.xc_list.proofs.print.keep_lines.Goals as goal
 
 pub keep_line-requires-clause-mark : goal.keep_line-requires-clause-mark

@@ -2,7 +2,7 @@ use Rattle.std.proofs.Common.{◌≡◌, ◌≤◌, ◌++◌, length, take}
 use Rattle.std.specs.Prelude.{All, map}
 use Rattle.xc_search.specs.Marks.{marked, IsMark}
 use Rattle.xc_list.specs.Known.{IsKnownChoice}
-use Rattle.xc_list.specs.inner.Pages.{AreKept, lines_end}
+use Rattle.xc_list.specs.inner.Writing.{AreKept, lines_end}
 use Rattle.xc_list.specs.declared.page.TheConstants.{LINES, ROOM}
 use Rattle.xc_list.proofs.print.keep_lines.Given as goal
 

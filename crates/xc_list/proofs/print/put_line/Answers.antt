@@ -1,9 +1,6 @@
-use Rattle.xc_list.proofs.Writing.{took_nothing}
-use Rattle.xc_list.proofs.Writing.{if_failed}
-use Rattle.xc_list.proofs.PageLemmas.{puts_out}
+use Rattle.xc_list.proofs.Writing.{took_nothing, if_failed, puts_out, held_more}
 use Rattle.std.proofs.Common.{arith, refl}
 use Rattle.std.proofs.lemmas.Slice.{between_is}
-use Rattle.xc_list.proofs.PageLemmas.{held_more}
 use Rattle.xc_list.proofs.print.put_line.Goals as goal
 
 pub returns-in-Some-clause-put : goal.returns-in-Some-clause-put

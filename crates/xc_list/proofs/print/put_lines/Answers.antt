@@ -1,10 +1,8 @@
 use Rattle.std.proofs.lemmas.Grind.{common_steps}
-use Rattle.xc_list.proofs.Writing.{took_nothing}
-use Rattle.xc_list.proofs.Writing.{if_failed}
+use Rattle.xc_list.proofs.Writing.{took_nothing, if_failed, line_put, lines_broke}
 use Rattle.std.proofs.Common.{arith, refl, []}
 use Rattle.std.proofs.lemmas.List.Elements.{All-tail}
 use Rattle.xc_list.specs.Known.{IsKnownChoice}
-use Rattle.xc_list.proofs.PageLemmas.{line_put, lines_broke}
 use Rattle.xc_list.proofs.print.put_lines.Goals as goal
 
 pub loop-choice-init : goal.loop-choice-init

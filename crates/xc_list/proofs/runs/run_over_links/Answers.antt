@@ -1,7 +1,6 @@
 use Rattle.std.proofs.Common.{arith}
 use Rattle.std.proofs.Common.{rules}
-use Rattle.xc_search.proofs.completeness.Covering.{each_member_covers}
-use Rattle.xc_search.proofs.completeness.Exactly.{each_cover_is_listed_once}
+use Rattle.xc_search.proofs.Completeness.{each_member_covers, each_cover_is_listed_once}
 use Rattle.xc_list.proofs.runs.run_over_links.Goals as goal
 
 pub returns-in_err-links-clause-right : goal.returns-in_err-links-clause-right

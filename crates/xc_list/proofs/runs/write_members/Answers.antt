@@ -2,12 +2,11 @@ use Rattle.std.proofs.lemmas.Bool.{le-ltb}
 use Rattle.std.proofs.Math.Nat.{le_antisymm}
 use Rattle.xc_list.specs.Known.{IsKnownChoice}
 use Rattle.std.specs.Prelude.{All}
-use Rattle.xc_list.proofs.Outputs.{holds_next}
-use Rattle.xc_list.proofs.OutputLemmas.KnownMembers.{members_known}
+use Rattle.xc_list.proofs.Writing.{holds_next, Reaches, reaches, ends, takes, stops, stands, within, none_left}
+use Rattle.xc_list.proofs.OutputLemmas.{members_known}
 use Rattle.std.proofs.Common.{arith, ◌+◌, ◌≤◌, ◌∙◌, length, ap}
-use Rattle.xc_list.proofs.FewMoves.{few_on}
-use Rattle.xc_list.proofs.NextPrinted.{Reaches, reaches, ends, takes, stops, stands, within, none_left}
-use Rattle.xc_search.proofs.ends.Whole.{ends_on}
+use Rattle.xc_list.proofs.SpanLemmas.{few_on}
+use Rattle.xc_search.proofs.EndLemmas.{ends_on}
 use Rattle.xc_search.specs.Outlook.{Outlook}
 use Rattle.xc_list.proofs.runs.write_members.Goals as goal
 use Rattle.xc_list.proofs.runs.write_members.Goals.{After-pass-passed}

@@ -6,7 +6,7 @@ use Rattle.xc_search.specs.Listing.{whole}
 use Rattle.xc_search.specs.Room.{room_for}
 use Rattle.xc_list.specs.Output.{output}
 use Rattle.xc_list.specs.Texts.{Took}
-use Rattle.xc_list.specs.inner.Pages.{AreKept}
+use Rattle.xc_list.specs.inner.Writing.{AreKept}
 use Rattle.xc_list.proofs.runs.write_members.Given as goal
 
 -- the members so far are written as far as they are printed, and the others are to come

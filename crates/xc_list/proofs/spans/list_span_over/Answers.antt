@@ -1,6 +1,6 @@
 use Rattle.std.proofs.Common.{ap}
 use Rattle.xc_list.specs.SpanWords.{asked_of}
-use Rattle.xc_list.proofs.SpanWork.{span_few}
+use Rattle.xc_list.proofs.SpanLemmas.{span_few}
 use Rattle.xc_list.proofs.spans.list_span_over.Goals as goal
 
 pub returns-in-Ok-wrote-clause-moves : goal.returns-in-Ok-wrote-clause-moves

@@ -1,12 +1,10 @@
 use Rattle.std.proofs.lemmas.Grind.{common_steps}
-use Rattle.xc_list.proofs.SpanLemmas.{numbers_next}
-use Rattle.xc_list.proofs.Writing.{then_took}
+use Rattle.xc_list.proofs.SpanLemmas.{numbers_next, branches_at, no_branches, broke_next, took_all}
+use Rattle.xc_list.proofs.Writing.{then_took, failed}
 use Rattle.std.proofs.Common.{◌≡◌, Some, arith}
 use Rattle.std.specs.Prelude.{slice_get}
 use Rattle.std.proofs.lemmas.Option.{slice_get_within}
-use Rattle.xc_list.specs.inner.SpanSteps.{branches_in}
-use Rattle.xc_list.proofs.Writing.{failed}
-use Rattle.xc_list.proofs.SpanLemmas.{branches_at, no_branches, broke_next, took_all}
+use Rattle.xc_list.specs.inner.Writing.{branches_in}
 use Rattle.xc_list.proofs.spans.write_branches.Goals as goal
 use Rattle.xc_list.proofs.spans.write_branches.Goals.{In-Some}
 

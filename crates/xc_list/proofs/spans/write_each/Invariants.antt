@@ -4,9 +4,9 @@ use Rattle.xc_search.specs.Nodes.{IsRowOf}
 use Rattle.xc_search.specs.InSpan.{left_of}
 use Rattle.xc_list.specs.Output.{member_text}
 use Rattle.xc_list.specs.Texts.{Took}
-use Rattle.xc_list.specs.inner.SpanSteps.{GoesFew}
-use Rattle.xc_list.proofs.Outputs.{first_texts}
-use Rattle.xc_list.proofs.SpanGoing.{IsAhead}
+use Rattle.xc_list.specs.inner.Writing.{GoesFew}
+use Rattle.xc_list.proofs.Writing.{first_texts}
+use Rattle.xc_list.proofs.SpanLemmas.{IsAhead}
 use Rattle.std.proofs.Common.{◌≡◌}
 use Rattle.xc_list.proofs.spans.write_each.Given as goal
 

@@ -1,4 +1,4 @@
-use Rattle.xc_list.specs.inner.SpanSteps.{dotted}
+use Rattle.xc_list.specs.inner.Writing.{dotted}
 use Rattle.xc_list.proofs.Writing.{loop_failed}
 use Rattle.xc_list.proofs.spans.write_numbers.Goals as goal
 

@@ -1,7 +1,7 @@
 use Rattle.std.proofs.Common.{take}
 use Rattle.std.specs.Prelude.{flat_map}
 use Rattle.xc_list.specs.Texts.{Took}
-use Rattle.xc_list.specs.inner.SpanSteps.{dotted}
+use Rattle.xc_list.specs.inner.Writing.{dotted}
 use Rattle.xc_list.proofs.spans.write_numbers.Given as goal
 
 -- the texts so far were taken, and no failure came

@@ -1,12 +1,10 @@
 use Rattle.std.proofs.lemmas.Grind.{common_steps}
-use Rattle.xc_list.proofs.SpanLemmas.{numbers_next}
-use Rattle.xc_list.proofs.Writing.{then_took}
+use Rattle.xc_list.proofs.SpanLemmas.{numbers_next, number_in, broke_next, took_all}
+use Rattle.xc_list.proofs.Writing.{then_took, failed}
 use Rattle.std.proofs.Common.{◌≡◌, Some, arith}
 use Rattle.std.specs.Prelude.{slice_get}
 use Rattle.std.proofs.lemmas.Option.{slice_get_within}
-use Rattle.xc_list.specs.inner.SpanSteps.{row_in}
-use Rattle.xc_list.proofs.Writing.{failed}
-use Rattle.xc_list.proofs.SpanLemmas.{number_in, broke_next, took_all}
+use Rattle.xc_list.specs.inner.Writing.{row_in}
 use Rattle.xc_list.proofs.spans.write_reached.Goals as goal
 use Rattle.xc_list.proofs.spans.write_reached.Goals.{In-Some}
 

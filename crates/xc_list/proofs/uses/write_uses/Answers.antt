@@ -1,5 +1,5 @@
 use Rattle.xc_list.proofs.Writing.{loop_failed}
-use Rattle.xc_list.specs.inner.LineParts.{use_text}
+use Rattle.xc_list.specs.inner.Writing.{use_text}
 use Rattle.xc_list.proofs.uses.write_uses.Goals as goal
 
 pub returns-in_err-write_use : goal.returns-in_err-write_use

@@ -1,5 +1,5 @@
 use Rattle.std.proofs.Common.{take}
-use Rattle.xc_list.specs.inner.LineParts.{use_text}
+use Rattle.xc_list.specs.inner.Writing.{use_text}
 use Rattle.std.specs.Prelude.{flat_map}
 use Rattle.xc_list.specs.Texts.{Took}
 use Rattle.xc_list.proofs.uses.write_uses.Given as goal

@@ -1,7 +1,6 @@
 use Rattle.std.proofs.Common.{arith, sym, subst, []}
 use Rattle.xc_list.specs.Texts.{Writes}
-use Rattle.xc_list.proofs.TextLemmas.{front_more}
-use Rattle.xc_list.proofs.Writing.{then_writes}
+use Rattle.xc_list.proofs.Writing.{front_more, then_writes}
 use Rattle.xc_list.proofs.write.write_all.Goals as goal
 
 pub returns-in-Ok-2 : goal.returns-in-Ok-2

@@ -1,7 +1,6 @@
 use Rattle.std.proofs.Common.{arith}
 use Rattle.std.proofs.Common.{◌∙◌}
-use Rattle.xc_list.proofs.TextLemmas.{front_more}
-use Rattle.xc_list.proofs.Writing.{then_broke, then_took, failed}
+use Rattle.xc_list.proofs.Writing.{front_more, then_broke, then_took, failed}
 use Rattle.xc_list.proofs.write.write_rest.Goals as goal
 
 pub returns-in_err-n : goal.returns-in_err-n

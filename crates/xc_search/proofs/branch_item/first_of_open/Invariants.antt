@@ -1,5 +1,5 @@
 use Rattle.std.proofs.Common.{◌-◌, ◌≤◌}
-use Rattle.xc_search.proofs.residual.FirstFewest.{CountsTo}
+use Rattle.xc_search.proofs.ResidualLemmas.{CountsTo}
 use Rattle.xc_search.proofs.branch_item.first_of_open.Given as goal
 
 abbrev pub invariant-loop-seen : goal.invariant-loop-seen

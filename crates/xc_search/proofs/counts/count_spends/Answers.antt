@@ -1,7 +1,7 @@
 use Rattle.std.proofs.Common.{arith}
 use Rattle.std.proofs.lemmas.List.Elements.{recursion_from_All}
-use Rattle.xc_input.proofs.OptionLemmas.FlatParts.{numbered_get-at}
-use Rattle.xc_search.proofs.room.CountedSums.{counted_more, few_spends}
+use Rattle.xc_input.proofs.TokenLemmas.{numbered_get-at}
+use Rattle.xc_search.proofs.MoveLemmas.{counted_more, few_spends}
 use Rattle.xc_search.proofs.counts.count_spends.Goals as goal
 
 pub overflow_add-spends : goal.overflow_add-spends

@@ -1,6 +1,6 @@
 use Rattle.std.proofs.Common.{ℕ, ◌≡◌, ◌≤◌}
 use Rattle.xc_input.specs.Problem.{uses_of}
-use Rattle.xc_search.specs.inner.MostLevels.{primary_uses}
+use Rattle.xc_search.specs.inner.Levels.{primary_uses}
 use Rattle.xc_search.proofs.counts.even_size.Given as goal
 
 abbrev pub invariant-loop-o : goal.invariant-loop-o

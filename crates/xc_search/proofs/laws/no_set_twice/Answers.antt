@@ -1,4 +1,4 @@
-use Rattle.xc_search.proofs.completeness.Once.{no_set_twice}
+use Rattle.xc_search.proofs.Completeness.{no_set_twice}
 use Rattle.xc_search.proofs.laws.no_set_twice.Goals as goal
 
 pub returns : goal.returns

@@ -1,11 +1,9 @@
 use Rattle.std.proofs.Common.{arith, ◌≡◌, refl, ap}
-use Rattle.xc_search.proofs.stacked.Moved.{opens_moved}
-use Rattle.xc_search.proofs.moves.NoTweaks.{plain_above, plain_after_spend}
-use Rattle.xc_search.proofs.stacked.Depth.{depth_at}
-use Rattle.xc_search.proofs.stacked.EarlyChoice.{chosen_leads}
-use Rattle.xc_search.proofs.stacked.LoopSteps.{Opens, node_at, deepens}
-use Rattle.xc_search.proofs.spans.LeftOut.{opens_stays, may_go_on, step_on, stays_on, enters_at, ends_at_once}
-use Rattle.xc_search.proofs.ends.Steps.{pays_first, pays_nothing}
+use Rattle.xc_search.proofs.BranchLemmas.{opens_moved, chosen_leads}
+use Rattle.xc_search.proofs.MoveLemmas.{plain_above, plain_after_spend}
+use Rattle.xc_search.proofs.LoopSteps.{depth_at, Opens, node_at, deepens}
+use Rattle.xc_search.proofs.SpanHalts.{opens_stays, may_go_on, step_on, stays_on, enters_at, ends_at_once}
+use Rattle.xc_search.proofs.EndLemmas.{pays_first, pays_nothing}
 use Rattle.xc_search.proofs.levels.deepen.Goals as goal
 use Rattle.xc_search.proofs.levels.deepen.Goals.{In-Some, After-descend-level}
 use Rattle.xc_search.specs.declared.levels.Entered.{Entered}

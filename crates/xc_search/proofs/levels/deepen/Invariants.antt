@@ -1,9 +1,8 @@
 use Rattle.std.proofs.Common.{ℕ, ◌≡◌, ◌≤◌, ◌-◌, true, Some}
 use Rattle.xc_search.specs.inner.Levels.{IsEarlyChoice}
-use Rattle.xc_search.specs.inner.Ahead.{branched}
-use Rattle.xc_search.specs.inner.Due.{Pays}
-use Rattle.xc_search.proofs.stacked.LoopSteps.{with_begun}
-use Rattle.xc_search.proofs.spans.LeftOut.{Stepped}
+use Rattle.xc_search.specs.inner.Ahead.{branched, Pays}
+use Rattle.xc_search.proofs.LoopSteps.{with_begun}
+use Rattle.xc_search.proofs.SpanHalts.{Stepped}
 use Rattle.xc_search.proofs.levels.deepen.Given as goal
 
 abbrev pub invariant-loop-level : goal.invariant-loop-level

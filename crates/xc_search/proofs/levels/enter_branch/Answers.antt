@@ -3,9 +3,9 @@ use Rattle.xc_search.specs.inner.Levels.{Levels}
 use Rattle.xc_search.specs.declared.levels.Entered.{Entered}
 use Rattle.xc_search.specs.declared.levels.Below.TheVariants.{Branch}
 use Rattle.xc_search.specs.declared.levels.Next.TheVariants as next
-use Rattle.xc_search.proofs.spans.Onward.{enters_back, ends_back}
-use Rattle.xc_search.proofs.spans.Passing.{rest_of_all}
-use Rattle.xc_search.proofs.ends.Steps.{Pays-trans}
+use Rattle.xc_search.proofs.SpanHalts.{enters_back, ends_back}
+use Rattle.xc_search.proofs.SpanSteps.{rest_of_all}
+use Rattle.xc_search.proofs.EndLemmas.{Pays-trans}
 use Rattle.xc_search.proofs.levels.enter_branch.Goals as goal
 
 same_entered : (a b : Entered) → next.Branch a ≡ next.Branch b → a ≡ b

@@ -1,11 +1,10 @@
 use Rattle.std.proofs.Common.{arith, ◌≡◌, ◌∙◌, not, refl}
 use Rattle.std.proofs.lemmas.List.{length-reverse}
-use Rattle.xc_search.proofs.stacked.Moved.{levels_moved, solved_moved}
-use Rattle.xc_search.proofs.stacked.EarlyChoice.{chosen_next, chosen_early}
-use Rattle.xc_search.proofs.stacked.NextLevel.{solution}
-use Rattle.xc_search.proofs.spans.Onward.{falls_over}
-use Rattle.xc_search.proofs.spans.Passing.{over_below, over_one}
-use Rattle.xc_search.proofs.ends.Steps.{pays_over, pays_one}
+use Rattle.xc_search.proofs.BranchLemmas.{levels_moved, solved_moved, chosen_next, chosen_early}
+use Rattle.xc_search.proofs.LoopSteps.{solution}
+use Rattle.xc_search.proofs.SpanHalts.{falls_over}
+use Rattle.xc_search.proofs.SpanSteps.{over_below, over_one}
+use Rattle.xc_search.proofs.EndLemmas.{pays_over, pays_one}
 use Rattle.xc_search.proofs.levels.go_below.Goals as goal
 use Rattle.xc_search.proofs.levels.go_below.Goals.{After-choose_by-next}
 

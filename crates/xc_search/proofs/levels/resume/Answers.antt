@@ -1,13 +1,11 @@
-use Rattle.xc_search.proofs.stacked.BackAtLevel.{finished}
+use Rattle.xc_search.proofs.LoopSteps.{finished, GoesOn-trans, goes_on_to, unwound, enters_next}
 use Rattle.std.proofs.Common.{◌<◌, ◌≤◌, ◌∷◌, ◌∙◌, drop, false, refl, ap, arith}
 use Rattle.xc_search.specs.inner.Levels.{Levels, AreStacked}
 use Rattle.xc_search.specs.inner.Ahead.{GoesOn, visits}
-use Rattle.xc_search.proofs.stacked.LoopSteps.{GoesOn-trans, goes_on_to, unwound}
-use Rattle.xc_search.proofs.spans.Numbers.{oldest_all, oldest_fewer, rises_next, no_more_levels}
-use Rattle.xc_search.proofs.ends.Steps.{Pays-trans, pays_next, pays_back}
+use Rattle.xc_search.proofs.SpanSteps.{oldest_all, oldest_fewer, rises_next, no_more_levels}
+use Rattle.xc_search.proofs.EndLemmas.{Pays-trans, pays_next, pays_back}
 use Rattle.xc_search.proofs.levels.resume.Goals as goal
 use Rattle.xc_search.proofs.levels.resume.Goals.{In-Some, After-pop}
-use Rattle.xc_search.proofs.stacked.LoopSteps.{enters_next}
 
 pub loop-level-init : goal.loop-level-init
 loop-level-init g c = grind (arith, oldest_all)

@@ -1,9 +1,7 @@
 use Rattle.std.proofs.Common.{ℕ, ◌≡◌, ◌≤◌, Bool, false}
 use Rattle.xc_dance.specs.Dancing.{moves_made}
-use Rattle.xc_search.specs.inner.Ahead.{visits, GoesOn}
-use Rattle.xc_search.specs.inner.Paths.{KeepsBy}
-use Rattle.xc_search.proofs.spans.Numbers.{IsOldest}
-use Rattle.xc_search.specs.inner.Due.{Pays}
+use Rattle.xc_search.specs.inner.Ahead.{visits, GoesOn, KeepsBy, Pays}
+use Rattle.xc_search.proofs.SpanSteps.{IsOldest}
 use Rattle.xc_search.proofs.levels.resume.Given as goal
 
 -- what the levels have still to give is what they had

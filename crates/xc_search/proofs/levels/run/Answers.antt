@@ -1,14 +1,13 @@
 use Rattle.std.proofs.Common.{ℕ, ◌≡◌, ◌+◌, ◌<◌, true, false, not, refl, sym, ap, ◌∙◌, arith, inl, inr, List, Option}
 use Rattle.std.specs.Prelude.{nat_eq, option_map}
 use Rattle.std.proofs.lemmas.Bool.Decides.{nat_tests}
-use Rattle.xc_input.proofs.Cases.{by_option}
+use Rattle.xc_input.proofs.ListLemmas.{by_option}
 use Rattle.xc_search.specs.inner.Spanning.{BeginsBranch, IsRest, IsSeenBy}
-use Rattle.xc_search.proofs.stacked.Moved.{none_begun}
-use Rattle.xc_search.proofs.ends.Steps.{Pays-trans}
-use Rattle.xc_search.proofs.spans.Kept.{row_levels, rest_before, rest_about}
-use Rattle.xc_search.proofs.spans.Passing.{rest_of_all, first_rest, none_left_out}
-use Rattle.xc_search.proofs.spans.Running.{stands_first, stands_more}
-use Rattle.xc_search.proofs.spans.Runs.{runs_to_steps, runs_to_member, runs_to_end, runs_to_row, seen_rest}
+use Rattle.xc_search.proofs.BranchLemmas.{none_begun}
+use Rattle.xc_search.proofs.EndLemmas.{Pays-trans}
+use Rattle.xc_search.proofs.SpanSteps.{row_levels, rest_before, rest_about, rest_of_all, first_rest, none_left_out}
+use Rattle.xc_search.proofs.SpanSteps.{stands_first, stands_more}
+use Rattle.xc_search.proofs.SpanRuns.{runs_to_steps, runs_to_member, runs_to_end, runs_to_row, seen_rest}
 use Rattle.xc_search.proofs.levels.run.Goals as goal
 use Rattle.xc_search.proofs.levels.run.Goals.{After-enter_branch, After-commit_branch}
 use Rattle.xc_search.proofs.levels.run.Goals.{in-Some+in-Before, in-Some+in-Begins, in_default}

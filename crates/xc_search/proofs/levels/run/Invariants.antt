@@ -1,7 +1,6 @@
 use Rattle.std.proofs.Common.{ℕ, ◌≡◌, ◌+◌, ◌-◌, ◌≤◌, ◌<◌, true, not, List, Option}
 use Rattle.std.specs.Prelude.{nat_eq, option_map, ◌^◌}
-use Rattle.xc_search.specs.inner.Ahead.{ahead}
-use Rattle.xc_search.specs.inner.Due.{Pays}
+use Rattle.xc_search.specs.inner.Ahead.{ahead, Pays}
 use Rattle.xc_search.specs.inner.Spanning.{Stands, IsRest, IsSeenBy}
 use Rattle.xc_search.proofs.levels.run.Given as goal
 

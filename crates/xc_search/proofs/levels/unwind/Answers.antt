@@ -1,9 +1,8 @@
 use Rattle.std.proofs.lemmas.Grind.{common_steps}
 use Rattle.std.proofs.Common.{◌≡◌, ◌+◌, ◌-◌, length, drop, ap, ◌∙◌, arith}
 use Rattle.xc_dance.specs.Dancing.{Dancing}
-use Rattle.xc_search.specs.inner.Commits.{oldest}
-use Rattle.xc_search.proofs.stacked.LoopSteps.{ended_level, unwound}
-use Rattle.xc_search.proofs.stacked.BackAtLevel.{ends_tweaks}
+use Rattle.xc_search.specs.inner.Levels.{oldest}
+use Rattle.xc_search.proofs.LoopSteps.{ended_level, unwound, ends_tweaks}
 use Rattle.xc_search.proofs.levels.unwind.Goals as goal
 use Rattle.xc_search.proofs.levels.unwind.Goals.{After-undo_to-in-Some, then-level-gt0, else-level-gt0}
 

@@ -1,9 +1,8 @@
 use Rattle.std.proofs.Common.{◌∙◌, sym, ap, inl, inr, refl, [], false}
 use Rattle.std.specs.Prelude.{option_map}
 use Rattle.xc_search.specs.Spans.{is_before}
-use Rattle.xc_search.proofs.spans.Kept.{row_levels}
-use Rattle.xc_search.proofs.spans.Exact.{led_by}
-use Rattle.xc_search.proofs.spans.Runs.{ran_to, settled, settled_behind, settled_nowhere}
+use Rattle.xc_search.proofs.SpanSteps.{row_levels, led_by}
+use Rattle.xc_search.proofs.SpanRuns.{ran_to, settled, settled_behind, settled_nowhere}
 use Rattle.xc_search.proofs.spanning.go_over.Goals as goal
 
 pub replace_with-ran-requires : goal.replace_with-ran-requires

@@ -1,7 +1,6 @@
 use Rattle.std.proofs.Common.{refl, subst}
 use Rattle.xc_search.specs.inner.Spanning.{Reaches}
-use Rattle.xc_search.proofs.spans.Kept.{one_of_two, two_ways}
-use Rattle.xc_search.proofs.spans.Stuck.{led_free, never_stuck}
+use Rattle.xc_search.proofs.SpanSteps.{one_of_two, two_ways, led_free, never_stuck}
 use Rattle.xc_search.proofs.spanning.reach.Goals as goal
 
 pub returns-then-not-reach_by : goal.returns-then-not-reach_by

@@ -5,12 +5,12 @@ use Rattle.std.proofs.Common.{refl, sym, ap, ◌∙◌, arith}
 use Rattle.xc_search.specs.Spans.{precedes}
 use Rattle.xc_search.specs.declared.levels.Stop.TheVariants.{Member, Steps, Row}
 use Rattle.xc_search.specs.inner.Spanning.{RunsTo, Stands}
-use Rattle.xc_search.proofs.spans.Kept.{reaches_on, reaches_there, reaches_none, starts_reaching, led_nowhere}
-use Rattle.xc_search.proofs.spans.Numbers.{numbers_row}
-use Rattle.xc_search.proofs.spans.Reached.{IsNextNumber, next_number, seen_before, row_past, row_past_zero, row_more}
-use Rattle.xc_search.proofs.spans.Reached.{row_grows}
-use Rattle.xc_search.proofs.spans.Rows.{not_itself}
-use Rattle.xc_search.proofs.spans.Runs.{step_stands}
+use Rattle.xc_search.proofs.SpanSteps.{reaches_on, reaches_there, reaches_none, starts_reaching, led_nowhere}
+use Rattle.xc_search.proofs.SpanSteps.{numbers_row}
+use Rattle.xc_search.proofs.SpanHalts.{IsNextNumber, next_number, seen_before, row_past, row_past_zero, row_more}
+use Rattle.xc_search.proofs.SpanHalts.{row_grows}
+use Rattle.xc_search.proofs.RowLemmas.{not_itself}
+use Rattle.xc_search.proofs.SpanRuns.{step_stands}
 use Rattle.xc_search.proofs.spanning.reach_by.Goals as goal
 use Rattle.xc_search.proofs.spanning.reach_by.Goals.{After-replace_with}
 use Rattle.xc_search.proofs.spanning.reach_by.Goals.{then-levels-via-then-levels}

@@ -1,6 +1,6 @@
 use Rattle.std.proofs.Common.{ℕ, ◌≡◌, ◌≤◌, not, take}
-use Rattle.xc_search.specs.inner.Paths.{numbers}
-use Rattle.xc_search.proofs.spans.Kept.{Reaching}
+use Rattle.xc_search.specs.inner.Ahead.{numbers}
+use Rattle.xc_search.proofs.SpanSteps.{Reaching}
 use Rattle.xc_search.proofs.spanning.reach_by.Given as goal
 
 abbrev pub invariant-loop-number : goal.invariant-loop-number

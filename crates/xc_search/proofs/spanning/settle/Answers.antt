@@ -3,17 +3,14 @@ use Rattle.xc_dance.specs.Dancing.{Dancing, moves_made}
 use Rattle.xc_search.specs.Room.{room_for}
 use Rattle.xc_search.specs.Cover.{members}
 use Rattle.xc_search.specs.Spans.{precedes, between}
-use Rattle.xc_search.specs.inner.Levels.{Levels, coming}
-use Rattle.xc_search.specs.inner.MostLevels.{most_levels}
-use Rattle.xc_search.specs.inner.Paths.{numbers}
+use Rattle.xc_search.specs.inner.Levels.{Levels, coming, most_levels}
+use Rattle.xc_search.specs.inner.Ahead.{numbers}
 use Rattle.xc_search.specs.inner.Spanning.{row_at}
-use Rattle.xc_search.proofs.stacked.Start.{starts_standing, starts_coming}
-use Rattle.xc_search.proofs.spans.Kept.{row_levels}
-use Rattle.xc_search.proofs.spans.Numbers.{numbers_row, length-numbers}
-use Rattle.xc_search.proofs.spans.Running.{led_from, led_from_by}
-use Rattle.xc_search.proofs.spans.Advance.{begins_from, none_from}
-use Rattle.xc_search.proofs.spans.Rows.{not_itself}
-use Rattle.xc_search.proofs.spans.Stuck.{led_free, never_stuck}
+use Rattle.xc_search.proofs.LoopSteps.{starts_standing, starts_coming}
+use Rattle.xc_search.proofs.SpanSteps.{row_levels, numbers_row, length-numbers, led_from, led_from_by, led_free}
+use Rattle.xc_search.proofs.SpanSteps.{never_stuck}
+use Rattle.xc_search.proofs.SpanRuns.{begins_from, none_from}
+use Rattle.xc_search.proofs.RowLemmas.{not_itself}
 use Rattle.xc_search.proofs.spanning.settle.Goals as goal
 
 pub reach_by-requires : goal.reach_by-requires

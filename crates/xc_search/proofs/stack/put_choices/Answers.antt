@@ -1,8 +1,8 @@
 use Rattle.std.proofs.lemmas.Grind.{common_steps}
 use Rattle.std.proofs.Common.{arith, ◌∙◌}
-use Rattle.xc_input.proofs.FaultLemmas.Checks.{items-length}
+use Rattle.xc_input.proofs.FaultLemmas.{items-length}
 use Rattle.xc_search.specs.inner.Levels.{chosen, IsShown}
-use Rattle.xc_search.proofs.stacked.LevelsLeft.{one_put, room_left, all_behind}
+use Rattle.xc_search.proofs.BranchLemmas.{one_put, room_left, all_behind}
 use Rattle.xc_search.proofs.stack.put_choices.Goals as goal
 
 pub push_reserved-requires-in-len1-up : goal.push_reserved-requires-in-len1-up

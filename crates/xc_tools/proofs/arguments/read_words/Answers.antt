@@ -1,6 +1,6 @@
 use Rattle.std.proofs.Common.{arith}
 use Rattle.std.specs.Str.{IsUtf8}
-use Rattle.xc_tools.proofs.WordLemmas.{no_word, one_word_more, passed_test, all_more}
+use Rattle.xc_tools.proofs.RunLemmas.{no_word, one_word_more, passed_test, all_more}
 use Rattle.xc_tools.proofs.arguments.read_words.Goals as goal
 
 pub loop-place-init : goal.loop-place-init

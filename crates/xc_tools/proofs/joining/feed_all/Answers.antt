@@ -1,13 +1,12 @@
 use Rattle.std.proofs.Common.{◌++◌, ◌∙◌, ap, sym, append_assoc, subst}
 use Rattle.std.proofs.lemmas.Result.{err_from_is_err_and}
-use Rattle.xc_input.specs.inner.EndedLines.{ended}
+use Rattle.xc_input.specs.inner.Feeding.{ended}
 use Rattle.xc_input.specs.Pieces.{GaveAll}
-use Rattle.xc_input.proofs.LineLemmas.Cuts.{shorter}
-use Rattle.xc_input.proofs.LineLemmas.Pieces.{all_then, came-gave, gave_then}
+use Rattle.xc_input.proofs.LineLemmas.{shorter, all_then, came-gave, gave_then}
 use Rattle.xc_tools.specs.inner.Joining.{Adds}
 use Rattle.xc_list.specs.Texts.{Took}
-use Rattle.xc_tools.proofs.JoinLemmas.Reading.{adds-as, adds-then, fed-line, fed-on, gave-as, stops-as, stops-from}
-use Rattle.xc_tools.proofs.JoinLemmas.Reading.{stops-more, stops-reading, stops-then, stops-unread}
+use Rattle.xc_tools.proofs.Stopped.{adds-as, adds-then, fed-line, fed-on, gave-as, stops-as, stops-from, stops-more}
+use Rattle.xc_tools.proofs.Stopped.{stops-reading, stops-then, stops-unread}
 use Rattle.xc_tools.proofs.joining.feed_all.Goals as goal
 
 pub returns-in_err-advance-clause-stops : goal.returns-in_err-advance-clause-stops

@@ -1,6 +1,6 @@
 use Rattle.std.proofs.Common.{◌∙◌, ap, inr, sym}
 use Rattle.xc_tools.specs.inner.Joining.{stand_reached}
-use Rattle.xc_tools.proofs.JoinLemmas.Reading.{ends-as}
+use Rattle.xc_tools.proofs.Stopped.{ends-as}
 use Rattle.xc_tools.proofs.joining.join_all.Goals as goal
 
 pub returns : goal.returns

@@ -1,7 +1,7 @@
 use Rattle.std.proofs.Common.{◌∙◌, ap}
 use Rattle.xc_tools.specs.WholeRuns.{sinks}
 use Rattle.xc_tools.specs.inner.SpanLines.{Join}
-use Rattle.xc_tools.proofs.JoinLemmas.Stopped.{joins-as, run-ended, run-stopped, run-unstarted}
+use Rattle.xc_tools.proofs.Stopped.{joins-as, run-ended, run-stopped, run-unstarted}
 use Rattle.xc_tools.proofs.joining.join_input.Goals as goal
 
 pub returns-in_default : goal.returns-in_default

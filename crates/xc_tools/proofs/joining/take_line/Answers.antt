@@ -2,7 +2,7 @@ use Rattle.std.proofs.Common.{◌∙◌, ap}
 use Rattle.std.proofs.lemmas.Result.{err_from_is_err_and}
 use Rattle.xc_list.specs.Texts.{Took}
 use Rattle.xc_tools.specs.inner.Joining.{stand_reached}
-use Rattle.xc_tools.proofs.JoinLemmas.Reading.{adds-more, refused, stands-more, unwritten, whole-more}
+use Rattle.xc_tools.proofs.Stopped.{adds-more, refused, stands-more, unwritten, whole-more}
 use Rattle.xc_tools.proofs.joining.take_line.Goals as goal
 
 pub returns-in_err-act-clause-stops : goal.returns-in_err-act-clause-stops

@@ -1,5 +1,5 @@
 use Rattle.std.proofs.Common.{inl, inr}
-use Rattle.xc_tools.proofs.JudgeLemmas.{listing_begins}
+use Rattle.xc_tools.proofs.RunLemmas.{listing_begins}
 use Rattle.xc_tools.proofs.judging.judge.Goals as goal
 
 pub returns-in-Ok-clause-begins : goal.returns-in-Ok-clause-begins

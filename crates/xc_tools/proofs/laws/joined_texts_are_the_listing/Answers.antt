@@ -1,4 +1,4 @@
-use Rattle.xc_tools.proofs.WrittenTexts.{joined-written}
+use Rattle.xc_tools.proofs.Stopped.{joined-written}
 use Rattle.xc_tools.proofs.laws.joined_texts_are_the_listing.Goals as goal
 
 pub returns : goal.returns

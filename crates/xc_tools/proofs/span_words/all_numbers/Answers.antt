@@ -2,7 +2,7 @@ use Rattle.std.proofs.Common.{rules}
 use Rattle.std.specs.Prelude.{◌==◌}
 use Rattle.std.proofs.lemmas.Iterator.Search.{all_from_yields_List}
 use Rattle.std.proofs.lemmas.Iterator.Splits.{YieldsList-from_slice_split}
-use Rattle.xc_tools.specs.inner.SpanWords.{is_number}
+use Rattle.xc_tools.specs.inner.SpanLines.{is_number}
 use Rattle.xc_tools.proofs.span_words.all_numbers.Goals as goal
 
 pub returns : goal.returns

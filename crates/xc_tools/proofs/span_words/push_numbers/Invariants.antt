@@ -1,5 +1,5 @@
 use Rattle.std.proofs.Common.{◌≡◌, ◌++◌, map, take}
-use Rattle.xc_tools.specs.inner.SpanWords.{saturating_number}
+use Rattle.xc_tools.specs.inner.SpanLines.{saturating_number}
 use Rattle.xc_tools.proofs.span_words.push_numbers.Given as goal
 
 -- the numbers of the words so far stand behind the others

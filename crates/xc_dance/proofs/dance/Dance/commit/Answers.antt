@@ -3,14 +3,13 @@ use Rattle.xc_input.specs.declared.problem.Use.{Use}
 use Rattle.xc_input.specs.Problem.{uses_of}
 use Rattle.xc_dance.specs.Dancing.{Dancing}
 use Rattle.xc_dance.specs.Commits.{CanStand, IsUseAt, others}
-use Rattle.xc_dance.proofs.MoveLemmas.Commits.{committed, stood_before}
+use Rattle.xc_dance.proofs.StateLemmas.{committed, stood_before, after_uses-append}
 use Rattle.xc_dance.proofs.dance.Dance.commit.Goals.{After-place_in-at}
 use Rattle.xc_dance.proofs.dance.Dance.commit.Goals as goal
 use Rattle.std.proofs.Common.{arith}
 use Rattle.std.proofs.Common.{length-drop}
 use Rattle.std.proofs.Math.Seq.{take-length}
 use Rattle.std.proofs.lemmas.Grind.{common_steps}
-use Rattle.xc_dance.proofs.MoveLemmas.Commits.{after_uses-append}
 
 -- the state after the uses behind place k
 abbrev behind : ℕ → List Use → Dancing → Dancing

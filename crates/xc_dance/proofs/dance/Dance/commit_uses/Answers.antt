@@ -2,7 +2,7 @@ use Rattle.std.proofs.Common.{arith}
 use Rattle.std.proofs.Common.{◌+◌, sym, ◌∙◌, subst, drop}
 use Rattle.xc_dance.specs.Dancing.{Dancing}
 use Rattle.xc_dance.specs.Commits.{CanStand}
-use Rattle.xc_dance.proofs.MoveLemmas.Commits.{at_use, stood_before}
+use Rattle.xc_dance.proofs.StateLemmas.{at_use, stood_before}
 use Rattle.xc_dance.proofs.dance.Dance.commit_uses.Goals as goal
 
 pub commit_use-requires-clause-stands : goal.commit_use-requires-clause-stands

@@ -1,5 +1,5 @@
 use Rattle.std.proofs.Common.{◌≡◌, drop}
-use Rattle.xc_dance.proofs.MoveLemmas.Commits.{committed}
+use Rattle.xc_dance.proofs.StateLemmas.{committed}
 use Rattle.xc_dance.proofs.dance.Dance.commit_uses.Given as goal
 
 abbrev pub invariant-loop-u : goal.invariant-loop-u

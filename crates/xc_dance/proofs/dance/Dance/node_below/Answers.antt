@@ -2,8 +2,7 @@ use Rattle.std.proofs.Common.{arith, ◌≡◌, ℕ, ◌∙◌}
 use Rattle.std.specs.Prelude.{Contains}
 use Rattle.xc_dance.specs.Moves.{next_above}
 use Rattle.xc_dance.specs.Commits.{IsListedAt, IsUseAt}
-use Rattle.xc_dance.proofs.LinkedTables.Laid.ListedPlaces.{list_of, next_of_own, option_use, next_of_option, next_use}
-use Rattle.xc_dance.proofs.LinkedTables.Laid.ListedPlaces.{place_tells}
+use Rattle.xc_dance.proofs.TableAnswers.{list_of, next_of_own, option_use, next_of_option, next_use, place_tells}
 use Rattle.xc_dance.proofs.dance.Dance.node_below.Goals.{Else-place-items, Joined-place-items}
 use Rattle.xc_dance.proofs.dance.Dance.node_below.Goals.{then-place-items, else-place-items}
 use Rattle.xc_dance.proofs.dance.Dance.node_below.Goals as goal

@@ -1,16 +1,11 @@
-use Rattle.xc_dance.specs.inner.Links.Made.{IsFitted}
-use Rattle.xc_dance.specs.inner.Links.OptionSpans.{spans_of}
+use Rattle.xc_dance.specs.inner.Walks.{IsFitted}
+use Rattle.xc_dance.specs.inner.Tables.{spans_of, Nodes, nodes_after, IsLaid, uses_behind}
 use Rattle.std.proofs.Common.{◌≡◌, ◌<◌, ◌+◌, ℕ, length, get_or, ap, subst, ◌∙◌, arith, refl}
 use Rattle.std.proofs.lemmas.List.{length-map}
-use Rattle.xc_dance.specs.inner.Links.Columns.{Nodes}
 use Rattle.xc_dance.specs.Commits.{IsUseAt}
 use Rattle.xc_dance.specs.Linked.{Linked}
-use Rattle.xc_dance.specs.inner.Links.Cells.{nodes_after}
-use Rattle.xc_dance.specs.inner.Links.Laid.{IsLaid}
-use Rattle.xc_dance.specs.inner.Links.UseNodes.{uses_behind}
-use Rattle.xc_dance.proofs.LinkedTables.Answers.Along.{along_first, Behind, behind_at, IsNext, top_at, nodes_told}
-use Rattle.xc_dance.proofs.LinkedTables.Answers.Along.{whole}
-use Rattle.xc_dance.proofs.Committing.{may, one_more}
+use Rattle.xc_dance.proofs.TableAnswers.{along_first, Behind, behind_at, IsNext, top_at, nodes_told, whole, may}
+use Rattle.xc_dance.proofs.TableAnswers.{one_more}
 use Rattle.xc_dance.proofs.links.Links.commit_behind.Goals as goal
 use Rattle.xc_dance.proofs.links.Links.commit_behind.Goals.{After-self, After-self-in-loop-self}
 use Rattle.xc_dance.specs.declared.links.cells.nodes.TheConstants.{SPACER}

@@ -1,8 +1,8 @@
 use Rattle.std.proofs.Common.{◌+◌, ◌-◌, length}
 use Rattle.xc_dance.specs.Commits.{IsUseAt}
 use Rattle.xc_dance.specs.Fields.{layout}
-use Rattle.xc_dance.specs.inner.Links.UseNodes.{uses_behind}
-use Rattle.xc_dance.proofs.Committing.{IsCommitting}
+use Rattle.xc_dance.specs.inner.Tables.{uses_behind}
+use Rattle.xc_dance.proofs.TableAnswers.{IsCommitting}
 use Rattle.xc_dance.proofs.links.Links.commit_behind.Given as goal
 
 -- the uses whose nodes stand before q were committed

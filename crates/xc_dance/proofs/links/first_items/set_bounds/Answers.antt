@@ -1,14 +1,13 @@
-use Rattle.xc_dance.proofs.LinkedTables.Laid.FirstTables.{filled_all}
+use Rattle.xc_dance.proofs.WholeTables.{filled_all, column_len, column_more, low_most}
 use Rattle.std.proofs.lemmas.List.FromFn.{length-range_with_len}
 use Rattle.std.proofs.Common.{ne_eqb}
 use Rattle.std.proofs.Common.{arith, ◌+◌, ◌≡◌}
 use Rattle.xc_input.specs.Problem.{bounds_at}
 use Rattle.xc_input.specs.ItemBounds.{bounds_of}
 use Rattle.std.specs.Prelude.{Some}
-use Rattle.xc_dance.proofs.LinkedTables.Laid.FirstTables.{column_len, column_more, low_most}
 use Rattle.xc_dance.proofs.links.first_items.set_bounds.Goals as goal
 use Rattle.xc_dance.proofs.links.first_items.set_bounds.Goals.{After-item-item}
-use Rattle.xc_dance.proofs.LinkedTables.Rings.RingStep.{same_items}
+use Rattle.xc_dance.proofs.PlaceLemmas.{same_items}
 
 -- the item has the bounds of its number
 bounds_here : (c : After-item-item)

@@ -1,5 +1,5 @@
 use Rattle.std.proofs.Common.{arith}
-use Rattle.xc_dance.proofs.LinkedTables.Laid.FirstTables.{laid_room, laid_more, own_row}
+use Rattle.xc_dance.proofs.WholeTables.{laid_room, laid_more, own_row}
 use Rattle.xc_dance.proofs.links.first_nodes.lay_items.Goals as goal
 
 pub lay-requires : goal.lay-requires

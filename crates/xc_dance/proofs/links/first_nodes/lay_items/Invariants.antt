@@ -1,5 +1,5 @@
 use Rattle.std.proofs.Common.{◌≡◌}
-use Rattle.xc_dance.specs.inner.Links.FirstNodes.{laid_to}
+use Rattle.xc_dance.specs.inner.Tables.{laid_to}
 use Rattle.xc_dance.proofs.links.first_nodes.lay_items.Given as goal
 
 abbrev pub invariant-loop-i : goal.invariant-loop-i

@@ -1,6 +1,6 @@
 use Rattle.std.proofs.Common.{◌≡◌, ◌+◌}
 use Rattle.xc_dance.specs.Fields.{spacer_place}
-use Rattle.xc_dance.specs.inner.Links.FirstNodes.{laid_to}
+use Rattle.xc_dance.specs.inner.Tables.{laid_to}
 use Rattle.xc_dance.proofs.links.first_nodes.lay_uses.Given as goal
 
 abbrev pub invariant-loop-u : goal.invariant-loop-u

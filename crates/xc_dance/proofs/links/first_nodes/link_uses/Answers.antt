@@ -1,20 +1,14 @@
-use Rattle.xc_dance.proofs.LinkedTables.Laid.EnteredNodes.{nodes_same}
-use Rattle.xc_dance.proofs.LinkedTables.Laid.EnteredNodes.{held_none}
-use Rattle.xc_dance.proofs.LinkedTables.Laid.EnteredNodes.{spacer_step}
+use Rattle.xc_dance.proofs.WholeTables.{nodes_same, held_none, spacer_step, lines_of, UseStep, use_step, spacer_top}
+use Rattle.xc_dance.proofs.WholeTables.{all_entered}
 use Rattle.std.proofs.Common.{arith, ◌≡◌, ◌≤◌, ◌<◌, ◌∙◌, ◌+◌, ap, take, Some, [], ℕ}
 use Rattle.std.proofs.lemmas.Grind.{common_steps}
 use Rattle.std.specs.Prelude.{slice_get, slice_index}
 use Rattle.xc_input.specs.declared.problem.Use.{Use}
 use Rattle.xc_input.specs.Problem.{Puzzle, item_count, IsWithinLimits}
-use Rattle.xc_dance.specs.inner.Links.Columns.{Nodes, NodeTable}
+use Rattle.xc_dance.specs.inner.Tables.{Nodes, NodeTable, IsFit, nodes_from, color_in, entered}
 use Rattle.xc_dance.specs.Fields.{Node, unused, own, spacer, used, layout}
-use Rattle.xc_dance.specs.inner.Links.Laid.{IsFit}
-use Rattle.xc_dance.specs.inner.Links.Cells.{nodes_from, color_in}
-use Rattle.xc_dance.specs.inner.Links.FirstNodes.{entered}
 use Rattle.std.proofs.lemmas.Option.{slice_get-get_or}
-use Rattle.xc_dance.proofs.LinkedTables.Laid.EnteredNodes.{lines_of, UseStep, use_step, spacer_top}
-use Rattle.xc_dance.proofs.LinkedTables.Laid.EnteredNodes.{all_entered}
-use Rattle.xc_dance.proofs.LinkedTables.Laid.PlaceLemmas.{is_at}
+use Rattle.xc_dance.proofs.PlaceLemmas.{is_at}
 use Rattle.xc_dance.proofs.links.first_nodes.link_uses.Goals as goal
 use Rattle.xc_dance.proofs.links.first_nodes.link_uses.Goals.{Then-top-lt-SPACER, then-top-lt-SPACER}
 use Rattle.xc_dance.proofs.links.first_nodes.link_uses.Goals.{else-top-lt-SPACER}

@@ -1,7 +1,7 @@
 use Rattle.std.proofs.Common.{◌≡◌, [], take}
 use Rattle.xc_dance.specs.Fields.{layout}
-use Rattle.xc_dance.specs.inner.Links.Cells.{nodes_from, color_in}
-use Rattle.xc_dance.proofs.LinkedTables.Laid.EnteredNodes.{lines_of}
+use Rattle.xc_dance.specs.inner.Tables.{nodes_from, color_in}
+use Rattle.xc_dance.proofs.WholeTables.{lines_of}
 use Rattle.xc_dance.proofs.links.first_nodes.link_uses.Given as goal
 
 -- the uses' nodes so far stand in their lists

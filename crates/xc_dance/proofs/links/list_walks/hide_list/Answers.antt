@@ -1,6 +1,5 @@
 use Rattle.std.proofs.Common.{arith}
-use Rattle.xc_dance.proofs.LinkedTables.Lines.Walks.{follow_here, follow_on, follow_end}
-use Rattle.xc_dance.proofs.LinkedTables.Cells.UnmarkedNodes.{left_unmarked}
+use Rattle.xc_dance.proofs.WalkLemmas.{follow_here, follow_on, follow_end, left_unmarked}
 use Rattle.xc_dance.proofs.links.list_walks.hide_list.Goals as goal
 
 pub leave-count-requires-clause-can : goal.leave-count-requires-clause-can

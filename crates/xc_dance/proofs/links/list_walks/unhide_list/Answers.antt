@@ -1,6 +1,5 @@
 use Rattle.std.proofs.Common.{arith}
-use Rattle.xc_dance.proofs.LinkedTables.Lines.Walks.{follow_here, follow_on, follow_end}
-use Rattle.xc_dance.proofs.LinkedTables.Cells.UnmarkedNodes.{back_unmarked}
+use Rattle.xc_dance.proofs.WalkLemmas.{follow_here, follow_on, follow_end, back_unmarked}
 use Rattle.xc_dance.proofs.links.list_walks.unhide_list.Goals as goal
 
 pub come_back-count-requires-clause-can : goal.come_back-count-requires-clause-can

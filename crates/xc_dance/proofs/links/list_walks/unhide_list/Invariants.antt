@@ -1,10 +1,9 @@
-use Rattle.xc_dance.proofs.LinkedTables.Lines.OneList.{up_walk}
+use Rattle.xc_dance.proofs.OneList.{up_walk}
 use Rattle.std.proofs.Common.{◌≡◌, false, ◌+◌, ◌*◌, ◌^◌, ◌≤◌}
 use Rattle.std.specs.Prelude.{slice_index}
-use Rattle.xc_dance.specs.inner.Links.Columns.{Nodes, values}
-use Rattle.xc_dance.specs.inner.Links.Lent.{lent_all, all_writes, IsRow, IsLinkRow}
-use Rattle.xc_dance.specs.inner.Links.Unmarked.{IsUnmarked}
-use Rattle.xc_dance.proofs.LinkedTables.Lines.Walks.{Following}
+use Rattle.xc_dance.specs.inner.Tables.{Nodes, values, lent_all, all_writes, IsRow, IsLinkRow}
+use Rattle.xc_dance.specs.inner.Walks.{IsUnmarked}
+use Rattle.xc_dance.proofs.WalkLemmas.{Following}
 use Rattle.xc_dance.proofs.links.list_walks.unhide_list.Given as goal
 
 abbrev pub invariant-loop : goal.invariant-loop

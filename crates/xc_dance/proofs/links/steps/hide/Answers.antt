@@ -1,12 +1,8 @@
 use Rattle.std.proofs.Common.{◌≡◌, ℕ, ◌+◌, ◌<◌, ◌≤◌, List, fold, get_or, ap, refl, arith}
-use Rattle.xc_dance.specs.inner.Links.Columns.{Nodes}
-use Rattle.xc_dance.specs.inner.Links.Lent.{lent}
-use Rattle.xc_dance.specs.inner.Links.Span.{Span}
-use Rattle.xc_dance.specs.inner.Links.Steps.{hidden, CanHide, CanHideAll, CanHideNode, places, span_at, others_of}
-use Rattle.xc_dance.proofs.LinkedTables.Lines.Walks.{places_none, places_more, CanAll-append, underway, step_can}
-use Rattle.xc_dance.proofs.LinkedTables.Lines.Walks.{step_on}
-use Rattle.xc_dance.proofs.LinkedTables.Lines.Walks.{Tells, tells, hide_walk}
-use Rattle.xc_dance.proofs.Rounds.{Met, met}
+use Rattle.xc_dance.specs.inner.Tables.{Nodes, lent, Span}
+use Rattle.xc_dance.specs.inner.Walks.{hidden, CanHide, CanHideAll, CanHideNode, places, span_at, others_of}
+use Rattle.xc_dance.proofs.WalkLemmas.{places_none, places_more, CanAll-append, underway, step_can, step_on, Tells}
+use Rattle.xc_dance.proofs.WalkLemmas.{tells, hide_walk, Met, met}
 use Rattle.xc_dance.proofs.links.steps.hide.Goals as goal
 use Rattle.xc_dance.proofs.links.steps.hide.Goals.{After-get_at}
 use Rattle.xc_dance.specs.declared.links.cells.nodes.TheConstants.{SPACER}

@@ -1,7 +1,7 @@
 use Rattle.std.proofs.Common.{◌≡◌, ◌+◌, ◌-◌, ◌*◌, ◌<◌, ◌≤◌}
-use Rattle.xc_dance.specs.inner.Links.Lent.{lent, lent_writes, IsRow, IsLinkRow}
-use Rattle.xc_dance.specs.inner.Links.Steps.{places, span_at}
-use Rattle.xc_dance.proofs.LinkedTables.Lines.Walks.{Underway, hide_walk}
+use Rattle.xc_dance.specs.inner.Tables.{lent, lent_writes, IsRow, IsLinkRow}
+use Rattle.xc_dance.specs.inner.Walks.{places, span_at}
+use Rattle.xc_dance.proofs.WalkLemmas.{Underway, hide_walk}
 use Rattle.xc_dance.proofs.links.steps.hide.Given as goal
 
 -- what is left stands in front of the spacer

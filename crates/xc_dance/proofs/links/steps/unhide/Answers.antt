@@ -1,14 +1,9 @@
 use Rattle.std.proofs.Common.{◌≡◌, ℕ, ◌+◌, ◌-◌, ◌<◌, ◌≤◌, ◌++◌, List, ◌∷◌, fold, reverse, ap, arith}
 use Rattle.std.proofs.lemmas.List.{reverse-append}
-use Rattle.xc_dance.specs.inner.Links.Columns.{Nodes}
-use Rattle.xc_dance.specs.inner.Links.Lent.{lent}
-use Rattle.xc_dance.specs.inner.Links.Span.{Span}
-use Rattle.xc_dance.specs.inner.Links.Steps.{unhidden, CanUnhideAll, CanUnhideNode, places, other_nodes, others_of}
-use Rattle.xc_dance.specs.inner.Links.Steps.{span_at}
-use Rattle.xc_dance.proofs.LinkedTables.Lines.Walks.{places_none, reverse-places, CanAll-append, underway, step_can}
-use Rattle.xc_dance.proofs.LinkedTables.Lines.Walks.{step_on}
-use Rattle.xc_dance.proofs.LinkedTables.Lines.Walks.{Tells, tells, unhide_walk}
-use Rattle.xc_dance.proofs.Rounds.{Met, met}
+use Rattle.xc_dance.specs.inner.Tables.{Nodes, lent, Span}
+use Rattle.xc_dance.specs.inner.Walks.{unhidden, CanUnhideAll, CanUnhideNode, places, other_nodes, others_of, span_at}
+use Rattle.xc_dance.proofs.WalkLemmas.{places_none, reverse-places, CanAll-append, underway, step_can, step_on, Tells}
+use Rattle.xc_dance.proofs.WalkLemmas.{tells, unhide_walk, Met, met}
 use Rattle.xc_dance.proofs.links.steps.unhide.Goals as goal
 use Rattle.xc_dance.proofs.links.steps.unhide.Goals.{After-get_at, After-down_at}
 use Rattle.xc_dance.specs.declared.links.cells.nodes.TheConstants.{SPACER}

@@ -1,5 +1,5 @@
 use Rattle.std.proofs.Common.{arith}
-use Rattle.xc_dance.proofs.LinkedTables.Lines.Walks.{follow_here, follow_on, follow_end}
+use Rattle.xc_dance.proofs.WalkLemmas.{follow_here, follow_on, follow_end}
 use Rattle.xc_dance.proofs.links.tweaks.bring_back.Goals as goal
 
 pub bring_back_one-count-requires-clause-can : goal.bring_back_one-count-requires-clause-can

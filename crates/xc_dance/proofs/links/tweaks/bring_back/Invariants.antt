@@ -1,8 +1,7 @@
-use Rattle.xc_dance.proofs.LinkedTables.Tweaks.TweaksBack.{bringing}
+use Rattle.xc_dance.proofs.TweaksBack.{bringing}
 use Rattle.std.proofs.Common.{◌≡◌, ◌+◌, ◌*◌, ◌^◌, ◌≤◌}
-use Rattle.xc_dance.specs.inner.Links.Columns.{Nodes}
-use Rattle.xc_dance.specs.inner.Links.Lent.{lent, lent_writes, IsRow, IsLinkRow}
-use Rattle.xc_dance.proofs.LinkedTables.Lines.Walks.{Following}
+use Rattle.xc_dance.specs.inner.Tables.{Nodes, lent, lent_writes, IsRow, IsLinkRow}
+use Rattle.xc_dance.proofs.WalkLemmas.{Following}
 use Rattle.xc_dance.proofs.links.tweaks.bring_back.Given as goal
 
 abbrev pub invariant-loop : goal.invariant-loop

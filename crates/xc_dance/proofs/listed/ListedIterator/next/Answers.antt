@@ -1,8 +1,7 @@
 use Rattle.std.proofs.Common.{sym, ◌∙◌, arith}
-use Rattle.xc_dance.proofs.LinkedTables.Answers.NodeOptions.{next_contained}
+use Rattle.xc_dance.proofs.TableAnswers.{next_contained}
 use Rattle.xc_dance.specs.Moves.{listed_numbers}
-use Rattle.xc_dance.proofs.MoveLemmas.ListLemmas.{next_above-split, next_above-none}
-use Rattle.xc_dance.proofs.MoveLemmas.Shortened.{rises_listed}
+use Rattle.xc_dance.proofs.MoveLemmas.{next_above-split, next_above-none, rises_listed}
 use mathlib.Core.Logic.{inr}
 use Rattle.xc_dance.proofs.listed.ListedIterator.next.Goals as goal
 

@@ -1,5 +1,5 @@
 use Rattle.std.proofs.Common.{◌≡◌, [], replicate}
-use Rattle.xc_dance.specs.inner.Lists.Taking.{numbers_of}
+use Rattle.xc_dance.specs.inner.Lists.{numbers_of}
 use Rattle.xc_dance.proofs.lists.build.empty_lists.Given as goal
 
 abbrev pub invariant-loop : goal.invariant-loop

@@ -1,9 +1,8 @@
-use Rattle.xc_dance.proofs.LiveLists.Removal.{list_at-numbers_of}
+use Rattle.xc_dance.proofs.MoveLemmas.{list_at-numbers_of, enlisted_none, enlisted_more, new_use, length-enlisted_from}
 use Rattle.std.proofs.Common.{arith, sym}
 use Rattle.std.proofs.lemmas.Grind.{common_steps}
 use Rattle.std.proofs.lemmas.List.{map-set}
-use Rattle.xc_dance.specs.inner.Lists.Taking.{numbers_of}
-use Rattle.xc_dance.proofs.LiveLists.Filled.{enlisted_none, enlisted_more, new_use, length-enlisted_from}
+use Rattle.xc_dance.specs.inner.Lists.{numbers_of}
 use Rattle.xc_dance.proofs.lists.build.enlist.Goals as goal
 
 pub loop-u-init : goal.loop-u-init

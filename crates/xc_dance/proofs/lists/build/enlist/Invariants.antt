@@ -1,6 +1,5 @@
 use Rattle.std.proofs.Common.{◌≡◌, take}
-use Rattle.xc_dance.specs.inner.Lists.Taking.{numbers_of}
-use Rattle.xc_dance.specs.inner.Lists.Losing.{enlisted}
+use Rattle.xc_dance.specs.inner.Lists.{numbers_of, enlisted}
 use Rattle.xc_dance.proofs.lists.build.enlist.Given as goal
 
 abbrev pub invariant-loop-u : goal.invariant-loop-u

@@ -1,6 +1,5 @@
 use Rattle.std.proofs.Common.{◌≡◌, ◌-◌, take, filter, not}
-use Rattle.xc_dance.specs.inner.Lists.Taking.{list_at}
-use Rattle.xc_dance.specs.inner.Lists.Losing.{lose, keeps_colour}
+use Rattle.xc_dance.specs.inner.Lists.{list_at, lose, keeps_colour}
 use Rattle.xc_dance.proofs.lists.hide.hide_options.Given as goal
 
 abbrev pub invariant-loop-at : goal.invariant-loop-at

@@ -1,7 +1,6 @@
 use Rattle.std.proofs.Common.{arith}
-use Rattle.xc_dance.proofs.LiveLists.Removal.{less-remove}
+use Rattle.xc_dance.proofs.MoveLemmas.{less-remove, row_removed}
 use Rattle.std.proofs.lemmas.List.{map-set, get_or-map}
-use Rattle.xc_dance.proofs.LiveLists.Removal.{row_removed}
 use Rattle.xc_dance.proofs.lists.undo_log.remove.Goals as goal
 use Rattle.std.proofs.Common.{vec_capacity}
 use Rattle.std.proofs.Math.Seq.{map-set_same}

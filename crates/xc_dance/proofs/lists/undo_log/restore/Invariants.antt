@@ -1,5 +1,5 @@
 use Rattle.std.proofs.Common.{◌≡◌, ◌+◌, length, reverse, sum_by, vec_capacity}
-use Rattle.xc_dance.specs.inner.Lists.Taking.{numbers_of, rooms_of, restored, still_taken, Fits}
+use Rattle.xc_dance.specs.inner.Lists.{numbers_of, rooms_of, restored, still_taken, Fits}
 use Rattle.xc_dance.proofs.lists.undo_log.restore.Given as goal
 
 abbrev pub invariant-loop-taken : goal.invariant-loop-taken

@@ -1,6 +1,6 @@
 use Rattle.std.proofs.Common.{◌∙◌, ap, unwrap_or}
-use Rattle.xc_input.proofs.FaultLemmas.Checks.{items-length}
-use Rattle.xc_input.proofs.OptionLemmas.Drafts.{begun}
+use Rattle.xc_input.proofs.FaultLemmas.{items-length}
+use Rattle.xc_input.proofs.OptionLemmas.{begun}
 use Rattle.xc_input.proofs.builder.ProblemBuilder.take_items.Goals as goal
 
 pub returns-clause-taken : goal.returns-clause-taken

@@ -3,8 +3,8 @@ use Rattle.xc_input.specs.Tokens.{tokens}
 use Rattle.xc_input.specs.inner.Stages.{staged_option_checks, whole_checks, context}
 use Rattle.xc_input.specs.inner.Builders.{sheet_of_builder}
 use Rattle.xc_input.specs.inner.Stored.{key_names}
-use Rattle.xc_input.proofs.FaultLemmas.Checks.{stopped, items-length}
-use Rattle.xc_input.proofs.OptionLemmas.Drafts.{content-is, no-primary, too-long, fits, taken, left-out}
+use Rattle.xc_input.proofs.FaultLemmas.{stopped, items-length}
+use Rattle.xc_input.proofs.OptionLemmas.{content-is, no-primary, too-long, fits, taken, left-out}
 use Rattle.xc_input.proofs.builder.ProblemBuilder.take_option.Goals as goal
 
 pub returns-in_err-option_line-clause-judged : goal.returns-in_err-option_line-clause-judged

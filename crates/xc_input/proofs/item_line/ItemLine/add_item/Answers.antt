@@ -3,12 +3,11 @@ use Rattle.std.proofs.Common.{arith, is_some, sym, refl, ◌∙◌, map}
 use Rattle.xc_input.specs.inner.Builders.{entry_of, AreNames}
 use Rattle.std.proofs.lemmas.Result.{on_ok_weaker}
 use Rattle.xc_input.specs.Faults.{bound_checks, name_of}
-use Rattle.xc_input.specs.inner.Sheets.{names_of}
+use Rattle.xc_input.specs.inner.Stages.{names_of}
 use Rattle.xc_input.specs.declared.line_error.LineError.TheVariants.{Fault}
-use Rattle.xc_input.proofs.FaultLemmas.FirstChecks.{alone}
-use Rattle.xc_input.proofs.TokenLemmas.TableNames.{names-more, name-solid}
-use Rattle.xc_input.proofs.FaultLemmas.Checks.{stopped, bad-name, too-many, no-fault, judged-on, grown}
-use Rattle.xc_input.proofs.FaultLemmas.Checks.{none-is, items-length}
+use Rattle.xc_input.proofs.FaultLemmas.{alone, stopped, bad-name, too-many, no-fault, judged-on, grown, none-is}
+use Rattle.xc_input.proofs.FaultLemmas.{items-length}
+use Rattle.xc_input.proofs.TokenLemmas.{names-more, name-solid}
 use Rattle.xc_input.proofs.item_line.ItemLine.add_item.Goals as goal
 
 pub returns-in_err-token-clause-judged : goal.returns-in_err-token-clause-judged

@@ -3,8 +3,7 @@ use Rattle.std.proofs.lemmas.Result.{err_from_is_err_and}
 use Rattle.std.proofs.lemmas.List.{length-append}
 use Rattle.xc_input.specs.Calls.{Rose}
 use Rattle.xc_input.specs.Words.{has}
-use Rattle.xc_input.proofs.LineLemmas.Cuts.{carried-on}
-use Rattle.xc_input.proofs.LineLemmas.Pieces.{came-gave, came-read, gave_end, gave_kept}
+use Rattle.xc_input.proofs.LineLemmas.{carried-on, came-gave, came-read, gave_end, gave_kept}
 use Rattle.xc_input.proofs.line_reader.LineReader.advance.Goals as goal
 
 pub returns-in_err-refill : goal.returns-in_err-refill

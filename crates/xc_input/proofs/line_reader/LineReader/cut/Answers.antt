@@ -1,7 +1,7 @@
 use Rattle.std.proofs.Common.{◌++◌, ◌∙◌, ap, refl, sym}
 use Rattle.xc_input.specs.LinesRead.{LinesRead}
 use Rattle.xc_input.specs.Words.{has}
-use Rattle.xc_input.proofs.LineLemmas.Cuts.{cut-line}
+use Rattle.xc_input.proofs.LineLemmas.{cut-line}
 use Rattle.xc_input.proofs.line_reader.LineReader.cut.Goals as goal
 
 pub returns : goal.returns

@@ -1,5 +1,5 @@
 use Rattle.std.proofs.Common.{arith}
-use Rattle.xc_input.proofs.TokenLemmas.TableNames.{number_in-tells}
+use Rattle.xc_input.proofs.TokenLemmas.{number_in-tells}
 use Rattle.xc_input.proofs.problem.Problem.find.Goals as goal
 
 pub returns-clause-value : goal.returns-clause-value

@@ -2,9 +2,8 @@ use Rattle.std.proofs.Common.{length-take-le}
 use Rattle.std.proofs.lemmas.List.{length-map, get_or-take}
 use Rattle.std.proofs.Common.{arith, ◌≡◌, ◌-◌, sym, subst, length}
 use Rattle.xc_input.specs.Problem.{item_count, primary_count}
-use Rattle.xc_input.specs.inner.Vectors.{IsOptional}
-use Rattle.xc_input.proofs.OptionLemmas.FlatParts.{numbered-map}
-use Rattle.xc_input.proofs.OptionLemmas.FlatParts.{behind-at}
+use Rattle.xc_input.specs.inner.Stored.{IsOptional}
+use Rattle.xc_input.proofs.TokenLemmas.{numbered-map, behind-at}
 use Rattle.xc_input.proofs.problem.Problem.item.Goals.{After-index}
 use Rattle.xc_input.proofs.problem.Problem.item.Goals as goal
 

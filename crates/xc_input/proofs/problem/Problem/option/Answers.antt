@@ -1,11 +1,10 @@
 use Rattle.std.proofs.Common.{arith, ◌≡◌, ◌≤◌, Some, ap, length, subst}
 use Rattle.std.specs.Prelude.{All, slice_range}
 use Rattle.xc_input.specs.Problem.{option_count, numbered_get}
-use Rattle.xc_input.specs.inner.Flat.{pieces}
+use Rattle.xc_input.specs.inner.Stored.{pieces, key_names}
 use Rattle.xc_input.specs.Named.{Named, IsKnownUse}
-use Rattle.xc_input.specs.inner.Stored.{key_names}
-use Rattle.xc_input.proofs.OptionLemmas.FlatParts.{length-pieces, option_part}
-use Rattle.xc_input.proofs.ValidLemmas.Known.{known_option}
+use Rattle.xc_input.proofs.TokenLemmas.{length-pieces, option_part}
+use Rattle.xc_input.proofs.LineLemmas.{known_option}
 use Rattle.xc_input.proofs.problem.Problem.option.Goals.{After-deref}
 use Rattle.xc_input.proofs.problem.Problem.option.Goals as goal
 

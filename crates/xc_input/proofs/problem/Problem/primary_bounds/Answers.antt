@@ -1,7 +1,7 @@
 use Rattle.std.proofs.Common.{arith, ◌∙◌, ap, sym, refl, Some}
 use Rattle.std.proofs.lemmas.Option.{slice_get_within, get_or_from_slice_get}
 use Rattle.std.proofs.lemmas.List.{take_more}
-use Rattle.xc_input.proofs.OptionLemmas.FlatParts.{numbered_get-at}
+use Rattle.xc_input.proofs.TokenLemmas.{numbered_get-at}
 use Rattle.xc_input.proofs.problem.Problem.primary_bounds.Goals as goal
 
 pub loop-i-preserved : goal.loop-i-preserved

@@ -1,7 +1,7 @@
 use Rattle.std.proofs.Common.{arith}
 use Rattle.std.proofs.Common.{sym}
 use Rattle.std.proofs.lemmas.Bool.{not-true, not-false}
-use Rattle.xc_input.proofs.LineLemmas.Finish.{refuses, no-items, unstarted, accepts, alone, is-sound, readable}
+use Rattle.xc_input.proofs.LineLemmas.{refuses, no-items, unstarted, accepts, alone, is-sound, readable}
 use Rattle.xc_input.proofs.reader.Reader.finish.Goals as goal
 
 pub returns-in-Some-clause-refused : goal.returns-in-Some-clause-refused

@@ -1,5 +1,5 @@
 use Rattle.std.proofs.lemmas.Grind.{common_steps}
-use Rattle.xc_input.proofs.OptionLemmas.Marks.{unmarked-few}
+use Rattle.xc_input.proofs.OptionLemmas.{unmarked-few, behind_few, behind_more, all_added, all_judged, late_marked}
 use Rattle.std.proofs.Common.{◌∙◌, ap, arith, append-nil, ◌++◌, ◌∷◌, []}
 use Rattle.std.proofs.lemmas.List.{length-map, take_rest}
 use Rattle.xc_input.specs.Faults.{first}
@@ -8,8 +8,7 @@ use Rattle.xc_input.specs.declared.line_error.LineError.TheVariants.{Fault}
 use Rattle.xc_input.specs.inner.Stages.{context, staged_token_checks, staged_option_checks, written}
 use Rattle.xc_input.specs.inner.Builders.{items_of}
 use Rattle.xc_input.specs.inner.Stored.{key_names}
-use Rattle.xc_input.proofs.FaultLemmas.Checks.{stopped}
-use Rattle.xc_input.proofs.OptionSteps.{behind_few, behind_more, all_added, all_judged, late_marked}
+use Rattle.xc_input.proofs.FaultLemmas.{stopped}
 use Rattle.xc_input.proofs.tables.Tables.option_line.Goals as goal
 
 pub loop-token-init : goal.loop-token-init

@@ -2,9 +2,8 @@ use Rattle.std.proofs.Common.{◌≡◌, length, ◌≤◌}
 use Rattle.xc_input.specs.Limits.{most_items}
 use Rattle.xc_input.specs.Tokens.{tokens}
 use Rattle.xc_input.specs.inner.Builders.{AreNames, AreSameItems}
-use Rattle.xc_input.specs.inner.GuessedWords.{AreWords}
-use Rattle.xc_input.specs.inner.Stored.{key_names}
-use Rattle.xc_input.proofs.OptionSteps.{IsBehind}
+use Rattle.xc_input.specs.inner.Stored.{AreWords, key_names}
+use Rattle.xc_input.proofs.OptionLemmas.{IsBehind}
 use Rattle.indexmap.specs.IndexSet.{hasher_of}
 use Rattle.xc_input.proofs.tables.Tables.option_line.Given as goal
 

@@ -1,6 +1,6 @@
 use Rattle.std.proofs.Common.{subst}
 use Rattle.xc_list.specs.inner.Checking.{Progress, Closes}
-use Rattle.xc_list.proofs.CheckLemmas.CheckedLines.{progress, closed}
+use Rattle.xc_list.proofs.CheckLemmas.{progress, closed}
 use Rattle.xc_list.proofs.checker.Checker.end_solution.Goals as goal
 
 pub returns-in_ok-push-clause-closes : goal.returns-in_ok-push-clause-closes

@@ -2,13 +2,11 @@ use Rattle.std.proofs.lemmas.Bool.Decides.{nat_tests}
 use Rattle.std.proofs.Common.{arith}
 use Rattle.std.proofs.Common.{◌≡◌, is_some, Some}
 use Rattle.xc_list.specs.ListingLines.{words_in}
-use Rattle.xc_list.specs.inner.ReadLines.{Body, read}
+use Rattle.xc_list.specs.inner.Listings.{Body, read, IsClassOfLine}
 use Rattle.xc_list.specs.Listed.{is_none}
 use Rattle.xc_list.specs.inner.Classes.{IsClassOfBody}
 use Rattle.xc_list.specs.inner.Checking.{Progress}
-use Rattle.xc_list.proofs.CheckLemmas.CheckedLines.{none_taken, progress}
-use Rattle.xc_list.specs.inner.SeenLines.{IsClassOfLine}
-use Rattle.xc_list.proofs.CheckLemmas.NotedLines.{noted-rightly}
+use Rattle.xc_list.proofs.CheckLemmas.{none_taken, progress, noted-rightly}
 use Rattle.xc_list.proofs.checker.Checker.take_body.Goals as goal
 
 pub invariant_of-self-in-Ok-Some : goal.invariant_of-self-in-Ok-Some

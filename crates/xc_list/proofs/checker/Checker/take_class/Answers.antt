@@ -1,5 +1,5 @@
 use Rattle.xc_list.specs.inner.Checking.{Progress}
-use Rattle.xc_list.proofs.CheckLemmas.CheckedLines.{progress, class_taken}
+use Rattle.xc_list.proofs.CheckLemmas.{progress, class_taken}
 use Rattle.xc_list.proofs.checker.Checker.take_class.Goals as goal
 
 pub returns-clause-takes : goal.returns-clause-takes

@@ -1,6 +1,6 @@
 use Rattle.std.proofs.Common.{arith, refl}
-use Rattle.xc_input.proofs.TokenLemmas.Bytes.{has-all}
-use Rattle.xc_list.proofs.CheckLemmas.CutLines.{first_cut}
+use Rattle.xc_input.proofs.FaultLemmas.{has-all}
+use Rattle.xc_list.proofs.CheckLemmas.{first_cut}
 use Rattle.xc_list.proofs.checker.listing_lines.cut_first.Goals as goal
 
 pub returns-in_err-k : goal.returns-in_err-k

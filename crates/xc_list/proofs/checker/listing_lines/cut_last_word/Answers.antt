@@ -1,6 +1,6 @@
 use Rattle.std.proofs.Common.{arith}
-use Rattle.xc_input.proofs.TokenLemmas.Bytes.{has-all}
-use Rattle.xc_list.proofs.CheckLemmas.CutLines.{last_cut, last_word, one_word}
+use Rattle.xc_input.proofs.FaultLemmas.{has-all}
+use Rattle.xc_list.proofs.CheckLemmas.{last_cut, last_word, one_word}
 use Rattle.xc_list.proofs.checker.listing_lines.cut_last_word.Goals as goal
 
 pub returns-in_err-k : goal.returns-in_err-k

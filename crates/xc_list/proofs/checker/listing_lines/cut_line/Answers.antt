@@ -1,6 +1,6 @@
 use Rattle.std.proofs.Common.{arith}
-use Rattle.xc_input.proofs.LineLemmas.TextLines.{lines_of-part}
-use Rattle.xc_list.proofs.CheckLemmas.CutLines.{first_line}
+use Rattle.xc_input.proofs.LineLemmas.{lines_of-part}
+use Rattle.xc_list.proofs.CheckLemmas.{first_line}
 use Rattle.xc_list.proofs.checker.listing_lines.cut_line.Goals as goal
 
 pub returns-in-Some-clause-lines : goal.returns-in-Some-clause-lines

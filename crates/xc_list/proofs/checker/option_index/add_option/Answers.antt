@@ -2,11 +2,10 @@ use Rattle.std.proofs.Common.{[], add-one, ℕ, suc, ◌≡◌, ◌+◌, ◌++�
 use Rattle.std.specs.Prelude.{slice_get}
 use Rattle.xc_input.specs.declared.problem.Use.{Use}
 use Rattle.xc_input.specs.Problem.{Puzzle, numbered_get}
-use Rattle.xc_input.proofs.lists.Members.{IsIn}
-use Rattle.xc_list.specs.inner.Classes.{class_of, class_at}
-use Rattle.xc_list.specs.inner.OptionIndex.{key_uses}
-use Rattle.xc_list.proofs.CheckLemmas.ClassesSoFar.{members-few, members_at, classes-found, classes-new}
-use Rattle.xc_list.proofs.CheckLemmas.FoundClasses.{found-key, lost-key, new-uses}
+use Rattle.xc_input.proofs.ListLemmas.{IsIn}
+use Rattle.xc_list.specs.inner.Classes.{class_of, class_at, key_uses}
+use Rattle.xc_list.proofs.CheckLemmas.{members-few, members_at, classes-found, classes-new, found-key, lost-key}
+use Rattle.xc_list.proofs.CheckLemmas.{new-uses}
 use Rattle.xc_list.proofs.checker.option_index.add_option.Goals as goal
 
 -- the uses that were turned are the option's class

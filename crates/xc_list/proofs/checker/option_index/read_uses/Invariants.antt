@@ -1,5 +1,5 @@
 use Rattle.std.proofs.Common.{length}
-use Rattle.xc_list.proofs.CheckLemmas.ReadUses.{AreRead}
+use Rattle.xc_list.proofs.ClassLemmas.{AreRead}
 use Rattle.xc_list.proofs.checker.option_index.read_uses.Given as goal
 
 abbrev pub invariant-loop-u : goal.invariant-loop-u

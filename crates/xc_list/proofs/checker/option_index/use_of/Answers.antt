@@ -1,6 +1,6 @@
 use Rattle.std.proofs.Common.{arith}
 use Rattle.xc_input.specs.Words.{has}
-use Rattle.xc_list.proofs.CheckLemmas.ReadUses.{plain-word, cut-word}
+use Rattle.xc_list.proofs.ClassLemmas.{plain-word, cut-word}
 use Rattle.xc_list.proofs.checker.option_index.use_of.Goals as goal
 
 pub returns-in_err-item-in-None : goal.returns-in_err-item-in-None

@@ -1,5 +1,5 @@
 use Rattle.std.proofs.Common.{◌≡◌, ◌+◌, drop, map, Ok}
-use Rattle.xc_list.proofs.WordLemmas.{read_on}
+use Rattle.xc_list.proofs.Writing.{read_on}
 use Rattle.xc_list.specs.Settings.{read_words}
 use Rattle.xc_list.proofs.words.Words.read.Given as goal
 

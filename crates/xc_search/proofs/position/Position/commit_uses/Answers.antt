@@ -5,7 +5,7 @@ use Rattle.xc_input.specs.declared.problem.Use.{Use}
 use Rattle.xc_input.specs.Problem.{uses_of}
 use Rattle.xc_dance.specs.Dancing.{Dancing}
 use Rattle.xc_dance.specs.Commits.{CanStand, IsUseAt, others}
-use Rattle.xc_dance.proofs.MoveLemmas.Commits.{committed, stood_before, after_uses-append}
+use Rattle.xc_dance.proofs.StateLemmas.{committed, stood_before, after_uses-append}
 use Rattle.xc_search.proofs.position.Position.commit_uses.Goals.{After-place_in-at}
 use Rattle.xc_search.proofs.position.Position.commit_uses.Goals as goal
 

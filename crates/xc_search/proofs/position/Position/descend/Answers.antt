@@ -1,9 +1,7 @@
-use Rattle.xc_search.proofs.residual.ReadyUses.{spent_self}
+use Rattle.xc_search.proofs.ResidualLemmas.{spent_self}
 use Rattle.std.proofs.Common.{arith}
-use Rattle.xc_search.proofs.stacked.NextLevel.{open_in}
-use Rattle.xc_search.proofs.room.FewMoves.{has_room}
-use Rattle.xc_search.proofs.room.SparingMoves.{sparing_after_spend}
-use Rattle.xc_search.proofs.moves.LegalTweaks.{legal_node}
+use Rattle.xc_search.proofs.LoopSteps.{open_in}
+use Rattle.xc_search.proofs.MoveLemmas.{has_room, sparing_after_spend, legal_node}
 use Rattle.xc_search.proofs.position.Position.descend.Goals as goal
 
 pub spend_item-requires : goal.spend_item-requires

@@ -1,8 +1,8 @@
 use Rattle.std.proofs.Common.{ne_eqb}
 use Rattle.std.proofs.Common.{arith, ◌≡◌, None, refl}
 use Rattle.xc_search.specs.inner.Levels.{next_number}
-use Rattle.xc_search.proofs.stacked.NextLevel.{at_own, ground_is}
-use Rattle.xc_search.proofs.stacked.NextBranch.{entered}
+use Rattle.xc_search.proofs.LoopSteps.{at_own, ground_is}
+use Rattle.xc_search.proofs.BranchLemmas.{entered}
 use Rattle.xc_search.proofs.position.Position.enter.Goals as goal
 
 pub returns-then-place-level-clause-entered : goal.returns-then-place-level-clause-entered

@@ -1,6 +1,6 @@
 use Rattle.std.proofs.Common.{ap}
 use Rattle.xc_dance.specs.Dancing.{Dancing}
-use Rattle.xc_search.proofs.stacked.NextBranch.{entered}
+use Rattle.xc_search.proofs.BranchLemmas.{entered}
 use Rattle.xc_search.proofs.position.Position.enter_option.Goals as goal
 
 pub returns-clause-entered : goal.returns-clause-entered

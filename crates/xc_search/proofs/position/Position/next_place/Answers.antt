@@ -1,5 +1,5 @@
 use Rattle.std.proofs.Common.{arith, ◌∙◌}
-use Rattle.xc_search.proofs.stacked.NextOption.{Seeking, seeking}
+use Rattle.xc_search.proofs.BranchLemmas.{Seeking, seeking}
 use Rattle.xc_search.proofs.position.Position.next_place.Goals as goal
 use Rattle.xc_search.proofs.position.Position.next_place.Goals.{Joined-level}
 

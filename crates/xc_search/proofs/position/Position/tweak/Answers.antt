@@ -1,4 +1,4 @@
-use Rattle.xc_search.proofs.stacked.NextBranch.{may_tweak}
+use Rattle.xc_search.proofs.BranchLemmas.{may_tweak}
 use Rattle.xc_search.proofs.position.Position.tweak.Goals as goal
 
 pub make-requires-clause-legal : goal.make-requires-clause-legal

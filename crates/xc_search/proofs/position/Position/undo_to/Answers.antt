@@ -1,6 +1,5 @@
 use Rattle.std.proofs.Common.{arith}
-use Rattle.xc_search.proofs.moves.OldestMoves.{oldest-drop}
-use Rattle.xc_search.proofs.moves.NoTweaks.{next_above}
+use Rattle.xc_search.proofs.MoveLemmas.{oldest-drop, next_above}
 use Rattle.xc_search.proofs.position.Position.undo_to.Goals as goal
 
 pub undo-requires-clause-other : goal.undo-requires-clause-other

@@ -1,5 +1,5 @@
 use Rattle.std.proofs.Common.{◌≡◌, ◌+◌, ◌-◌, ◌≤◌, length}
-use Rattle.xc_search.specs.inner.Commits.{oldest, NoTweakAbove}
+use Rattle.xc_search.specs.inner.Levels.{oldest, NoTweakAbove}
 use Rattle.xc_search.proofs.position.Position.undo_to.Given as goal
 
 abbrev pub invariant-loop-self : goal.invariant-loop-self

@@ -1,6 +1,5 @@
 use Rattle.std.proofs.Common.{arith}
-use Rattle.xc_search.proofs.completeness.Covering.{each_member_covers}
-use Rattle.xc_search.proofs.completeness.Exactly.{each_cover_is_listed_once}
+use Rattle.xc_search.proofs.Completeness.{each_member_covers, each_cover_is_listed_once}
 use Rattle.xc_search.proofs.search.Search.new.Goals as goal
 
 pub returns-in_default-clause-right : goal.returns-in_default-clause-right

@@ -1,9 +1,9 @@
 use Rattle.std.proofs.Common.{◌≡◌, false, [], inl, ap, sym, ◌∙◌, arith}
 use Rattle.std.specs.Prelude.{option_map}
 use Rattle.xc_search.specs.inner.Spanning.{RanTo}
-use Rattle.xc_search.proofs.stacked.ShownLevels.{all_shown}
-use Rattle.xc_search.proofs.spans.Advance.{IsAt, over_first}
-use Rattle.xc_search.proofs.spans.Went.{went_to_member, went_to_row, went_to_end, fewer_passed, all_passed}
+use Rattle.xc_search.proofs.BranchLemmas.{all_shown}
+use Rattle.xc_search.proofs.SpanRuns.{IsAt, over_first}
+use Rattle.xc_search.proofs.SpanHalts.{went_to_member, went_to_row, went_to_end, fewer_passed, all_passed}
 use Rattle.xc_search.proofs.span.Span.advance.Goals as goal
 use Rattle.xc_search.proofs.span.Span.advance.Goals.{After-go_over-ran}
 use Rattle.xc_search.proofs.span.Span.advance.Goals.{then-self, else-self}

@@ -4,13 +4,12 @@ use Rattle.std.proofs.lemmas.Bool.Decides.{nat_tests}
 use Rattle.xc_dance.specs.Dancing.{Dancing}
 use Rattle.xc_search.specs.Spans.{is_before}
 use Rattle.xc_search.specs.Cover.{members}
-use Rattle.xc_search.specs.inner.Levels.{Levels, coming}
-use Rattle.xc_search.specs.inner.MostLevels.{most_levels}
+use Rattle.xc_search.specs.inner.Levels.{Levels, coming, most_levels}
 use Rattle.xc_search.specs.inner.Spanning.{row_at}
-use Rattle.xc_search.proofs.stacked.Start.{starts_standing, starts_coming}
-use Rattle.xc_search.proofs.spans.Kept.{row_levels}
-use Rattle.xc_search.proofs.spans.Advance.{first_left, first_row}
-use Rattle.xc_search.proofs.spans.Nodes.{first_node}
+use Rattle.xc_search.proofs.LoopSteps.{starts_standing, starts_coming}
+use Rattle.xc_search.proofs.SpanSteps.{row_levels}
+use Rattle.xc_search.proofs.SpanRuns.{first_left, first_row}
+use Rattle.xc_search.proofs.RowLemmas.{first_node}
 use Rattle.xc_search.proofs.span.Span.new.Goals as goal
 use Rattle.xc_search.proofs.span.Span.new.Goals.{Joined-not-reached, then-not-reached, else-not-reached}
 

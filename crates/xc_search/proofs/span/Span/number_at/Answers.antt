@@ -3,8 +3,8 @@ use Rattle.std.specs.Prelude.{slice_get}
 use Rattle.std.proofs.lemmas.List.{reverse-reverse}
 use Rattle.std.proofs.Common.{reverse, map}
 use Rattle.xc_search.specs.declared.level.Level.{Level}
-use Rattle.xc_search.proofs.spans.Along.{numbers_told, branches_told}
-use Rattle.xc_search.proofs.spans.Kept.{row_levels}
+use Rattle.xc_search.proofs.RowLemmas.{numbers_told, branches_told}
+use Rattle.xc_search.proofs.SpanSteps.{row_levels}
 use Rattle.xc_search.proofs.span.Span.number_at.Goals as goal
 
 pub returns-clause-number : goal.returns-clause-number

@@ -8,9 +8,9 @@ use Rattle.xc_input.specs.Problem.{Puzzle}
 use Rattle.xc_search.specs.Listing.{whole}
 use Rattle.xc_search.specs.InSpan.{InSpan, branches_along}
 use Rattle.xc_search.specs.inner.Spanning.{row_from}
-use Rattle.xc_search.proofs.spans.Along.{numbers_told, branches_told}
-use Rattle.xc_search.proofs.spans.Kept.{row_levels}
-use Rattle.xc_search.proofs.spans.Told.{told_row}
+use Rattle.xc_search.proofs.RowLemmas.{numbers_told, branches_told}
+use Rattle.xc_search.proofs.SpanSteps.{row_levels}
+use Rattle.xc_search.proofs.SpanHalts.{told_row}
 use Rattle.xc_search.proofs.span.Span.row.Goals as goal
 use Rattle.xc_search.proofs.span.Span.row.Goals.{then-not-self, else-not-self, Joined-not-self}
 

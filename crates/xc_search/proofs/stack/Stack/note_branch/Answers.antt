@@ -2,8 +2,8 @@ use Rattle.std.proofs.lemmas.Grind.{common_steps}
 use Rattle.std.proofs.Common.{◌≡◌, ◌∙◌, ◌-◌, ◌<◌, length, reverse, ap, arith}
 use Rattle.std.proofs.lemmas.List.{length-reverse}
 use Rattle.std.proofs.Math.ListN.{set, get_or}
-use Rattle.xc_input.proofs.FaultLemmas.Checks.{items-length}
-use Rattle.xc_input.proofs.lists.LastChanged.{newest_changed, first_changed}
+use Rattle.xc_input.proofs.FaultLemmas.{items-length}
+use Rattle.xc_input.proofs.ListLemmas.{newest_changed, first_changed}
 use Rattle.xc_search.specs.inner.Levels.{begun_level}
 use Rattle.xc_search.proofs.stack.Stack.note_branch.Goals as goal
 

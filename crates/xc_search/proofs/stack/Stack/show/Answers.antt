@@ -1,7 +1,7 @@
 use Rattle.std.proofs.Common.{sym, subst, arith}
 use Rattle.std.specs.Prelude.{All}
 use Rattle.xc_search.specs.inner.Levels.{IsShown}
-use Rattle.xc_search.proofs.stacked.ShownLevels.{shown_back}
+use Rattle.xc_search.proofs.BranchLemmas.{shown_back}
 use Rattle.xc_search.proofs.stack.Stack.show.Goals as goal
 
 pub replace_with-requires : goal.replace_with-requires

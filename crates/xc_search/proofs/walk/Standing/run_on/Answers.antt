@@ -1,12 +1,12 @@
 use Rattle.std.proofs.Common.{arith, true, false, None, subst, refl, ap, inl}
 use Rattle.xc_dance.specs.Dancing.{Dancing}
-use Rattle.xc_search.specs.inner.Due.{Pays}
+use Rattle.xc_search.specs.inner.Ahead.{Pays}
 use Rattle.xc_search.specs.inner.Spanning.{RunsTo}
-use Rattle.xc_search.proofs.stacked.Moved.{solved_moved}
-use Rattle.xc_search.proofs.ends.Whole.{pays_stands, pays_ends}
-use Rattle.xc_search.proofs.spans.Passing.{ends_over}
-use Rattle.xc_search.proofs.spans.Runs.{member_behind, comes_to_end}
-use Rattle.xc_search.proofs.stacked.PassedOver.{HasToPass, went_over, went_past}
+use Rattle.xc_search.proofs.BranchLemmas.{solved_moved}
+use Rattle.xc_search.proofs.EndLemmas.{pays_stands, pays_ends}
+use Rattle.xc_search.proofs.SpanSteps.{ends_over}
+use Rattle.xc_search.proofs.SpanRuns.{member_behind, comes_to_end}
+use Rattle.xc_search.proofs.LoopSteps.{HasToPass, went_over, went_past}
 use Rattle.xc_search.proofs.walk.Standing.run_on.Goals as goal
 use Rattle.xc_search.proofs.walk.Standing.run_on.Goals.{in-Member, in-Steps, Joined-unsearched, After-run-ran}
 

@@ -1,6 +1,6 @@
 use Rattle.std.proofs.Common.{arith}
 use Rattle.std.proofs.lemmas.Grind.{common_steps}
-use Rattle.xc_search.proofs.stacked.ShownLevels.{all_shown, shown_back, marks_chosen, marks_right}
+use Rattle.xc_search.proofs.BranchLemmas.{all_shown, shown_back, marks_chosen, marks_right}
 use Rattle.xc_search.proofs.walk.Walk.marks.Goals as goal
 
 pub returns-clause-marks : goal.returns-clause-marks

@@ -1,9 +1,8 @@
 use Rattle.std.proofs.Common.{arith, ap, ◌∙◌}
 use Rattle.xc_dance.specs.Dancing.{Dancing, moves_made}
 use Rattle.xc_search.specs.inner.Levels.{Levels}
-use Rattle.xc_search.proofs.stacked.Start.{starts_standing, starts_coming, starts_ends}
-use Rattle.xc_search.proofs.completeness.Covering.{each_member_covers}
-use Rattle.xc_search.proofs.completeness.Exactly.{each_cover_is_listed_once}
+use Rattle.xc_search.proofs.LoopSteps.{starts_standing, starts_coming, starts_ends}
+use Rattle.xc_search.proofs.Completeness.{each_member_covers, each_cover_is_listed_once}
 use Rattle.xc_search.proofs.walk.Walk.new.Goals as goal
 
 pub invariant_of-result : goal.invariant_of-result

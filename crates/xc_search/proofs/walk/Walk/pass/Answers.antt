@@ -1,5 +1,5 @@
 use Rattle.std.proofs.Common.{arith}
-use Rattle.xc_search.proofs.stacked.PassedOver.{outlook_passed, stands_there, few_made}
+use Rattle.xc_search.proofs.LoopSteps.{outlook_passed, stands_there, few_made}
 use Rattle.xc_search.proofs.walk.Walk.pass.Goals as goal
 
 pub invariant_of-self-2 : goal.invariant_of-self-2

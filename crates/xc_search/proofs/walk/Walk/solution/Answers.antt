@@ -1,5 +1,5 @@
 use Rattle.std.proofs.Common.{arith}
-use Rattle.xc_search.proofs.stacked.ShownLevels.{all_shown, shown_back}
+use Rattle.xc_search.proofs.BranchLemmas.{all_shown, shown_back}
 use Rattle.xc_search.proofs.walk.Walk.solution.Goals as goal
 
 pub invariant_of-result : goal.invariant_of-result

@@ -1,5 +1,5 @@
 use Rattle.std.proofs.Math.Seq.{take-add}
-use Rattle.xc_list.proofs.TextLemmas.{appends_more}
+use Rattle.xc_list.proofs.Writing.{appends_more}
 use Rattle.std.proofs.Common.{arith}
 use Rattle.std.proofs.lemmas.Grind.{common_steps}
 use Rattle.xc_tools.proofs.outgoing.writing.pass_on.Goals as goal

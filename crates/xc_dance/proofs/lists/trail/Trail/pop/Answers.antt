@@ -1,11 +1,11 @@
-use Rattle.xc_dance.proofs.MoveLemmas.StateLemmas.{open_by_state, set_state, high_within}
+use Rattle.xc_dance.proofs.StateLemmas.{open_by_state, set_state, high_within}
 use Rattle.std.proofs.Common.{arith, ◌≡◌, reverse, [], ◌∷◌, List, eq-eqb, ◌++◌, ℕ, refl}
 use Rattle.std.proofs.lemmas.Grind.{common_steps, get_or_default_zero}
 use Rattle.xc_input.specs.Problem.{Puzzle}
 use Rattle.std.proofs.lemmas.Bool.{ne_eqb}
 use Rattle.xc_dance.specs.declared.dance.Move.{Move}
 use Rattle.xc_dance.specs.Moves.{AreLegal}
-use Rattle.xc_dance.specs.inner.Lists.States.{AreStates, AreLeft}
+use Rattle.xc_dance.specs.inner.Lists.{AreStates, AreLeft}
 use Rattle.xc_dance.proofs.lists.trail.Trail.pop.Goals as goal
 use Rattle.xc_dance.specs.declared.lists.item_states.ItemState.TheVariants.{Open}
 use Rattle.xc_dance.specs.declared.lists.item_states.ItemState.{ItemState}

@@ -1,8 +1,7 @@
 use Rattle.std.proofs.Common.{arith}
 use Rattle.std.proofs.lemmas.Grind.{common_steps}
-use Rattle.xc_dance.proofs.LiveLists.Marks.{length-lists_at_marks, marks_weaker}
+use Rattle.xc_dance.proofs.MoveLemmas.{length-lists_at_marks, marks_weaker, restored_at}
 use Rattle.xc_dance.proofs.lists.undo_log.OptionLists.mark.Goals as goal
-use Rattle.xc_dance.proofs.LiveLists.Marks.{restored_at}
 
 pub push_reserved-requires : goal.push_reserved-requires
 push_reserved-requires c = grind (arith, common_steps, length-lists_at_marks)

@@ -1,8 +1,7 @@
 use Rattle.std.proofs.lemmas.Grind.{common_steps}
 use Rattle.std.proofs.Common.{arith}
-use Rattle.xc_input.proofs.lists.EachTwo.{each_two_from_AllPairs}
-use Rattle.xc_list.proofs.CheckLemmas.HeldItems.{length-coloured}
-use Rattle.xc_list.proofs.CheckLemmas.LastColours.{held_once}
+use Rattle.xc_input.proofs.ListLemmas.{each_two_from_AllPairs}
+use Rattle.xc_list.proofs.CountedCovers.{length-coloured, held_once}
 use Rattle.xc_list.proofs.checker.counts.Counts.add.Goals as goal
 
 pub loop-u-init : goal.loop-u-init

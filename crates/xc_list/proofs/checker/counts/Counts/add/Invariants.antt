@@ -1,6 +1,6 @@
 use Rattle.std.proofs.Common.{ℕ, suc, ◌≡◌, ◌+◌, ◌^◌, ◌<◌, drop, length, get_or}
-use Rattle.xc_list.specs.inner.CoverCounts.{added, colours_after, short_of}
-use Rattle.xc_list.proofs.CheckLemmas.HeldItems.{held}
+use Rattle.xc_list.specs.inner.Classes.{added, colours_after, short_of}
+use Rattle.xc_list.proofs.CountedCovers.{held}
 use Rattle.xc_list.proofs.checker.counts.Counts.add.Given as goal
 
 -- what is left makes of the counts what all uses make of those before, and no count grows too large by it

@@ -1,10 +1,9 @@
 use Rattle.std.proofs.lemmas.Grind.{common_steps}
 use Rattle.std.proofs.Common.{arith}
 use Rattle.std.proofs.Common.{◌∙◌, ap}
-use Rattle.xc_list.specs.inner.CoverCounts.{cleared}
-use Rattle.xc_list.proofs.CheckLemmas.HeldItems.{length-lowered, lowered-append}
+use Rattle.xc_list.specs.inner.Classes.{cleared}
+use Rattle.xc_list.proofs.CountedCovers.{length-lowered, lowered-append, known_items, uses_in-take}
 use Rattle.std.proofs.lemmas.List.{take_more, map-append}
-use Rattle.xc_list.proofs.CheckLemmas.CountedClasses.{known_items, uses_in-take}
 use Rattle.xc_list.proofs.checker.counts.Counts.clear.Goals as goal
 
 pub clear_uses-requires : goal.clear_uses-requires

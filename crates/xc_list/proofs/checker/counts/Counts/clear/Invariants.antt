@@ -1,5 +1,5 @@
 use Rattle.std.proofs.Common.{◌≡◌, take}
-use Rattle.xc_list.specs.inner.CoverCounts.{cleared, lowered, uses_in}
+use Rattle.xc_list.specs.inner.Classes.{cleared, lowered, uses_in}
 use Rattle.xc_list.proofs.checker.counts.Counts.clear.Given as goal
 
 abbrev pub invariant-loop-class : goal.invariant-loop-class

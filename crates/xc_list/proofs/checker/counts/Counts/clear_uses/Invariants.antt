@@ -1,5 +1,5 @@
 use Rattle.std.proofs.Common.{◌≡◌, drop, length}
-use Rattle.xc_list.specs.inner.CoverCounts.{cleared}
+use Rattle.xc_list.specs.inner.Classes.{cleared}
 use Rattle.xc_list.proofs.checker.counts.Counts.clear_uses.Given as goal
 
 abbrev pub invariant-loop-u : goal.invariant-loop-u

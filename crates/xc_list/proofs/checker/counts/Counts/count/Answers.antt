@@ -1,14 +1,12 @@
 use Rattle.std.proofs.Common.{◌∙◌, ap, ℕ}
 use Rattle.std.proofs.lemmas.List.{map-append}
-use Rattle.xc_list.specs.inner.CoverCounts.{added, colours_after}
-use Rattle.xc_list.proofs.CheckLemmas.CountedClasses.{uses_in-take}
+use Rattle.xc_list.specs.inner.Classes.{added, colours_after}
+use Rattle.xc_list.proofs.CountedCovers.{uses_in-take, length-raised, length-coloured, coloured-append, raised-append}
+use Rattle.xc_list.proofs.CountedCovers.{known_items, classes_usable, added_once, zeros-at}
 use Rattle.std.proofs.lemmas.Grind.{common_steps}
 use Rattle.std.proofs.Common.{arith, ◌≢◌, get_or}
 use Rattle.xc_input.specs.declared.problem.Use.{Use}
-use Rattle.xc_input.proofs.lists.EachTwo.{AllPairs-from_each_two}
-use Rattle.xc_list.proofs.CheckLemmas.HeldItems.{length-raised, length-coloured, coloured-append}
-use Rattle.xc_list.proofs.CheckLemmas.HeldItems.{raised-append}
-use Rattle.xc_list.proofs.CheckLemmas.CountedClasses.{known_items, classes_usable, added_once, zeros-at}
+use Rattle.xc_input.proofs.ListLemmas.{AllPairs-from_each_two}
 use Rattle.xc_list.proofs.checker.counts.Counts.count.Goals as goal
 
 pub loop-class-init : goal.loop-class-init

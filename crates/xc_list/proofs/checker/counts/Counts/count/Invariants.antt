@@ -1,6 +1,6 @@
 use Rattle.std.proofs.Common.{ℕ, ◌≡◌, ◌≤◌, drop, take, length, get_or}
 use Rattle.xc_input.specs.Problem.{item_count}
-use Rattle.xc_list.specs.inner.CoverCounts.{added, colours_after, raised, uses_in, short_of}
+use Rattle.xc_list.specs.inner.Classes.{added, colours_after, raised, uses_in, short_of}
 use Rattle.xc_list.proofs.checker.counts.Counts.count.Given as goal
 
 -- the classes so far are counted, and none of them raised a count by more than 1

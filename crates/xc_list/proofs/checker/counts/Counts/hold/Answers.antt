@@ -1,6 +1,6 @@
 use Rattle.std.proofs.lemmas.Bool.Decides.{nat_tests}
 use Rattle.std.proofs.Common.{arith, ◌-◌}
-use Rattle.xc_list.proofs.CheckLemmas.ShortItems.{held_once_more}
+use Rattle.xc_list.proofs.CountedCovers.{held_once_more}
 use Rattle.xc_list.proofs.checker.counts.Counts.hold.Goals as goal
 use Rattle.xc_list.proofs.checker.counts.Counts.hold.Goals.{else-place-bounds-via-then-place-bounds+else-times-bounds}
 use Rattle.xc_list.proofs.checker.counts.Counts.hold.Goals.{else-place-bounds-via-else-place-bounds}

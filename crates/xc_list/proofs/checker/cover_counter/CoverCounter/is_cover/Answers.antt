@@ -1,9 +1,7 @@
 use Rattle.std.proofs.Common.{arith}
 use Rattle.std.proofs.Common.{ℕ, List, ◌≡◌, ◌∙◌, length, replicate, ap}
-use Rattle.xc_list.specs.inner.CoverCounts.{item_places, uses_in, added, raised, lowered}
-use Rattle.xc_list.proofs.CheckLemmas.HeldItems.{length-raised, length-coloured}
-use Rattle.xc_list.proofs.CheckLemmas.CountedClasses.{lowered_back}
-use Rattle.xc_list.proofs.CheckLemmas.CountedCovers.{counted-cover, cover-counted}
+use Rattle.xc_list.specs.inner.Classes.{item_places, uses_in, added, raised, lowered}
+use Rattle.xc_list.proofs.CountedCovers.{length-raised, length-coloured, lowered_back, counted-cover, cover-counted}
 use Rattle.xc_list.proofs.checker.cover_counter.CoverCounter.is_cover.Goals as goal
 
 -- what was counted from zeros and then forgotten is as before

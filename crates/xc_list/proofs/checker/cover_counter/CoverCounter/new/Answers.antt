@@ -1,7 +1,7 @@
 use Rattle.std.proofs.Common.{arith}
 use Rattle.std.proofs.Common.{ℕ, ◌≡◌, ◌∙◌, List, length, replicate, sym, ap}
 use Rattle.std.proofs.lemmas.List.{length-replicate}
-use Rattle.xc_list.proofs.CheckLemmas.ShortItems.{short_begun, short_zeros}
+use Rattle.xc_list.proofs.CountedCovers.{short_begun, short_zeros}
 use Rattle.xc_list.proofs.checker.cover_counter.CoverCounter.new.Goals as goal
 
 again : (n : ℕ) (xs : List ℕ) → xs ≡ replicate n 0 → xs ≡ replicate (length xs) 0

@@ -2,7 +2,7 @@ use Rattle.std.proofs.lemmas.Bool.Decides.{nat_tests}
 use Rattle.std.proofs.Common.{arith}
 use Rattle.std.proofs.Common.{◌∙◌, ap}
 use Rattle.xc_list.specs.inner.Classes.{class_of}
-use Rattle.xc_list.proofs.CheckLemmas.FoundClasses.{no-uses, class-found, some-uses}
+use Rattle.xc_list.proofs.CheckLemmas.{no-uses, class-found, some-uses}
 use Rattle.xc_list.proofs.checker.option_index.OptionIndex.class_of.Goals as goal
 
 pub returns-then-not-branch-clause-class : goal.returns-then-not-branch-clause-class

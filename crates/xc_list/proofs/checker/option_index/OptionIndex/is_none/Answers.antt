@@ -1,8 +1,7 @@
 use Rattle.std.proofs.Common.{arith}
 use Rattle.std.proofs.Common.{◌≡◌, ◌<◌, List, ℕ, ◌∷◌, [], length, Option, Some, MatchOption, Bor}
 use Rattle.xc_list.specs.ListingLines.{words_in}
-use Rattle.xc_list.proofs.CheckLemmas.NumberedTexts.{none-of-three}
-use Rattle.xc_list.proofs.CheckLemmas.CutLines.{some_words}
+use Rattle.xc_list.proofs.CheckLemmas.{none-of-three, some_words}
 use Rattle.xc_list.proofs.checker.option_index.OptionIndex.is_none.Goals as goal
 
 -- what a cut says where something is left

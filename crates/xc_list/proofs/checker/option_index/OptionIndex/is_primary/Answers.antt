@@ -1,5 +1,5 @@
 use Rattle.std.proofs.Common.{arith}
-use Rattle.xc_list.proofs.CheckLemmas.NumberedTexts.{any-take-number, any-take-no_number}
+use Rattle.xc_list.proofs.CheckLemmas.{any-take-number, any-take-no_number}
 use Rattle.xc_list.proofs.checker.option_index.OptionIndex.is_primary.Goals as goal
 
 pub returns-in-Some : goal.returns-in-Some

@@ -1,6 +1,6 @@
 use Rattle.std.proofs.Common.{◌≡◌, arith}
 use Rattle.xc_input.specs.Problem.{option_count}
-use Rattle.xc_list.proofs.CheckLemmas.ClassUses.{classes-whole}
+use Rattle.xc_list.proofs.CheckLemmas.{classes-whole}
 use Rattle.xc_list.proofs.checker.option_index.OptionIndex.new.Goals as goal
 
 pub invariant_of-result : goal.invariant_of-result

@@ -1,4 +1,4 @@
-use Rattle.xc_list.specs.inner.OptionIndex.{AreClassesTo, key_uses}
+use Rattle.xc_list.specs.inner.Classes.{AreClassesTo, key_uses}
 use Rattle.xc_list.proofs.checker.option_index.OptionIndex.new.Given as goal
 
 abbrev pub invariant-loop-o : goal.invariant-loop-o

@@ -1,5 +1,5 @@
 use Rattle.std.proofs.Common.{arith}
-use Rattle.xc_list.proofs.CheckLemmas.ClassUses.{known-uses}
+use Rattle.xc_list.proofs.CheckLemmas.{known-uses}
 use Rattle.xc_list.proofs.checker.option_index.OptionIndex.uses.Goals as goal
 
 pub returns-clause-known : goal.returns-clause-known

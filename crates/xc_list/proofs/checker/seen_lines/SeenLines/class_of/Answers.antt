@@ -1,6 +1,6 @@
 use Rattle.std.proofs.lemmas.Bool.Decides.{nat_tests}
 use Rattle.std.proofs.Common.{arith}
-use Rattle.xc_list.proofs.CheckLemmas.NotedLines.{found-at}
+use Rattle.xc_list.proofs.CheckLemmas.{found-at}
 use Rattle.xc_list.proofs.checker.seen_lines.SeenLines.class_of.Goals as goal
 
 pub returns-then-eq : goal.returns-then-eq

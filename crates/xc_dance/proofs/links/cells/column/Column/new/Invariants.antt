@@ -1,6 +1,6 @@
 use Rattle.std.proofs.Common.{◌≡◌, ◌≤◌, replicate, length}
 use Rattle.std.specs.Prelude.{vec_capacity}
-use Rattle.xc_dance.specs.inner.Links.Columns.{values}
+use Rattle.xc_dance.specs.inner.Tables.{values}
 use Rattle.xc_dance.proofs.links.cells.column.Column.new.Given as goal
 
 -- so many zeros so far

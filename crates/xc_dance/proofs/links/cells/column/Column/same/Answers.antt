@@ -5,7 +5,7 @@ use Rattle.std.specs.Cmp.Lexicographic.{pointwise}
 use Rattle.std.proofs.lemmas.Slice.Eq.{bytes_eq-Decides}
 use Rattle.xc_dance.specs.declared.links.cells.cell.Cell.{Cell}
 use Rattle.xc_dance.specs.contracts.links.cells.cell.CellPartialEq.TheImpl.{ghosts}
-use Rattle.xc_dance.specs.inner.Links.Columns.{values}
+use Rattle.xc_dance.specs.inner.Tables.{values}
 use Rattle.xc_dance.proofs.links.cells.column.Column.same.Goals as goal
 
 by_values : (xs ys : List Cell) → pointwise ghosts.eq xs ys ≡ bytes_eq (values xs) (values ys)

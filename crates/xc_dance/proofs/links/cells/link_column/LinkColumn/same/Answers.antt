@@ -5,7 +5,7 @@ use Rattle.std.specs.Cmp.Lexicographic.{pointwise}
 use Rattle.std.proofs.lemmas.Slice.Eq.{bytes_eq-Decides}
 use Rattle.xc_dance.specs.declared.links.cells.Link.{Link}
 use Rattle.xc_dance.specs.contracts.links.cells.LinkPartialEq.TheImpl.{ghosts}
-use Rattle.xc_dance.specs.inner.Links.Columns.{ups, downs}
+use Rattle.xc_dance.specs.inner.Tables.{ups, downs}
 use Rattle.xc_dance.proofs.links.cells.link_column.LinkColumn.same.Goals as goal
 
 by_columns : (xs ys : List Link)

@@ -1,4 +1,0 @@
-pub mod NodeOptions
-pub mod UsePlaces
-pub mod CommitLemmas
-pub mod Along

@@ -1,3 +1,0 @@
-pub mod RingStep
-pub mod RingLemmas
-pub mod Turned

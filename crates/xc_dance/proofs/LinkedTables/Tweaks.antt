@@ -1,4 +1,0 @@
-pub mod TweakStep
-pub mod BringBack
-pub mod TweaksBack
-pub mod UndoTweaks

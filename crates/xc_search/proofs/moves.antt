@@ -1,4 +1,0 @@
-pub mod BranchMoves
-pub mod LegalTweaks
-pub mod NoTweaks
-pub mod OldestMoves

@@ -1,4 +1,0 @@
-pub mod CountedSums
-pub mod FewMoves
-pub mod FewSpends
-pub mod SparingMoves

@@ -1,0 +1,680 @@
+-- What is known of spans where a run stopped, of lines read one after another, and of what runs wrote.
+use Rattle.std.proofs.Common.{◌≡◌, ℕ, Bool, false, List, [], ◌∷◌, ◌++◌, Result, Err, Ok, OnOk, refl, sym, ap, ◌∙◌}
+use Rattle.std.proofs.Common.{arith, append_assoc, append-nil, subst, ◌⊎◌, inl, inr, ◌+◌, true, flat_map, map}
+use Rattle.std.specs.Prelude.{◌==◌, IsTrue, codes, if◌then◌else◌}
+use Rattle.std.specs.Io.KnownBytes.{Keeps}
+use Rattle.std.specs.List.{AllByRecursion}
+use Rattle.std.proofs.lemmas.Bool.Decides.{nat_tests}
+use Rattle.std.proofs.lemmas.List.Elements.{All-from_recursion, recursion_from_All}
+use Rattle.xc_input.specs.Words.{has}
+use Rattle.xc_input.specs.inner.Feeding.{ended, AreWhole}
+use Rattle.xc_input.specs.Calls.{Rose, one_more}
+use Rattle.xc_input.specs.LinesRead.{Advanced, LinesRead}
+use Rattle.xc_input.specs.declared.line_reader.Unread.{Unread}
+use Rattle.xc_input.specs.Pieces.{SourceState, Gave, GaveAll}
+use Rattle.xc_input.specs.Named.{Named, IsSound}
+use Rattle.xc_input.specs.Lines.{lines_of}
+use Rattle.xc_input.proofs.LineLemmas.{came-gave, gave_then, ended-append, gave_none}
+use Rattle.xc_list.specs.Texts.{SinkState, Took, BrokeOff, WasTold}
+use Rattle.xc_list.specs.SpanTexts.{most_counted}
+use Rattle.xc_list.specs.Messages.{summary_text}
+use Rattle.xc_list.specs.Runs.{end_of}
+use Rattle.xc_list.specs.declared.runs.End.{End}
+use Rattle.xc_list.specs.declared.runs.End.TheVariants.{Done, Limit}
+use Rattle.xc_list.specs.SearchedSpans.{SearchedSpan, IsSpan, text_of}
+use Rattle.xc_list.specs.SpanRuns.{searched}
+use Rattle.xc_list.specs.SpanWords.{is_span}
+use Rattle.xc_list.proofs.Writing.{then_broke, then_took, took_nothing, appends_kept}
+use Rattle.xc_tools.specs.declared.joining.Stop.{Stop}
+use Rattle.xc_tools.specs.declared.joining.Stop.TheVariants.{NotText, Other, Gap, Device, Memory, WriteFailed}
+use Rattle.xc_tools.specs.declared.span_lines.Joint.{Joint}
+use Rattle.xc_tools.specs.declared.span_lines.Refusal.{Refusal}
+use Rattle.xc_tools.specs.inner.SpanLines.{Join, Stand, goes, faulty, mixed, apart, by_line, start, step, RefusesLine}
+use Rattle.xc_tools.specs.inner.SpanLines.{join_of}
+use Rattle.xc_tools.specs.inner.Joining.{Adds, EndsAt, StopsIn, StopsReading, stand_reached, says_of, stop_of}
+use Rattle.xc_tools.specs.inner.Joining.{unread_stop, IsLast, JoinsAll, ToldStop, joined_text, NoWriteFailed}
+use Rattle.xc_tools.specs.inner.Joining.{NothingFailed}
+use Rattle.xc_tools.specs.Joins.{IsFirstGap, AreOfOneProblem, AreTexts, DidJoin, DoMeet, ForShapes, ForTexts, HasBegun}
+use Rattle.xc_tools.specs.Joins.{IsBeginning, OfInput, spans_in, joined, ListsWhole}
+use Rattle.xc_tools.specs.WholeRuns.{Sinks, TookAll, FailedBehind}
+use Rattle.xc_tools.specs.SpanShapes.{AreShapes, SpanText, HasShape, bytes_of}
+use Rattle.xc_tools.specs.inner.Streams.{FlushFailed, WasFlushed}
+use Rattle.xc_tools.specs.SpanRuns.{AreWritten, IsWritten}
+use Rattle.xc_tools.proofs.SpanLines.{after-append, wrote-append, whole-append, shape-short, shape_of, span-short}
+use Rattle.xc_tools.proofs.SpanLines.{text-shape}
+use Rattle.xc_tools.proofs.Chains.{shapes-apart, shapes-cut, shapes-mixed, shapes-not-faulty, shapes-open}
+use Rattle.xc_tools.proofs.Chains.{shapes-unfinished, all_lines, begins, end_of-total, finished, first-lines, no-rest}
+use Rattle.xc_tools.proofs.ReadTexts.{ReadAs, meet-read, one-read, read-lines, shapes-read, start-read, texts_read}
+use Rattle.xc_tools.proofs.RunLemmas.{took_all}
+use Rattle.xc_tools.specs.declared.span_lines.Refusal.TheVariants as refusals
+use Rattle.xc_input.specs.declared.line_reader.Unread.TheVariants as unread
+
+-- ======== Lines of spans' texts that are read one after another.
+
+-- ---- one line more
+
+module _ (listed : Bool) (ls : List (List ℕ)) (line : List ℕ) (s : Join) (e : stand_reached listed ls ≡ goes s) where
+  pub stands-more : stand_reached listed (ls ++ line ∷ []) ≡ (by_line s line).0
+  stands-more = after-append (goes (start listed)) ls (line ∷ []) ∙ ap (λ z. (step z line).0) e
+
+  pub adds-more : (R : SinkState → SinkState → List ℕ → Type 0) (x y : SinkState) (st : Stand) (text : List ℕ)
+      → by_line s line ≡ (st, text) → R x y text → Adds listed ls (ls ++ line ∷ []) R x y
+  adds-more R x y st text f said = grind (arith, wrote-append, goes, start, step, append-nil, by_line)
+
+pub whole-more : (ls : List (List ℕ)) (line : List ℕ) → AreWhole ls → has 10 line ≡ false → AreWhole (ls ++ line ∷ [])
+whole-more ls line w f = whole-append ls (line ∷ []) w (f, tt)
+
+-- ---- a line that stops the run
+
+-- before it, for want of memory
+pub stops-before : (listed : Bool) (ls : List (List ℕ)) (rest bytes : List ℕ) (new : Joint) (x : SinkState)
+    → AreWhole ls → bytes ≡ ended ls ++ rest → StopsIn listed ls bytes new x x Memory
+stops-before listed ls rest bytes new x w e = grind (arith, append-nil, took_nothing)
+
+module _ (listed : Bool) (ls : List (List ℕ)) (line : List ℕ) (s : Join) (e : stand_reached listed ls ≡ goes s)
+    (w : AreWhole ls) (f : has 10 line ≡ false) (new : Joint) (x : SinkState) where
+  pub refused : (r : Refusal) → RefusesLine r new (by_line s line)
+      → StopsIn listed ls (ended ls ++ (line ++ 10 ∷ [])) new x x (stop_of r)
+  refused refusals.NotText is = record {
+    lines = ls ++ line ∷ [];
+    rest = [];
+    front = grind (arith, ended-append, append-nil, ended);
+    whole = whole-more ls line w f;
+    last = stands-more listed ls line s e ∙ ap (λ r. r.0) is;
+    adds = adds-more listed ls line s e Took x x faulty [] is (took_nothing x);
+  }
+  refused refusals.Gap is = record {
+    lines = ls ++ line ∷ [];
+    rest = [];
+    front = grind (arith, ended-append, append-nil, ended);
+    whole = whole-more ls line w f;
+    last = stands-more listed ls line s e ∙ ap (λ r. r.0) is;
+    adds = adds-more listed ls line s e Took x x (apart new.met.items new.next.items) [] is (took_nothing x);
+  }
+  refused refusals.Other is = record {
+    lines = ls ++ line ∷ [];
+    rest = [];
+    front = grind (arith, ended-append, append-nil, ended);
+    whole = whole-more ls line w f;
+    last = stands-more listed ls line s e ∙ ap (λ r. r.0) is;
+    adds = adds-more listed ls line s e Took x x mixed [] is (took_nothing x);
+  }
+  refused refusals.Memory is = stops-before listed ls (line ++ 10 ∷ []) _ new x w refl
+
+  pub unwritten : (y : SinkState) (st : Stand) (text : List ℕ) → by_line s line ≡ (st, text) → BrokeOff x y text
+      → StopsIn listed ls (ended ls ++ (line ++ 10 ∷ [])) new x y WriteFailed
+  unwritten y st text is broke = record {
+    lines = ls ++ line ∷ [];
+    rest = [];
+    front = grind (arith, ended-append, append-nil, ended);
+    whole = whole-more ls line w f;
+    last = tt;
+    adds = adds-more listed ls line s e BrokeOff x y st text is broke;
+  }
+
+-- ---- more bytes, and others before
+
+pub stops-more : (listed : Bool) (before : List (List ℕ)) (bytes more all : List ℕ) (new : Joint) (x y : SinkState)
+    (e : Stop) → all ≡ bytes ++ more → StopsIn listed before bytes new x y e → StopsIn listed before all new x y e
+stops-more listed before bytes more all new x y e is h = grind (arith, append_assoc, ended)
+
+pub adds-then : (listed : Bool) (a b c : List (List ℕ)) (x y z : SinkState) → Adds listed a b Took x y
+    → Adds listed b c Took y z → Adds listed a c Took x z
+adds-then listed a b c x y z p q = grind (arith, append_assoc, then_took)
+
+says-then : (e : Stop) (x y z : SinkState) (s t : List ℕ) → Took x y s → says_of e y z t → says_of e x z (s ++ t)
+says-then NotText x y z s t p q = then_took p q
+says-then Gap x y z s t p q = then_took p q
+says-then Other x y z s t p q = then_took p q
+says-then Device x y z s t p q = then_took p q
+says-then Memory x y z s t p q = then_took p q
+says-then WriteFailed x y z s t p q = then_broke p q
+
+pub stops-then : (listed : Bool) (a b : List (List ℕ)) (bytes : List ℕ) (new : Joint) (x y z : SinkState) (e : Stop)
+    → Adds listed a b Took x y → StopsIn listed b bytes new y z e → StopsIn listed a bytes new x z e
+stops-then listed a b bytes new x y z e p h = grind (arith, append_assoc, says-then)
+
+-- ---- why reading stopped
+
+pub stops-reading : (listed : Bool) (new : Joint) (a b : SourceState) (x y : SinkState) (bytes : List ℕ) (e : Stop)
+    → Gave a b bytes → StopsIn listed [] bytes new x y e → b.failures ≡ a.failures → StopsReading listed new a b x y e
+stops-reading listed new a b x y bytes NotText g h well = (bytes, g, h, well)
+stops-reading listed new a b x y bytes Gap g h well = (bytes, g, h, well)
+stops-reading listed new a b x y bytes Other g h well = (bytes, g, h, well)
+stops-reading listed new a b x y bytes Device g h well = absurd h.last
+stops-reading listed new a b x y bytes Memory g h well = (bytes, g, h, well)
+stops-reading listed new a b x y bytes WriteFailed g h well = (bytes, g, h, well)
+
+pub gave-as : {a b : SourceState} {s t : List ℕ} → s ≡ t → Gave a b s → Gave a b t
+gave-as {a = a} {b = b} is h = subst (Gave a b) is h
+
+-- a reader of lines gave no answer
+pub stops-unread : (listed : Bool) (ls : List (List ℕ)) (new : Joint) (old after : LinesRead) {a : SourceState}
+    (b c : SourceState) {x y : SinkState} (e : Unread) → AreWhole ls → b.failures ≡ a.failures
+    → Gave a b (ended ls ++ old.unread) → Adds listed [] ls Took x y → Advanced old after b c (Err e)
+    → StopsReading listed new a c x y (unread_stop e)
+stops-unread listed ls new old after {a = a} b c {x = x} {y = y} unread.Device w same g adds h = (
+  ls,
+  old.unread ++ h.0,
+  gave-as (append_assoc (ended ls) old.unread h.0)
+      (gave_then a b c (ended ls ++ old.unread) h.0 g h.1),
+  w,
+  subst (Took x y) (sym adds.more) adds.said,
+  subst (λ n. Rose n c.failures) same h.3,
+)
+stops-unread listed ls new old after {a = a} b c {x = x} {y = y} unread.Memory w same g adds h = (
+  (ended ls ++ old.unread) ++ h.0,
+  gave_then a b c (ended ls ++ old.unread) h.0 g (came-gave h.1),
+  stops-then listed [] ls _ new x y y Memory adds
+      (stops-before listed ls (old.unread ++ h.0) _ new y w (append_assoc (ended ls) old.unread h.0)),
+  h.2 ∙ same,
+)
+
+-- a line is taken
+pub fed-on : (old new : List (List ℕ)) (left bytes line unread : List ℕ) → left ++ bytes ≡ line ++ unread
+    → ended new ≡ ended old ++ line → (ended old ++ left) ++ bytes ≡ ended new ++ unread
+fed-on old new left bytes line unread e f = grind (arith, append_assoc)
+
+-- it is the last one
+pub fed-line : (old : List (List ℕ)) (left bytes line unread : List ℕ) → left ++ bytes ≡ line ++ unread
+    → (ended old ++ left) ++ bytes ≡ (ended old ++ line) ++ unread
+fed-line old left bytes line unread e = grind (arith, append_assoc)
+
+-- the bytes of lines and one more, where it is taken
+pub ended-more : (old new : List (List ℕ)) (line with_feed : List ℕ) (r : Result (Unit {0}) Stop)
+    → with_feed ≡ line ++ 10 ∷ [] → OnOk r (new ≡ old ++ line ∷ []) → OnOk r (ended new ≡ ended old ++ with_feed)
+ended-more old new line with_feed (Ok _) w e =
+    ap ended e ∙ ended-append old (line ∷ []) ∙ ap (λ t. ended old ++ t) (sym w)
+ended-more old new line with_feed (Err _) w e = tt
+
+-- the same told in another way
+pub stops-as : {before : List (List ℕ)} {bytes : List ℕ} {new : Joint} {x y : SinkState} {e : Stop} {b c : Bool} → b ≡ c
+    → StopsIn b before bytes new x y e → StopsIn c before bytes new x y e
+stops-as {before = before} {bytes = bytes} {new = new} {x = x} {y = y} {e = e} is h = grind (arith)
+
+pub stops-from : {a b : List (List ℕ)} {bytes : List ℕ} {new : Joint} {x y : SinkState} {e : Stop} {listed : Bool}
+    → a ≡ b
+    → StopsIn listed a bytes new x y e → StopsIn listed b bytes new x y e
+stops-from {bytes = bytes} {new = new} {x = x} {y = y} {e = e} {listed = listed} is h = grind (arith)
+
+pub adds-as : {before lines : List (List ℕ)} {x y : SinkState} {b c : Bool} → b ≡ c
+    → Adds b before lines Took x y → Adds c before lines Took x y
+adds-as {before = before} {lines = lines} {x = x} {y = y} is h = subst (λ b. Adds b before lines Took x y) is h
+
+pub ends-as : {s t : List ℕ} (old new : Joint) (r : Result (Unit {0}) Stop) → s ≡ t → EndsAt s old new r
+    → EndsAt t old new r
+ends-as old new r is h = subst (λ s. EndsAt s old new r) is h
+
+-- ======== What is known of spans where a run stopped.
+
+-- what is so of texts at such a stop
+abbrev pub so_at : Joint → Stop → List SpanText → Type 0
+so_at new NotText texts = ⊥
+so_at new Other texts = AreOfOneProblem texts → ⊥
+so_at new Gap texts = IsFirstGap [] new.met.items new.next.items (spans_in texts)
+so_at new Device texts = Unit {0}
+so_at new Memory texts = Unit {0}
+so_at new WriteFailed texts = Unit {0}
+
+module _ (listed : Bool) (texts : List SpanText) (bytes : List ℕ) (are : AreShapes listed texts bytes)
+    (ls : List (List ℕ)) (rest : List ℕ) (w : AreWhole ls) (e : bytes ≡ ended ls ++ rest) where
+  last-so : (new : Joint) (stop : Stop) → IsLast listed ls new stop → so_at new stop texts
+  last-so new NotText h = shapes-not-faulty listed texts bytes are ls rest w e h
+  last-so new Other h = shapes-mixed listed texts bytes are ls rest w e h
+  last-so new Gap h = shapes-apart listed texts bytes are ls rest w e _ _ h
+  last-so new Device h = tt
+  last-so new Memory h = tt
+  last-so new WriteFailed h = tt
+
+  ends-so : has 10 rest ≡ false → (old new : Joint) → stand_reached listed ls ≡ goes (join_of old) → (stop : Stop)
+      → EndsAt rest old new (Err stop) → so_at new stop texts
+  ends-so free old new at NotText h =
+      h (shapes-cut listed texts bytes are ls rest w e free (join_of old) at)
+      (shapes-open listed texts bytes are ls rest w e free (join_of old) at)
+  ends-so free old new at Other h = absurd h
+  ends-so free old new at Gap h =
+      let met = ap (λ v. v.items) h.3 in
+      subst (λ m. IsFirstGap [] m new.next.items (spans_in texts)) (sym met)
+      (subst (λ n. IsFirstGap [] old.met.items n (spans_in texts)) (sym h.4)
+      (shapes-unfinished listed texts bytes are ls rest w e free (join_of old) at h.1))
+  ends-so free old new at Device h = tt
+  ends-so free old new at Memory h = tt
+  ends-so free old new at WriteFailed h = tt
+
+module _ (a : Named) (listed : Bool) (sound : IsSound a) (spans : List SearchedSpan) (text : List ℕ)
+    (are : AreTexts a listed spans text) (ls : List (List ℕ)) (rest : List ℕ) (w : AreWhole ls)
+    (e : text ≡ ended ls ++ rest) where
+  lines-first : all_lines a listed spans ≡ ls ++ lines_of rest
+  lines-first = first-lines a listed sound spans text are ls rest w e
+
+  begins-so : IsBeginning (joined_text listed ls) (joined a listed)
+  begins-so = begins a listed sound spans text are ls (lines_of rest) lines-first
+
+  module _ (free : has 10 rest ≡ false) (s : Join) (at : stand_reached listed ls ≡ goes s) where
+    none-left : rest ≡ []
+    none-left = no-rest a listed sound spans text are ls rest w free e
+
+    all-read : stand_reached listed (all_lines a listed spans) ≡ goes s
+    all-read = ap (stand_reached listed) (lines-first ∙ ap (λ r. ls ++ lines_of r) none-left ∙ append-nil ls) ∙ at
+
+    written-all : joined_text listed (all_lines a listed spans) ≡ joined_text listed ls
+    written-all = ap (joined_text listed) (lines-first ∙ ap (λ r. ls ++ lines_of r) none-left ∙ append-nil ls)
+
+    joined-so : (old new : Joint) → s ≡ join_of old → EndsAt rest old new (Ok tt) → DoMeet [] spans
+        × (joined_text listed ls ≡ joined a listed)
+        × ((if new.total == most_counted then Limit new.total else Done new.total) ≡ end_of a most_counted)
+    joined-so old new is h =
+        let so = finished a listed sound spans text are s all-read (ap (λ (j : Join). j.finished) is ∙ h.1) in
+        let total = ap (λ (j : Joint). j.total) h.3 ∙ ap (λ (j : Join). j.total) (sym is) ∙ so.2 in
+        (so.0, sym written-all ∙ so.1, end_of-total a new.total total)
+
+-- ---- a run that stopped
+
+-- the text that was being written, and what is known then
+record Reached (listed : Bool) (new : Joint) (e : Stop) (a b : SourceState) (x y : SinkState) : Type 0 where
+  pub text : List ℕ
+  pub said : says_of e x y text
+  pub of : OfInput (λ bytes. ForTexts listed (λ p _. IsBeginning text (joined p listed)) bytes
+      × ForShapes listed (so_at new e) bytes) a b
+
+module _ (listed : Bool) (new : Joint) (a b : SourceState) (x y : SinkState) where
+  in-lines : (e : Stop) (bytes : List ℕ) → Gave a b bytes → StopsIn listed [] bytes new x y e
+      → Reached listed new e a b x y
+  in-lines e bytes g h = record {
+    text = h.adds.text;
+    said = h.adds.said;
+    of = (
+      bytes,
+      inr (
+        g,
+        λ more.
+            let is = ap (λ t. t ++ more) h.front ∙ append_assoc (ended h.lines) h.rest more in (
+              λ p spans sound are. subst (λ t. IsBeginning t (joined p listed)) h.adds.more
+                  (begins-so p listed sound spans (bytes ++ more) are h.lines (h.rest ++ more) h.whole is),
+              λ texts are. last-so listed texts (bytes ++ more) are h.lines (h.rest ++ more) h.whole is new e h.last,
+            ),
+      ),
+    );
+  }
+
+  stopped-reading : (e : Stop) → StopsReading listed new a b x y e → Reached listed new e a b x y
+  stopped-reading NotText (bytes, g, h, same) = in-lines NotText bytes g h
+  stopped-reading Gap (bytes, g, h, same) = in-lines Gap bytes g h
+  stopped-reading Other (bytes, g, h, same) = in-lines Other bytes g h
+  stopped-reading Memory (bytes, g, h, same) = in-lines Memory bytes g h
+  stopped-reading WriteFailed (bytes, g, h, same) = in-lines WriteFailed bytes g h
+  stopped-reading Device (ls, rest, g, w, took, rose) = record {
+    text = joined_text listed ls;
+    said = took;
+    of = (
+      ended ls ++ rest,
+      inr (
+        g,
+        λ more. (
+          λ p spans sound are.
+              begins-so p listed sound spans _ are ls (rest ++ more) w (append_assoc (ended ls) rest more),
+          λ texts are. tt,
+        ),
+      ),
+    );
+  }
+
+  stopped-ending : (e : Stop) (ls : List (List ℕ)) (rest : List ℕ) (old : Joint) → GaveAll a b (ended ls ++ rest)
+      → AreWhole ls → has 10 rest ≡ false → stand_reached listed ls ≡ goes (join_of old) → EndsAt rest old new (Err e)
+      → says_of e x y (joined_text listed ls) → Reached listed new e a b x y
+  stopped-ending e ls rest old g w free at ends said = record {
+    text = joined_text listed ls;
+    said = said;
+    of = (
+      ended ls ++ rest,
+      inl (
+        g,
+        (
+          λ p spans sound are. begins-so p listed sound spans _ are ls rest w refl,
+          λ texts are. ends-so listed texts _ are ls rest w refl free old new at e ends,
+        ),
+      ),
+    );
+  }
+
+  took-at-end : (e : Stop) (rest : List ℕ) (old : Joint) (text : List ℕ) → EndsAt rest old new (Err e) → Took x y text
+      → says_of e x y text
+  took-at-end NotText rest old text ends took = took
+  took-at-end Gap rest old text ends took = took
+  took-at-end Other rest old text ends took = absurd ends
+  took-at-end Memory rest old text ends took = took
+  took-at-end Device rest old text ends took = absurd ends
+  took-at-end WriteFailed rest old text ends took = absurd ends
+
+  reached : (e : Stop) → JoinsAll listed new a b x y (Err e) → Reached listed new e a b x y
+  reached e (inl h) = grind (arith, stopped-reading)
+  reached e (inr h) =
+      stopped-ending e h.0 h.1 h.2 h.3 h.4 h.5 h.6 h.7 (took-at-end e h.1 h.2 (joined_text listed h.0) h.7 h.8)
+
+  read-failed : JoinsAll listed new a b x y (Err Device) → Rose a.failures b.failures
+  read-failed (inl h) = grind (arith)
+  read-failed (inr h) = absurd h.7
+
+  well-reading : (e : Stop) → NothingFailed e → StopsReading listed new a b x y e → b.failures ≡ a.failures
+  well-reading NotText well h = h.3
+  well-reading Gap well h = h.3
+  well-reading Other well h = h.3
+  well-reading Memory well h = h.3
+  well-reading Device well h = absurd well
+  well-reading WriteFailed well h = absurd well
+
+  read-well : (e : Stop) → NothingFailed e → JoinsAll listed new a b x y (Err e) → b.failures ≡ a.failures
+  read-well e well (inl h) = grind (arith, well-reading)
+  read-well e well (inr h) = h.3.no_failure
+
+-- ---- the output behind a stop
+
+module _ {x y : SinkState} (z : SinkState) {text : List ℕ} where
+  flushed-all : Took x y text → WasFlushed y z → TookAll x z text
+  flushed-all took f = took_all z took f.kept f.flushed_once f.no_failure f.settled
+
+  failed-behind : Took x y text → FlushFailed y z → FailedBehind x z text
+  failed-behind took f = record {
+    failure = f.failure ∙ ap one_more took.no_failure;
+    last = f.last;
+    taken = appends_kept x.taken y.taken z.taken text took.whole f.kept;
+    flushed_once = f.flushed_once ∙ ap (λ n. n + 1) took.unflushed;
+  }
+
+took-unbroken : (e : Stop) (x y : SinkState) (text : List ℕ) → NoWriteFailed e → says_of e x y text → Took x y text
+took-unbroken NotText x y text h said = said
+took-unbroken Gap x y text h said = said
+took-unbroken Device x y text h said = said
+took-unbroken Other x y text h said = said
+took-unbroken Memory x y text h said = said
+took-unbroken WriteFailed x y text h said = absurd h
+
+unbroken-well : (e : Stop) → NothingFailed e → NoWriteFailed e
+unbroken-well NotText h = tt
+unbroken-well Gap h = tt
+unbroken-well Other h = tt
+unbroken-well Memory h = tt
+unbroken-well Device h = absurd h
+unbroken-well WriteFailed h = absurd h
+
+-- what was reached, told in another way
+begun-as : (listed : Bool) (new : Joint) (e : Stop) (says : List SpanText → Type 0) (written : List ℕ
+    → Type 0) (a b : SourceState)
+    (x y : SinkState) → ((texts : List SpanText) → so_at new e texts → says texts)
+    → ((text : List ℕ) → says_of e x y text → written text) → Reached listed new e a b x y
+    → HasBegun listed says a b written
+begun-as listed new e says written a b x y f g h = record {
+  text = h.text;
+  is_written = g h.text h.said;
+  of = elim h.of.1 [
+    | inl q ↦ (h.of.0, inl (q.0, (q.1.0, λ texts are. f texts (q.1.1 texts are))))
+    | inr q ↦ (h.of.0, inr (q.0, λ more. let r = q.1 more in (r.0, λ texts are. f texts (r.1 texts are))))
+  ];
+}
+
+-- ---- whole runs
+
+pub joins-as : {new : Joint} {a b : SourceState} {x y : SinkState} {p q : Bool} (r : Result (Unit {0}) Stop) → p ≡ q
+    → JoinsAll p new a b x y r → JoinsAll q new a b x y r
+joins-as {new = new} {a = a} {b = b} {x = x} {y = y} r is h = subst (λ p. JoinsAll p new a b x y r) is h
+
+-- a run that stopped, by what was told
+pub run-stopped : {O E : Type 0} (listed : Bool) (new : Joint) (y : SinkState) (status : ℕ) (stop : Stop)
+    (i j : SourceState) (from to : Sinks O E) (files : List (List ℕ))
+    → JoinsAll listed new i j from.out.state y (Err stop)
+    → ToldStop files new stop status y to.out.state from.err.state to.err.state
+    → DidJoin listed files status i j from to
+run-stopped listed new y status stop i j from to files h (inl t) =
+    let at = subst (λ e. JoinsAll listed new i j from.out.state y (Err e)) t.1 h in
+    let begun = begun-as listed new NotText (λ _. ⊥) (TookAll from.out.state to.out.state) i j from.out.state y
+    (λ _ q. q)
+    (λ text took. flushed-all to.out.state took t.2) (reached listed new i j from.out.state y NotText at) in
+    inr (inl (t.0, (read-well listed new i j from.out.state y NotText tt at, begun), t.3))
+run-stopped listed new y status stop i j from to files h (inr (inl t)) =
+    let at = subst (λ e. JoinsAll listed new i j from.out.state y (Err e)) t.1 h in
+    let begun = begun-as listed new Gap (λ texts. IsFirstGap [] new.met.items new.next.items (spans_in texts))
+    (TookAll from.out.state to.out.state) i j
+    from.out.state y (λ _ q. q) (λ text took. flushed-all to.out.state took t.2)
+    (reached listed new i j from.out.state y Gap at) in
+    inr (inr (inr (inr (inl (
+      t.0,
+      new.met.items,
+      new.next.items,
+      (
+        read-well listed new i j from.out.state y Gap tt at,
+        begun,
+      ),
+      t.3,
+    )))))
+run-stopped listed new y status stop i j from to files h (inr (inr (inl t))) =
+    let at = subst (λ e. JoinsAll listed new i j from.out.state y (Err e)) t.1 h in
+    let begun = begun-as listed new Other (λ texts. AreOfOneProblem texts → ⊥)
+    (TookAll from.out.state to.out.state) i j from.out.state y (λ _ q. q)
+    (λ text took. flushed-all to.out.state took t.2) (reached listed new i j from.out.state y Other at) in
+    inr (inr (inr (inr (inr (t.0, (read-well listed new i j from.out.state y Other tt at, begun), t.3)))))
+run-stopped listed new y status stop i j from to files h (inr (inr (inr (inl t)))) =
+    let begun = begun-as listed new stop (λ _. Unit {0}) (TookAll from.out.state to.out.state) i j from.out.state y
+    (λ _ _. tt)
+    (λ text said. flushed-all to.out.state (took-unbroken stop from.out.state y text (unbroken-well stop t.1) said)
+    t.2) (reached listed new i j from.out.state y stop h) in
+    inr (inr (inr (inl (t.0, (read-well listed new i j from.out.state y stop t.1 h, begun), t.3))))
+run-stopped listed new y status stop i j from to files h (inr (inr (inr (inr (inl t))))) =
+    let at = subst (λ e. JoinsAll listed new i j from.out.state y (Err e)) t.1 h in
+    let begun = begun-as listed new Device (λ _. Unit {0}) (TookAll from.out.state to.out.state) i j from.out.state y
+    (λ _ q. q)
+    (λ text took. flushed-all to.out.state took t.2) (reached listed new i j from.out.state y Device at) in
+    inr (inr (inl (t.0, inl (read-failed listed new i j from.out.state y at, begun, t.3))))
+run-stopped listed new y status stop i j from to files h (inr (inr (inr (inr (inr (inl t)))))) =
+    let begun = begun-as listed new stop (λ _. Unit {0})
+    (λ text. BrokeOff from.out.state to.out.state text ⊎ FailedBehind from.out.state to.out.state text) i j
+    from.out.state y (λ _ _. tt)
+    (λ text said. inr (failed-behind to.out.state (took-unbroken stop from.out.state y text t.1 said) t.2))
+    (reached listed new i j from.out.state y stop h) in
+    inr (inr (inl (t.0, inr (inl (begun, t.3)))))
+run-stopped listed new y status stop i j from to files h (inr (inr (inr (inr (inr (inr t)))))) =
+    let at = subst (λ e. JoinsAll listed new i j from.out.state y (Err e)) t.1 h in
+    let begun = begun-as listed new WriteFailed (λ _. Unit {0})
+    (λ text. BrokeOff from.out.state to.out.state text ⊎ FailedBehind from.out.state to.out.state text) i j
+    from.out.state y (λ _ q. q)
+    (λ text broke. inl (subst (λ z. BrokeOff from.out.state z text) (sym t.2) broke))
+    (reached listed new i j from.out.state y WriteFailed at) in
+    inr (inr (inl (t.0, inr (inl (begun, t.3)))))
+
+-- a run that couldn't begin for want of memory
+pub run-unstarted : {O E : Type 0} (listed : Bool) (status : ℕ) (i : SourceState) (from to : Sinks O E)
+    (files : List (List ℕ)) → ((status ≡ 4) × WasFlushed from.out.state to.out.state
+    × WasTold from.err.state to.err.state (codes "Out of memory.\n"))
+    ⊎ ((status ≡ 3) × FlushFailed from.out.state to.out.state
+    × WasTold from.err.state to.err.state (codes "Write failed.\n"))
+    → DidJoin listed files status i i from to
+run-unstarted listed status i from to files (inl h) =
+    let of : OfInput (λ bytes. ForTexts listed (λ p _. IsBeginning [] (joined p listed)) bytes
+    × ForShapes listed (λ _. Unit {0}) bytes) i i =
+    ([], inr (gave_none i, λ more. (λ p spans sound are. (joined p listed, refl), λ texts are. tt))) in
+    let all = flushed-all to.out.state (took_nothing from.out.state) h.1 in
+    inr (inr (inr (inl (h.0, (refl, record { text = []; is_written = all; of = of }), h.2))))
+run-unstarted listed status i from to files (inr h) =
+    let of : OfInput (λ bytes. ForTexts listed (λ p _. IsBeginning [] (joined p listed)) bytes
+    × ForShapes listed (λ _. Unit {0}) bytes) i i =
+    ([], inr (gave_none i, λ more. (λ p spans sound are. (joined p listed, refl), λ texts are. tt))) in
+    let failed = failed-behind to.out.state (took_nothing from.out.state) h.1 in
+    inr (inr (inl (h.0, inr (inl (record { text = []; is_written = inr failed; of = of }, h.2)))))
+
+-- a run that came to the end of the input
+module _ {O E : Type 0} (listed : Bool) (status : ℕ) (i j : SourceState) (from to : Sinks O E) (files : List
+    (List ℕ)) (y : SinkState)
+    (ls : List (List ℕ)) (rest : List ℕ) (old new : Joint) (g : GaveAll i j (ended ls ++ rest)) (w : AreWhole ls)
+    (free : has 10 rest ≡ false) (at : stand_reached listed ls
+    ≡ goes (join_of old)) (ends : EndsAt rest old new (Ok tt))
+    (took : Took from.out.state y (joined_text listed ls)) (kept : Keeps y.taken to.out.state.taken)
+    (flushed : to.out.state.flushes ≡ y.flushes + 1) (end : End)
+    (is : end ≡ (if new.total == most_counted then Limit new.total else Done new.total)) where
+  begun-whole : (written : List ℕ → Type 0) → written (joined_text listed ls)
+      → HasBegun listed (λ _. Unit {0}) i j written
+  begun-whole written wrote = record {
+    text = joined_text listed ls;
+    is_written = wrote;
+    of = (
+      ended ls ++ rest,
+      inl (
+        g,
+        (
+          λ p spans sound are. begins-so p listed sound spans _ are ls rest w refl,
+          λ
+              texts are. tt,
+        ),
+      ),
+    );
+  }
+
+  read-whole : ReadAs listed ls (join_of old)
+  read-whole = read-lines listed [] ls (start listed) (join_of old) (start-read listed) w at
+
+  all-fed : ended ls ≡ ended ls ++ rest
+  all-fed = sym (append-nil (ended ls)) ∙ ap (λ r. ended ls ++ r) (sym ends.0)
+
+  whole-run : ((status ≡ 0) × (to.out.state.failures ≡ y.failures) × IsTrue to.out.state.settled
+      × Took from.err.state to.err.state (summary_text end))
+      ⊎ ((status ≡ 3) × Rose y.failures to.out.state.failures × IsTrue to.out.state.failed
+      × WasTold from.err.state to.err.state (codes "Write failed.\n"))
+      ⊎ ((status ≡ 3) × (to.out.state.failures ≡ y.failures) × IsTrue to.out.state.settled
+      × BrokeOff from.err.state to.err.state (summary_text end)) → DidJoin listed files status i j from to
+  whole-run (inl h) = inl (
+    h.0,
+    record {
+      bytes = ended ls ++ rest;
+      gave = g;
+      texts = texts_read listed ls (join_of old) read-whole ends.2 ends.1;
+      shapes = subst (AreShapes listed (texts_read listed ls (join_of old) read-whole ends.2 ends.1)) all-fed
+          (shapes-read listed ls (join_of old) read-whole ends.2 ends.1);
+      meet = meet-read listed ls (join_of old) read-whole ends.2 ends.1;
+      one = one-read listed ls (join_of old) read-whole ends.2 ends.1;
+      text = joined_text listed ls;
+      taken = took_all to.out.state took kept flushed h.1 h.2;
+      end = end;
+      told = h.3;
+      whole = λ p spans sound are.
+          let so = joined-so p listed sound spans _ are ls rest w refl free (join_of old) at old new refl ends in
+          (so.0, so.1, is ∙ so.2);
+    },
+  )
+  whole-run (inr (inl h)) = inr (inr (inl (
+    h.0,
+    inr (inl (
+      begun-whole (λ text. BrokeOff from.out.state to.out.state text ⊎ FailedBehind from.out.state to.out.state text)
+          (inr (failed-behind to.out.state took
+          (record { failure = h.1; kept = kept; last = h.2; flushed_once = flushed }))),
+      h.3,
+    )),
+  )))
+  whole-run (inr (inr h)) = inr (inr (inl (
+    h.0,
+    inr (inr (
+      g.no_failure,
+      begun-whole (TookAll from.out.state to.out.state) (took_all to.out.state took kept flushed h.1 h.2),
+      (end, h.3),
+    )),
+  )))
+
+pub run-ended : {O E : Type 0} (listed : Bool) (new : Joint) (y : SinkState) (status : ℕ)
+    (i j : SourceState) (from to : Sinks O E) (files : List (List ℕ)) (end : End) (u : Unit {0})
+    → JoinsAll listed new i j from.out.state y (Ok u)
+    → end ≡ (if new.total == most_counted then Limit new.total else Done new.total)
+    → Keeps y.taken to.out.state.taken → to.out.state.flushes ≡ y.flushes + 1
+    → ((status ≡ 0) × (to.out.state.failures ≡ y.failures) × IsTrue to.out.state.settled
+    × Took from.err.state to.err.state (summary_text end))
+    ⊎ ((status ≡ 3) × Rose y.failures to.out.state.failures × IsTrue to.out.state.failed
+    × WasTold from.err.state to.err.state (codes "Write failed.\n"))
+    ⊎ ((status ≡ 3) × (to.out.state.failures ≡ y.failures) × IsTrue to.out.state.settled
+    × BrokeOff from.err.state to.err.state (summary_text end)) → DidJoin listed files status i j from to
+run-ended listed new y status i j from to files end u (inl h) is kept flushed did = absurd (cc h.1)
+run-ended listed new y status i j from to files end u (inr h) is kept flushed did =
+    whole-run listed status i j from to files y h.0 h.1 h.2 new h.3 h.4 h.5 h.6 h.7 h.8 kept flushed end is did
+
+-- ======== Texts that runs over spans of one problem wrote, one after another.
+
+-- the span of a text that was written
+span-written : (a : Named) (listed : Bool) (from until text : List ℕ) → IsWritten a listed from until text
+    → (s : SearchedSpan) × IsSpan a s × (text_of a listed s ≡ text) × (s.from ≡ from) × (s.until ≡ until)
+span-written a listed from until text w =
+    let of = w.of in
+    let s = searched w.asked of.row of.branches w.went in
+    let one : is_span w.asked.from w.asked.until ≡ true = grind (arith, nat_tests, w.is_asked.2) in
+    (s, of.is_one one w.counted, ap (λ l. text_of a l s) (sym w.is_asked.0) ∙ of.said, w.is_asked.1, w.up_to)
+
+pub written-meet : (a : Named) (listed : Bool) (row : List ℕ) (texts : List (List ℕ)) → AreWritten a listed row texts
+    → (spans : List SearchedSpan) × AllByRecursion (IsSpan a) spans
+    × (flat_map (text_of a listed) spans ≡ flat_map (λ t. t) texts) × DoMeet row spans
+written-meet a listed row [] w = absurd w
+written-meet a listed row (text ∷ texts) w = by-until w.0 w.1 w.2 (λ n u. written-meet a listed (n ∷ u) texts)
+  where
+    by-until : (until : List ℕ) → IsWritten a listed row until text
+        → elim until as (λ u. Type 0) [ [] ↦ texts ≡ [] | n ∷ u ↦ AreWritten a listed (n ∷ u) texts ]
+        → ((n : ℕ) (u : List ℕ) → AreWritten a listed (n ∷ u) texts → (spans : List SearchedSpan)
+        × AllByRecursion (IsSpan a) spans × (flat_map (text_of a listed) spans ≡ flat_map (λ t. t) texts)
+        × DoMeet (n ∷ u) spans)
+        → (spans : List SearchedSpan) × AllByRecursion (IsSpan a) spans
+        × (flat_map (text_of a listed) spans ≡ flat_map (λ t. t) (text ∷ texts)) × DoMeet row spans
+    by-until [] w last more =
+        let one = span-written a listed row [] text w in
+        let none : List SearchedSpan = [] in (
+          one.0 ∷ [],
+          (one.1, tt),
+          cc (one.2, last),
+          (
+            one.3,
+            subst (λ until. elim until as (λ u. Type 0) [ [] ↦ none ≡ [] | n ∷ u ↦ DoMeet (n ∷ u) none ])
+                (sym one.4) refl,
+          ),
+        )
+    by-until (n ∷ u) w next more =
+        let one = span-written a listed row (n ∷ u) text w in
+        let rest = more n u next in (
+          one.0 ∷ rest.0,
+          (one.1, rest.1),
+          cc (one.2, rest.2),
+          (
+            one.3,
+            subst (λ until. elim until as (λ u. Type 0) [ [] ↦ rest.0 ≡ [] | n ∷ u ↦ DoMeet (n ∷ u) rest.0 ])
+                (sym one.4) rest.3,
+          ),
+        )
+
+pub written-texts : (a : Named) (listed : Bool) (texts : List (List ℕ)) → AreWritten a listed [] texts
+    → (spans : List SearchedSpan) × AreTexts a listed spans (flat_map (λ t. t) texts) × DoMeet [] spans
+written-texts a listed texts w =
+    let so = written-meet a listed [] texts w in
+    (so.0, record { each = All-from_recursion (IsSpan a) so.0 so.1; whole = so.2 }, so.3)
+
+pub joined-written : (a : Named) (listed : Bool) (texts : List (List ℕ)) (text : List ℕ) (end : End) → IsSound a
+    → AreWritten a listed [] texts → ListsWhole listed text end (flat_map (λ t. t) texts)
+    → (text ≡ joined a listed) × (end ≡ end_of a most_counted)
+joined-written a listed texts text end sound w j =
+    let so = written-texts a listed texts w in
+    let whole = j a so.0 sound so.1 in
+    (whole.1, whole.2)
+
+-- ---- shapes
+
+shapes-are : (a : Named) (listed : Bool) (spans : List SearchedSpan) → IsSound a → AllByRecursion (IsSpan a) spans
+    → AllByRecursion (HasShape listed) (map (shape_of a listed) spans)
+    × (flat_map (bytes_of listed) (map (shape_of a listed) spans) ≡ flat_map (text_of a listed) spans)
+    × (spans_in (map (shape_of a listed) spans) ≡ spans)
+shapes-are a listed [] sound each = (tt, refl, refl)
+shapes-are a listed (s ∷ spans) sound each =
+    let rest = shapes-are a listed spans sound each.1 in
+    let text = text-shape a listed s in (
+      (shape-short listed (shape_of a listed s) (span-short a listed s sound each.0), rest.0),
+      cc (sym text, rest.1),
+      ap (λ ss. s ∷ ss) rest.2,
+    )
+
+pub texts-shapes : (a : Named) (listed : Bool) (spans : List SearchedSpan) (bytes : List ℕ) → IsSound a
+    → AreTexts a listed spans bytes
+    → (texts : List SpanText) × AreShapes listed texts bytes × (spans_in texts ≡ spans)
+texts-shapes a listed spans bytes sound are =
+    let so = shapes-are a listed spans sound (recursion_from_All (IsSpan a) spans are.each) in (
+      map (shape_of a listed) spans,
+      record { each = All-from_recursion (HasShape listed) _ so.0; whole = so.1 ∙ are.whole },
+      so.2,
+    )
