@@ -610,8 +610,8 @@ found-line xs k within none found =
     )
 
 module _ (xs : List ℕ) (from to len : ℕ) (within : len ≤ length (take (to - from) (drop from xs))) where
-  abbrev pub left : List ℕ
-  left = take (to - from) (drop from xs)
+  abbrev pub leftover : List ℕ
+  leftover = take (to - from) (drop from xs)
 
   abbrev pub rest : List ℕ
   rest = take (to - (from + len)) (drop (from + len) xs)
@@ -619,31 +619,31 @@ module _ (xs : List ℕ) (from to len : ℕ) (within : len ≤ length (take (to 
   short : len ≤ to - from
   short = grind (arith, length-take)
 
-  is-line : take ((from + len) - from) (drop from xs) ≡ take len left
+  is-line : take ((from + len) - from) (drop from xs) ≡ take len leftover
   is-line =
       let front : take len (take (to - from) (drop from xs)) ≡ take len (drop from xs) = grind (arith, common_steps, short) in
       ap (λ n. take n (drop from xs)) (omega arith) ∙ sym front
 
   -- what was read, cut behind a number of bytes
-  in_parts : left ≡ take len left ++ rest
+  in_parts : leftover ≡ take len leftover ++ rest
   in_parts =
       let is : to - from ≡ len + (to - (from + len)) = omega (arith, short) in
-      let back : drop len left ≡ rest =
+      let back : drop len leftover ≡ rest =
       ap (λ n. drop len (take n (drop from xs))) is ∙ drop-take len (to - (from + len)) (drop from xs)
       ∙ ap (take (to - (from + len))) (drop-drop len from xs) in
-      sym (take-append-drop len left) ∙ ap (λ t. take len left ++ t) back
+      sym (take-append-drop len leftover) ∙ ap (λ t. take len leftover ++ t) back
 
   -- with what was carried on before it
-  pub cut-line : (carry kept : List ℕ) → has 10 carry ≡ false → IsLine (take len left)
-      → kept ≡ ended_carry carry (take len left) → (line : List ℕ)
+  pub cut-line : (carry kept : List ℕ) → has 10 carry ≡ false → IsLine (take len leftover)
+      → kept ≡ ended_carry carry (take len leftover) → (line : List ℕ)
       → line ≡ (if nat_eq (length kept) 0 then take ((from + len) - from) (drop from xs) else kept)
-      → (carry ++ left ≡ line ++ rest) × IsLine line
+      → (carry ++ leftover ≡ line ++ rest) × IsLine line
   cut-line [] kept none is k line e =
-      let same : line ≡ take len left = grind (arith, nat_tests, k, e, is-line) in
+      let same : line ≡ take len leftover = grind (arith, nat_tests, k, e, is-line) in
       (in_parts ∙ ap (λ t. t ++ rest) (sym same), subst IsLine (sym same) is)
   cut-line (b ∷ carry) kept none is k line e =
-      let same : line ≡ (b ∷ carry) ++ take len left = grind (arith, nat_tests, k, e) in (
-        ap (λ t. (b ∷ carry) ++ t) in_parts ∙ sym (append_assoc (b ∷ carry) (take len left) rest)
+      let same : line ≡ (b ∷ carry) ++ take len leftover = grind (arith, nat_tests, k, e) in (
+        ap (λ t. (b ∷ carry) ++ t) in_parts ∙ sym (append_assoc (b ∷ carry) (take len leftover) rest)
             ∙ ap (λ t. t ++ rest) (sym same),
         subst IsLine (sym same) (record {
           front = (b ∷ carry) ++ is.front;
