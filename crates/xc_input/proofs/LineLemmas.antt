@@ -33,7 +33,7 @@ use Rattle.xc_input.specs.Words.{has, place, are_digits, number, before, after}
 use Rattle.xc_input.specs.Tokens.{parts, is_skipped, is_bar, tokens, split_bars, is_space}
 use Rattle.xc_input.specs.Faults.{first, Context, has_primary, context_of}
 use Rattle.xc_input.specs.FirstFault.{line_number, content, line_checks, line_fault, first_fault}
-use Rattle.xc_input.specs.Named.{Named, AreColoursKnown, IsName, IsColour, IsUnbroken, IsSound}
+use Rattle.xc_input.specs.Named.{Named, IsName, IsColour, IsUnbroken, IsSound}
 use Rattle.xc_input.specs.Text.{StandsFor, IsEntry, IsUse}
 use Rattle.xc_input.specs.inner.Stages.{Stage, stage_of, staged_line_checks as stage_checks, staged_line_checks}
 use Rattle.xc_input.specs.inner.Stages.{with_line, stage_from, no_stage, names_of, entry, written, with_uses}
@@ -225,7 +225,7 @@ at_number P xs (suc k) x all e =
     subst P (get_or_from_slice_get xs k x x e) (All-get_or P xs k x (slice_get_within xs k x e) all)
 
 pub known_option : (p : Puzzle) (colours : List (List ℕ)) (o : ℕ) (us : List Use) → IsValid p
-    → AreColoursKnown colours p.options → numbered_get p.options o ≡ Some us
+    → All (λ us. All (λ u. u.colour ≤ length colours) us) p.options → numbered_get p.options o ≡ Some us
     → All (λ u. IsItem p u.item × (u.colour ≤ length colours)) us
 known_option p colours o us valid coloured e =
     let sound = (at_number (IsSoundOption p) p.options o us valid.options e).sound in

@@ -63,10 +63,9 @@ prefix_checks prefix secondary =
     (BadBound, not (are_digits 9 low && are_digits 9 high)) ∷
     (BoundOrder, nat_lt (number high) 1 || nat_lt (number high) (number low)) ∷ (BoundOnSecondary, secondary) ∷ []
 
--- the checks of a token's prefix, where it has one
+-- the checks of a part's prefix, where it has one
 abbrev pub bound_checks : Kind → Bool → List ℕ → List (FaultKind × Bool)
-bound_checks kind secondary token =
-    (if has_prefix kind token then prefix_checks (before (code "|") token) secondary else [])
+bound_checks kind secondary part = if has_prefix kind part then prefix_checks (before (code "|") part) secondary else []
 
 -- the checks of a token that is no bar, after items with these names
 abbrev pub item_checks : Kind → List (List ℕ) → Bool → List ℕ → List (FaultKind × Bool)

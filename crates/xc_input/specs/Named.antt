@@ -10,17 +10,13 @@ use Rattle.xc_input.specs.Words.{has}
 use Rattle.xc_input.specs.Limits.{longest_name, longest_colour, most_uses}
 use Prim.Native.Char.{code}
 
--- a problem, the names of its items by their numbers, its colours by theirs, from 1, and the seed by which the tables of
--- both hash
+-- a problem, the names of its items by their numbers, its colours by theirs, from 1, and the seed by which the tables
+-- of both hash
 pub record Named : Type 0 where
   pub names : List (List ℕ)
   pub colours : List (List ℕ)
   pub puzzle : Puzzle
   pub seed : Seed
-
--- each use has no colour or one that there is
-abbrev pub AreColoursKnown : List (List ℕ) → List (List Use) → Type 0
-AreColoursKnown colours options = All (λ us. All (λ u. u.colour ≤ length colours) us) options
 
 -- a use whose item and colour have a name
 abbrev pub IsKnownUse : Named → Use → Type 0
@@ -53,10 +49,10 @@ pub record IsWellNamed (a : Named) : Type 0 where
   pub unbroken_colours : All IsUnbroken a.colours
   pub distinct_colours : AllPairs (λ x y. x ≢ y) a.colours
 
--- what holds of each problem that was read
+-- what holds of each problem that was read; each use has no colour or one that there is
 pub record IsSound (a : Named) : Type 0 where
   pub valid : IsValid a.puzzle
   pub limits : IsWithinLimits a.puzzle
-  pub coloured : AreColoursKnown a.colours a.puzzle.options
+  pub coloured : All (λ us. All (λ u. u.colour ≤ length a.colours) us) a.puzzle.options
   pub few_colours : length a.colours ≤ most_uses
   pub named : IsWellNamed a

@@ -9,7 +9,7 @@ ghost use Rattle.xc_input.specs.Problem.{IsSecondary, use_count, IsOption};
 ghost use Rattle.xc_input.specs.Limits.{greatest_bound, most_uses};
 ghost use Rattle.xc_input.specs.ItemBounds.{bounds_of, secondary_bounds};
 ghost use Rattle.xc_input.specs.inner.Stored.{IsOptional, AreOptionStarts, named_from, key_names};
-ghost use Rattle.xc_input.specs.Named.{Named, AreColoursKnown, IsKnownUse, IsWellNamed, IsName, IsColour, IsSound};
+ghost use Rattle.xc_input.specs.Named.{Named, IsKnownUse, IsWellNamed, IsName, IsColour, IsSound};
 ghost use Rattle.xc_input.specs.Words.{place};
 ghost use Rattle.indexmap.specs.IndexSet.{hasher_of};
 
