@@ -1,6 +1,6 @@
 //! Lack of memory.
 use fixtures::SEVEN;
-use xc_input::{Feed, InputError, Kind, Read, ReadFailed, Reader, Source, read_problem};
+use xc_input::{Feed, InputError, Kind, Read, ReadFailed, Reader, Seed, Source, read_problem};
 
 const LINES: [&[u8]; 3] = [b"A B | x", b"A x:red", b"B x:red"];
 
