@@ -3,11 +3,13 @@
 (`dlx-count K o`), against the listings of dlx1, dlx2 and dlx3.
 
 Random problems of all kinds, up to 20 numbers of each, and one more than there are solutions. Then tilings of 8 by 8
-with dominoes, by a listing of every 500,000th. The last line is `N passed, M failed`.
+with dominoes, by a listing of every 500,000th, and by the numbers of solutions that dlx-span counts between the rows of
+100 random ones. The last line is `N passed, M failed`.
 """
 from __future__ import annotations
 
 import random
+import re
 import subprocess
 import sys
 import tempfile
@@ -100,11 +102,25 @@ def tilings(rng: random.Random, tally: Failed) -> None:
         tally.expect(f"tiling {number}", found, (0, solutions[place]))
 
 
+def spans(rng: random.Random, tally: Failed) -> None:
+    """From the row of one of these tilings to that of the next, dlx-span counts as many as their numbers differ by."""
+    text = dominoes(8, 8).text()
+    before, last = 1, "-"
+    for number in sorted(rng.sample(range(2, 12_988_817), 100)):
+        found = output("dlx-count", ["1", f"n{number}"], text)[1].decode()
+        row = ".".join(re.findall(r"\((\d+) of", found))
+        status, record = output("dlx-span", ["1", "m0", "0", last, row], text)
+        counted = re.findall(rb"solutions \d+", record)
+        tally.expect(f"tilings from {before} to {number}", (status, b"".join(counted)), (0, b"solutions %d" % (number - before)))
+        before, last = number, row
+
+
 def main() -> int:
     cases, seed = map(int, sys.argv[1:])
     tally, rng = Failed(), random.Random(seed)
     random_problems(cases, rng, tally)
     tilings(rng, tally)
+    spans(rng, tally)
     print(f"{tally.passed} passed, {tally.failed} failed")
     return 1 if tally.failed else 0
 
