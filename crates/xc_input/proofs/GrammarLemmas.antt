@@ -549,8 +549,9 @@ module _ (kind : Kind) (item : ℕ × List ℕ) (rest : List (ℕ × List ℕ)) 
       → c.names ≡ names_of (primary ++ map (entry kind true) (after_first is_bar ps))
   names-are a = let s = start-is kind item.1 a in ap (λ (c : Context). c.names) s.2 ∙ ap names_of s.0
 
-  pub clear-stands : (seed : Seed) (lines : List (List ℕ)) → content_from 1 lines ≡ item ∷ rest → list_any (has 0) lines ≡ false
-      → AreClear kind (plain (item ∷ rest)) → StandsFor kind lines (named_in seed) (ignored_in c rest)
+  pub clear-stands : (seed : Seed) (lines : List (List ℕ)) → content_from 1 lines ≡ item ∷ rest
+      → list_any (has 0) lines ≡ false → AreClear kind (plain (item ∷ rest))
+      → StandsFor kind lines (named_in seed) (ignored_in c rest)
   clear-stands seed lines e z h =
       let options : HaveOptions c rest (named_in seed) (ignored_in c rest) = record {
         options = written_in c rest;

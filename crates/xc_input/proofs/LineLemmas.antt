@@ -185,7 +185,8 @@ module _ (kind : Kind) (old new : List (List ℕ)) (line : List ℕ) (f : new �
     (g : o ≡ None) (h : IsStateOf kind old o) (d : ProblemBuilder)
     (s : MatchOption o (IsBuilder d × (stage_of_builder d ≡ stage_of kind old)) (λ _. Unit {0})) where
   pub sound-builder : IsBuilder d × (stage_of_builder d ≡ stage_of kind old)
-  sound-builder = subst (λ q. MatchOption q (IsBuilder d × (stage_of_builder d ≡ stage_of kind old)) (λ _. Unit {0})) g s
+  sound-builder =
+      subst (λ q. MatchOption q (IsBuilder d × (stage_of_builder d ≡ stage_of kind old)) (λ _. Unit {0})) g s
 
   fault-is : line_fault kind new ≡ option_map (λ k. (line_number (length new), k))
       (first (staged_line_checks kind (stage_of_builder d) line))
@@ -447,7 +448,8 @@ refutes kind lines (Fault n k) h f p ig s = grind (arith, stands-only kind lines
 refutes kind lines Device h f p ig s = absurd h
 refutes kind lines Memory h f p ig s = absurd (f refl)
 
-by-builder : (d : ProblemBuilder) (seed : Seed) → named_of seed (sheet_of_builder d) ≡ record (named_by d) { seed = seed }
+by-builder : (d : ProblemBuilder) (seed : Seed)
+    → named_of seed (sheet_of_builder d) ≡ record (named_by d) { seed = seed }
 by-builder d seed = grind (arith, item-names, length-map, take-map, map-map, nat_tests)
 
 module _ {v : Reading} {kind : Kind} {seeds : Seed × Seed} {lines : List (List ℕ)} {o : Option InputError}
@@ -621,7 +623,8 @@ module _ (xs : List ℕ) (from to len : ℕ) (within : len ≤ length (take (to 
 
   is-line : take ((from + len) - from) (drop from xs) ≡ take len leftover
   is-line =
-      let front : take len (take (to - from) (drop from xs)) ≡ take len (drop from xs) = grind (arith, common_steps, short) in
+      let front : take len (take (to - from) (drop from xs)) ≡ take len (drop from xs) =
+      grind (arith, common_steps, short) in
       ap (λ n. take n (drop from xs)) (omega arith) ∙ sym front
 
   -- what was read, cut behind a number of bytes
@@ -805,8 +808,8 @@ part-memory kind bytes g same r = (bytes, r.before, r.last, inl g, same, r.fault
 
 -- a failed read, or want of memory before it
 pub part-unread : (kind : Kind) (reading : Reading) (old new : LinesRead) {a : SourceState} (b c : SourceState)
-    (e : Unread) → reading.kind ≡ kind → IsBetween reading [] → b.failures ≡ a.failures → Gave a b (fed reading old.unread)
-    → Recent kind a b → Advanced old new b c (Err e) → IsPart kind a c (error_of e)
+    (e : Unread) → reading.kind ≡ kind → IsBetween reading [] → b.failures ≡ a.failures
+    → Gave a b (fed reading old.unread) → Recent kind a b → Advanced old new b c (Err e) → IsPart kind a c (error_of e)
 part-unread kind reading old new {a = a} b c unread.Device is between same g r h = (
   faultless kind reading (old.unread ++ h.0) is (within reading between (old.unread ++ h.0) h.2)
       (subst (Gave a c) (append_assoc (ended reading.lines) old.unread h.0)

@@ -406,7 +406,8 @@ module _ (kind : Kind) {d : ProblemBuilder} (line : List ℕ) (s : IsBuilder d) 
     primary_kept = grind (arith, by-parts, take_rest, drop-append_seam, primary-numbered)
 
     -- where the checks of the tokens let the line pass, that of the whole line decides
-    content_judged : first checks ≡ None → fault ≡ (if b && nat_lt most_uses (length new) then Some TooManyUses else None)
+    content_judged : first checks ≡ None
+        → fault ≡ (if b && nat_lt most_uses (length new) then Some TooManyUses else None)
     content_judged ok =
         let count : use_count (pieces d.starts.items d.tables.uses.items) + length (tokens line) ≡ length new =
         grind (arith, all-uses, s.starts, length-map, length-append, numbered-length) in

@@ -9,8 +9,8 @@ ghost use Rattle.xc_input.specs.declared.kind.Kind.TheVariants.{Plain, Colours, 
 
 use crate::{FaultKind, FaultyToken, FoldingHasher, InputError, Item, Kind, ReadFailed, Seed, Use};
 
-/// A text has a first fault or, by each seed, stands for one problem, and never both. It ties the checks to the grammar,
-/// so that a slip in one of the two, which nothing else would show, breaks a proof.
+/// A text has a first fault or, by each seed, stands for one problem, and never both. It ties the checks to the
+/// grammar, so that a slip in one of the two, which nothing else would show, breaks a proof.
 pub fn fault_or_problem()
     ensures stands { FaultlessStand }
     ensures one { StandForOne }

@@ -1,7 +1,7 @@
 //! Reads the lines of a source.
 //!
-//! A line that ends in the piece that it begins in is handed on from there. Any other is put together first. What a line
-//! costs beyond its bytes is inlined: six instructions a line more without, 4 % where lines have three bytes.
+//! A line that ends in the piece that it begins in is handed on from there. Any other is put together first. What a
+//! line costs beyond its bytes is inlined: six instructions a line more without, 4 % where lines have three bytes.
 
 ghost use Rattle.std.specs.Prelude.{◌≡◌, ◌≤◌, [], false, length, take, IfOk, MatchOption, OnOk};
 ghost use Rattle.xc_input.specs.LinesRead.{Advanced, IsLine};

@@ -231,7 +231,8 @@ class-turned k (u ∷ us) d = grind (arith, at_turns, least_held)
 
 -- uses of one class are rotations of each other
 turned_alike : (us vs : List Use) → DifferInItems vs → class_of us ≡ class_of vs → AreTurned vs us
-turned_alike us vs d q = (turned vs us (class_start us)).1 (subst (AreTurned vs) (sym q) (at_turns vs (class_start vs) d))
+turned_alike us vs d q =
+    (turned vs us (class_start us)).1 (subst (AreTurned vs) (sym q) (at_turns vs (class_start vs) d))
 
 -- A rotation of uses is a rotation of the others of their class.
 pub turned-alike : (us vs : List Use) (k : ℕ) → DifferInItems vs → class_of us ≡ class_of vs → k < length us

@@ -235,7 +235,8 @@ level_shown p u t l is_level = record {
   option = by_option (option_taken p l) (λ e. rw e tt) (λ o e.
       let last = last_taken (options_at p u l.item) l.begun o (sym is_level.option ∙ e) in
       let x = last.1 in
-      let at = (branch_moves.taken p u l.item last.0 (suc last.0) x is_level.node last.3 (λ _. refl) (omega arith)).at in
+      let at = (branch_moves.taken p u l.item last.0 (suc last.0) x is_level.node last.3
+      (λ _. refl) (omega arith)).at in
       rw e (grind (arith, last, at)));
 }
 

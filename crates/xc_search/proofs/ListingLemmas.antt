@@ -616,7 +616,8 @@ module _ {r : Residual} (last : IsLast r) where
   one_member : (w : Wanted) → IsIn r.items w → (b : Branch) → IsBranchOf r w b → length (behind listing b) ≡ 1
   one_member w h _ (takes_one k n x known at) =
       let none = all_spent x r.items (each_from _ _ (λ v q. (last.held x v known q, (last.once v q).1))) in
-      ap (λ ms. length (map (λ m. (take_branch r w.item n (k, x)).choice ∷ m) ms)) (empty_listing (pick r w.item x) none)
+      ap (λ ms. length (map (λ m. (take_branch r w.item n (k, x)).choice ∷ m) ms))
+      (empty_listing (pick r w.item x) none)
   one_member w h _ (takes_none n free) = absurd (omega (arith, free, (last.once w h).0))
 
   as_many : (w : Wanted) → IsIn r.items w → length (branches_of r w) ≡ length r.options

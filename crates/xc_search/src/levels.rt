@@ -14,8 +14,8 @@
 //! each. `unwind` ends levels by code of its own, so that the loop has the one call of `end_level`, which is inlined
 //! there (8 %). The end of a tweaked level is in the loop too (3 % with bounds). Tried and not faster: levels or their
 //! marks with numbers of 32 bits, solutions counted upward, and rare steps as calls that take the state by value.
-ghost use Rattle.std.specs.Prelude.{◌≡◌, ◌+◌, ◌-◌, ◌<◌, ◌≤◌, ◌^◌, ◌⊎◌, List, [], ◌∷◌, ◌++◌, length, map, true, false, not};
-ghost use Rattle.std.specs.Prelude.{None, Bool, ℕ, Option, option_map, IfSome, IsNone, IsSome};
+ghost use Rattle.std.specs.Prelude.{◌≡◌, ◌+◌, ◌-◌, ◌<◌, ◌≤◌, ◌^◌, ◌⊎◌, List, [], ◌∷◌, ◌++◌, length, map};
+ghost use Rattle.std.specs.Prelude.{true, false, not, None, Bool, ℕ, Option, option_map, IfSome, IsNone, IsSome};
 ghost use Rattle.xc_input.specs.Problem.{Puzzle};
 ghost use Rattle.xc_dance.specs.Dancing.{moves_made};
 ghost use Rattle.xc_search.specs.inner.Levels.{most_levels, AreStacked, IsNext, IsSearchable, IsStanding, IsEntered};

@@ -5,4 +5,5 @@ use Rattle.xc_count.proofs.members.all_members.Goals as goal
 
 pub returns-in-Ok-clause-left : goal.returns-in-Ok-clause-left
 returns-in-Ok-clause-left c =
-    all_left c.args.problem.now.puzzle c.in-Ok.span c.in-Ok.ensures.left (ap (λ (t : InSpan). t.until) c.in-Ok.ensures.begun)
+    all_left c.args.problem.now.puzzle c.in-Ok.span c.in-Ok.ensures.left
+    (ap (λ (t : InSpan). t.until) c.in-Ok.ensures.begun)

@@ -1,4 +1,5 @@
-use Rattle.std.proofs.Common.{ℕ, ◌≡◌, ◌+◌, ◌-◌, ◌∙◌, ◌≤◌, ◌≢◌, arith, ap, subst, get_or, drop, Some, None, length, length-set}
+use Rattle.std.proofs.Common.{ℕ, ◌≡◌, ◌+◌, ◌-◌, ◌∙◌, ◌≤◌, ◌≢◌, arith, ap, subst}
+use Rattle.std.proofs.Common.{get_or, drop, Some, None, length, length-set}
 use Rattle.std.specs.Prelude.{All, AllPairs}
 use Rattle.xc_search.specs.declared.choice.Choice.{Choice}
 use Rattle.xc_search.specs.Cover.{options_of}

@@ -20,7 +20,8 @@ loop-alloc-init c =
       same = begun.puzzle;
       node = subst (λ (q : Puzzle). IfSome s.row (λ row. IsRowOf (whole q) row)) (sym begun.puzzle) begun.node;
       counted = λ o h. none_yet p c.in_ok-times.times.items (left_of s) o c.in_ok-times.ensures.zero begun.left;
-      covers = subst (All (λ m. IsCover p (options_of m))) (sym begun.left) (each_member_covers p c.options.ensures.whole.valid);
+      covers = subst (All (λ m. IsCover p (options_of m))) (sym begun.left)
+          (each_member_covers p c.options.ensures.whole.valid);
       len = c.in_ok-times.ensures.len ∙ c.options.ensures.value;
     }
 

@@ -9,4 +9,5 @@ returns-in_err-find_byte c = grind (arith, has-all)
 pub returns : goal.returns
 returns c =
     let h = c.in_ok-find_byte.ensures in
-    found-line c.args.bytes.now c.in_ok-find_byte.field-0 h.0.high (λ k p. not_false _ (h.0.before k (omega arith) p)) h.1
+    found-line c.args.bytes.now c.in_ok-find_byte.field-0 h.0.high
+    (λ k p. not_false _ (h.0.before k (omega arith) p)) h.1

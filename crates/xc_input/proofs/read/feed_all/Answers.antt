@@ -23,8 +23,8 @@ pub returns-in_err-advance-clause-part : goal.returns-in_err-advance-clause-part
 returns-in_err-advance-clause-part g c =
     let error = err_from_is_err_and c.from_residual.result c.from_residual.ensures.1 in
     let i = c.reading.invariant in
-    rw (error.1, error.2) (part-unread _ _ c.reading.lines c.advance.new.self _ _ c.in_err-advance.field-0.0 i.kind i.between
-    i.no_failure i.gave i.recent c.in_err-advance.ensures)
+    rw (error.1, error.2) (part-unread _ _ c.reading.lines c.advance.new.self _ _ c.in_err-advance.field-0.0
+    i.kind i.between i.no_failure i.gave i.recent c.in_err-advance.ensures)
 
 pub returns-then-not-branch-clause-all : goal.returns-then-not-branch-clause-all
 returns-then-not-branch-clause-all g c =
@@ -60,7 +60,8 @@ reading-preserved g c =
 
 pub returns-in_err-take_line-clause-part : goal.returns-in_err-take_line-clause-part
 returns-in_err-take_line-clause-part g c =
-    let error = err_from_is_err_and c.from_residual-in_err-take_line.result c.from_residual-in_err-take_line.ensures.1 in
+    let error =
+    err_from_is_err_and c.from_residual-in_err-take_line.result c.from_residual-in_err-take_line.ensures.1 in
     let i = c.reading.invariant in
     let one = rw c.if-not-branch.false at c.in_ok-advance.ensures in
     let left = c.reading.lines.unread in
