@@ -15,7 +15,7 @@ use xc_search::{Halt, Span};
 // Work is told in about nanoseconds.
 
 /// The work of the sweep before the search has its first turn.
-pub const FIRST_WORK: u64 = 20_000_000;
+pub const FIRST_WORK: u64 = 10_000_000;
 /// The work of a turn of the search, about.
 const TURN_WORK: u64 = 4_000_000;
 /// How much more of the work the search does than the sweep.
@@ -24,7 +24,7 @@ const ODDS: u64 = 5;
 /// most of them are in no cache.
 const LONG_ODDS: u64 = 10;
 /// The work of a long search.
-const LONG_WORK: u64 = 200_000_000;
+const LONG_WORK: u64 = 100_000_000;
 /// The branches of the first turn.
 const FIRST_BRANCHES: u64 = 64;
 /// The work of a branch beside that of going over options.
