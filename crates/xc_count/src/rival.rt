@@ -1,5 +1,10 @@
 //! A search that counts beside a sweep, turn by turn.
-ghost use Rattle.std.specs.Prelude.{◌≡◌, ◌<◌, length, IfOk};
+//!
+//! How far the search has come tells about how much work it is: each branch of a level counts as much as another, as
+//! in the progress reports of Knuth's programs. On the benchmark's problems that is, after a tenth of the work, from a
+//! sixth of it to four times as much. While the sweep did little of this, it keeps pace with the search, so that it
+//! takes twice as long as alone where it ends first; from there on it adds hardly a state between two turns.
+ghost use Rattle.std.specs.Prelude.{◌≡◌, length, IfOk};
 ghost use Rattle.xc_search.specs.Cover.{members};
 
 use crate::members::all_members;
@@ -18,13 +23,12 @@ use xc_search::{Halt, Span};
 pub const FIRST_WORK: u64 = 10_000_000;
 /// The work of a turn of the search, about.
 const TURN_WORK: u64 = 4_000_000;
-/// How much more of the work the search does than the sweep.
-const ODDS: u64 = 5;
-/// The same once its own work is `LONG_WORK`: a sweep of many states takes more time than the work that it tells, since
-/// most of them are in no cache.
-const LONG_ODDS: u64 = 10;
-/// The work of a long search.
-const LONG_WORK: u64 = 100_000_000;
+/// The sweep keeps pace with the search until it did one of so many parts of what the search is expected to be.
+const PARTS: u64 = 12;
+/// The progress of a search that has ended.
+const WHOLE: u64 = 1 << 60;
+/// By how much progress is rounded to tell the search's work.
+const GRAIN: u64 = 1 << 40;
 /// The branches of the first turn.
 const FIRST_BRANCHES: u64 = 64;
 /// The work of a branch beside that of going over options.
@@ -50,6 +54,8 @@ pub struct Rival<'a> {
     branches: u64,
     /// How much work the sweep does until the search has its next turn.
     left: u64,
+    /// How much it does in all until then.
+    swept: u64,
     /// How much work its turns were.
     done: u64,
 }
@@ -84,13 +90,6 @@ fn option_work(problem: &Problem) -> u64 {
     (SAMPLE * use_work).saturating_mul(uses) / u64::from(problem.options()).max(1)
 }
 
-/// How much more of the work the search does than the sweep, once it did so much.
-fn odds(done: u64) -> u64
-    ensures { 0 < result }
-{
-    if done < LONG_WORK { ODDS } else { LONG_ODDS }
-}
-
 /// How many branches the next turn begins, after one of so many that was so much work.
 fn next_branches(branches: u64, work: u64) -> u64 {
     if work > TURN_WORK {
@@ -118,6 +117,7 @@ impl<'a> Rival<'a> {
             passed: 0,
             branches: FIRST_BRANCHES,
             left: FIRST_WORK,
+            swept: FIRST_WORK,
             done: 0,
         })
     }
@@ -137,6 +137,37 @@ impl<'a> Rival<'a> {
         self.branches = next_branches(self.branches, work);
         self.done = self.done.saturating_add(work);
         (work, went.halt == Halt::End)
+    }
+
+    /// How much of the search is done, of `WHOLE`, where each branch of a level is as much as another.
+    fn progress(&self) -> u64 {
+        let mut passed: u64 = 0;
+        let mut branch = WHOLE;
+        let mut place = 0;
+        while let Some(number) = self.span.number_at(place) {
+            branch /= u64::from(number.n).max(1);
+            let before = u64::from(number.k).saturating_sub(1);
+            passed = passed.saturating_add(branch.saturating_mul(before));
+            place += 1;
+        }
+        passed
+    }
+
+    /// How much work the search is in all, by its progress.
+    fn expected(&self) -> u64 {
+        match self.progress() / GRAIN {
+            0 => u64::MAX,
+            passed => self.done.saturating_mul(WHOLE / GRAIN) / passed,
+        }
+    }
+
+    /// How much work the sweep has after a turn of so much.
+    fn share(&self, turn: u64) -> u64 {
+        if self.swept < self.expected() / PARTS {
+            turn
+        } else {
+            0
+        }
     }
 
     /// Has turns of so much work in all. Returns whether no cover is left.
@@ -163,7 +194,8 @@ impl<'a> Rival<'a> {
             return false;
         }
         let (done, has_ended) = self.turn();
-        self.left = done / odds(self.done);
+        self.left = self.share(done);
+        self.swept = self.swept.saturating_add(self.left);
         has_ended
     }
 
@@ -178,6 +210,7 @@ impl<'a> Rival<'a> {
             passed,
             branches: _,
             left: _,
+            swept: _,
             done: _,
         } = self;
         let mut count = Natural::from_u64(alloc, passed);

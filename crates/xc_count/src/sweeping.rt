@@ -37,10 +37,6 @@ pub struct Step {
 
 /// The work of trying an option, in about nanoseconds.
 const TRY_WORK: u64 = 6;
-/// A step that makes more than so many times as many states has its work counted more: the search mostly ends first.
-const GROWTH: usize = 4;
-/// How much more.
-const GROWN: u64 = 3;
 
 /// Adds ways to a state in which the step's item is held.
 fn add_held(
@@ -188,11 +184,6 @@ fn work_of_tries(problem: &Problem, plan: &Plan, step: Step) -> u64
     TRY_WORK * options_of(problem, plan.holders.as_slice(), item).len() as u64
 }
 
-/// How much the work of a step counts that has made so many states of so many.
-fn weight(states: usize, made: usize) -> u64 {
-    if made / GROWTH > states { GROWN } else { 1 }
-}
-
 /// What the states of a layer become once the step's item is held.
 fn pass(
     alloc: Global,
@@ -216,14 +207,12 @@ fn pass(
     let mut next = Layer::new(alloc, layer.beside(bound));
     let mut scratch = Vec::new(alloc);
     let mut states = layer.states;
-    let many = states.len();
     let tries = work_of_tries(problem, plan, step);
     while let Some(state) = pop_state(&mut states) {
         let before = next.work();
         hold(problem, plan, step, &mut next, &mut scratch, &state)?;
         let added = next.work().wrapping_sub(before);
-        let work = added.saturating_add(tries);
-        if rival.after(work.saturating_mul(weight(many, next.states.len()))) {
+        if rival.after(added.saturating_add(tries)) {
             return Err(Halted::Overtaken);
         }
     }
