@@ -24,7 +24,8 @@ from typing import NamedTuple
 
 TOP = Path(__file__).resolve().parent.parent
 # Each uses some of those before it.
-LIBRARIES = ["xc_input", "xc_dance", "xc_search", "xc_list", "xc_tools", "xc_c", "natural", "xc_count", "xc_count_run"]
+CRATES = ["xc_input", "xc_dance", "xc_search", "xc_list", "xc_tools", "xc_c", "natural", "xc_count", "xc_count_run"]
+CRATES += ["fixtures", "dance_tests"]
 AT_ONCE = 12
 # A header of methods, or a function with its attributes.
 FUNCTION = re.compile(
@@ -138,10 +139,10 @@ class Tree:
     def __init__(self, folder: str, source: Path = TOP) -> None:
         self.folder, self.is_ended = Path(folder) / "libraries", False
         made = shutil.ignore_patterns("out", "must-fail", "mutants.edits")
-        for name in LIBRARIES:
+        for name in CRATES:
             shutil.copytree(source / "crates" / name, self.folder / "crates" / name, ignore=made)
         lines = (source / "crates.txt").read_text().splitlines(keepends=True)
-        (self.folder / "crates.txt").write_text("".join(it for it in lines if re.split(r"\W", it)[0] in LIBRARIES))
+        (self.folder / "crates.txt").write_text("".join(it for it in lines if re.split(r"\W", it)[0] in CRATES))
         shutil.copy(source / "HANDLES", self.folder)
 
     def texts(self, crate: str) -> Texts:
@@ -190,14 +191,14 @@ def main() -> int:
     parser = argparse.ArgumentParser(description="Plants wrong bodies, each of which the prover has to refuse.")
     parser.add_argument("-v", action="store_true", help="print each wrong body")
     parser.add_argument("--gate", action="store_true", help="plant those of must-fail/")
-    parser.add_argument("crates", nargs="*", metavar="CRATE", help=f"of {', '.join(LIBRARIES)}")
+    parser.add_argument("crates", nargs="*", metavar="CRATE", help=f"of {', '.join(CRATES)}")
     words = parser.parse_args()
     signal.signal(signal.SIGTERM, lambda *_: sys.exit(2))
     passed = failed = 0
     pool = ThreadPoolExecutor(int(os.environ.get("RT_JOBS") or len(os.sched_getaffinity(0))))
     with tempfile.TemporaryDirectory() as folder:
         tree, runs = Tree(folder), []
-        for crate in words.crates or LIBRARIES:
+        for crate in words.crates or CRATES:
             edits = edits_of(crate, words.gate)
             if edits and tree.check(crate).returncode:
                 print(f"{crate} isn't proved as it stands", flush=True)
