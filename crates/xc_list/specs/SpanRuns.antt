@@ -4,7 +4,6 @@ use Rattle.std.specs.Prelude.{◌+◌, ◌*◌, true, Result, Ok, Err, if◌then
 use Rattle.xc_input.specs.Problem.{Puzzle}
 use Rattle.xc_input.specs.Named.{Named}
 use Rattle.xc_search.specs.Listing.{whole}
-use Rattle.xc_search.specs.Nodes.{longest_row}
 use Rattle.xc_search.specs.Room.{room_for}
 use Rattle.xc_search.specs.Spans.{precedes, between}
 use Rattle.xc_search.specs.InSpan.{branches_along}
@@ -62,9 +61,8 @@ AnswersSpan a asked old new (Err e) = elim e [
   | WriteFailed ↦ (went : Went) × OfSpan a asked went BrokeOff old.state new.state
 ]
 
--- A run over a span that went so took its dance from so many moves ever made to so many: for each of its steps and each
--- number of its first row, and for each member as often as a row has numbers and twice more, no more than can be on the
--- trail at once.
+-- A run over a span that went so took its dance from so many moves ever made to so many: for each of its steps, each
+-- number of its first row, and three times for each member and twice more, no more than can be on the trail at once.
 abbrev pub SpanMakesFew : Puzzle → AskedSpan → ℕ → ℕ → Went → Type 0
 SpanMakesFew p asked old new went = new ≤ old + room_for p
-    * (2 * length asked.from + went.steps + (longest_row p + 2) * (went.members + 1) + 2)
+    * (length asked.from + went.steps + 3 * (went.members + 2))

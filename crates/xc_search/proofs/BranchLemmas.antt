@@ -30,8 +30,8 @@ use Rattle.xc_dance.proofs.StateLemmas.{left_rises, left_free, kept, listed_open
 use Rattle.xc_dance.proofs.MoveLemmas.{rises_filter, Rises, Rises-weaker, numbers, primary_pure}
 use Rattle.xc_dance.proofs.WholeTables.{low_most}
 use Rattle.xc_search.specs.declared.level.Level.{Level}
-use Rattle.xc_search.specs.Listing.{branch_count, Branch, Wanted, listing, Residual, wanted_from}
-use Rattle.xc_search.specs.Residuals.{wanted_at}
+use Rattle.xc_search.specs.Listing.{branch_count, Branch, Wanted, listing, Residual, wanted_from, branches_of}
+use Rattle.xc_search.specs.Residuals.{wanted_at, choice_after}
 use Rattle.xc_search.specs.inner.Levels.{residual_of, take_branch, none_branch, options_at, IsBegun, IsPlace}
 use Rattle.xc_search.specs.inner.Levels.{NoTweakAbove, oldest, tweaked, walks, MayBegin, IsEntered, begun_level}
 use Rattle.xc_search.specs.inner.Levels.{after_branch, next_number, IsSearchable, IsOptionAt, branches_at, option_taken}
@@ -40,18 +40,18 @@ use Rattle.xc_search.specs.inner.Levels.{IsEarlyChoice, primary_uses, IsEven, Le
 use Rattle.xc_search.specs.Room.{room_for}
 use Rattle.xc_search.specs.declared.level.Begun.{Begun}
 use Rattle.xc_search.specs.Marks.{marked, IsMark}
-use Rattle.xc_search.specs.inner.Ahead.{IsChosenBy, IsStuck, MayLead, IsSolved}
+use Rattle.xc_search.specs.inner.Ahead.{IsStuck, MayLead, IsSolved}
 use Rattle.xc_search.specs.inner.Spanning.{Stands}
 use Rattle.xc_search.proofs.MoveLemmas.{plain_above, plain_branch, sparing_taken, sparing_none, sparing_after_spend}
 use Rattle.xc_search.proofs.MoveLemmas.{spent_tweaked, taken, none_taken, legal_after_none, legal_branch, has_room}
 use Rattle.xc_search.proofs.MoveLemmas.{oldest_all, listed_branch}
 use Rattle.xc_search.proofs.ListingLemmas.{branch_takes, branch_none, dead_end, IsLast, last_members, numbered_at}
-use Rattle.xc_search.proofs.ListingLemmas.{AreApart, apart_from_pairs, no_items_left}
+use Rattle.xc_search.proofs.ListingLemmas.{AreApart, apart_from_pairs, no_items_left, branches_end}
 use Rattle.xc_search.proofs.LoopSteps.{Extends, ext_none, ext_more, ext_trans, ext_after_spend, ext_whole, ext_longer}
 use Rattle.xc_search.proofs.LoopSteps.{length-oldest, open_in, ext_after_branch, tweaked_at, ground_is, choice_next}
 use Rattle.xc_search.proofs.LoopSteps.{chosen_item, may_choose, Opens}
 use Rattle.xc_search.proofs.ResidualLemmas.{counts_same, in_range, once_more, left_options, open_if}
-use Rattle.xc_search.proofs.ResidualLemmas.{choice_is_branch_item, no_moves_leave_all}
+use Rattle.xc_search.proofs.ResidualLemmas.{choice_is_branch_item, no_moves_leave_all, same_count}
 use Rattle.xc_search.proofs.MoveLemmas as branch_moves
 
 -- ======== The next branch of a level.
@@ -293,13 +293,12 @@ pub early_next : (p : Puzzle) (t : List Move) (o : Option (ℕ × ℕ)) → IsVa
 early_next p t o valid legal (inl e) = choice_next p t o legal e
 early_next p t o valid legal (inr d) = dead_next p t o valid legal d
 
--- a chosen item may lead
-pub chosen_leads : (x : Bool) (p : Puzzle) (t : List Move) (i n : ℕ) → IsValid p → AreLegal p t
-    → IsChosenBy x p t (Some (i, n)) → MayLead x p t i
-chosen_leads true p t i n valid legal e = (chosen_item p t i n legal (sym e)).branch
-chosen_leads false p t i n valid legal (inl e) =
+-- an item that is chosen early may lead
+pub early_leads : (p : Puzzle) (t : List Move) (i n : ℕ) → IsValid p → AreLegal p t → IsEarlyChoice p t (Some (i, n))
+    → MayLead false p t i
+early_leads p t i n valid legal (inl e) =
     ((may_choose p t i n legal (sym e)).lists, inl (chosen_item p t i n legal (sym e)).branch)
-chosen_leads false p t i n valid legal (inr d) =
+early_leads p t i n valid legal (inr d) =
     let next : MayBranch p t i n = (dead_next p t (Some (i, n)) valid legal d).some in
     let short = open_in p t d.short d.short_open.0 d.short_open.1 in
     let stuck : IsStuck (residual_of p t) = record {
@@ -308,18 +307,17 @@ chosen_leads false p t i n valid legal (inr d) =
       sound = omega (arith, low_most d.short valid);
       without = sym (each_in _ _ _ (counts_same p t legal) short) ∙ d.without;
     } in
-    (next.lists, inr stuck)
+    (next.lists, inr (stuck, omega (arith, next.count, same_count d.is, d.few)))
 
-pub chosen_next : (x : Bool) (p : Puzzle) (t : List Move) (o : Option (ℕ × ℕ)) → IsValid p → AreLegal p t
-    → IsChosenBy x p t o → IsNext p t o
-chosen_next true p t o valid legal e = choice_next p t o legal e
-chosen_next false p t o valid legal e = early_next p t o valid legal e
-
--- which the branch item is too
-pub chosen_early : (x : Bool) (p : Puzzle) (t : List Move) (o : Option (ℕ × ℕ)) → IsChosenBy x p t o
-    → IsEarlyChoice p t o
-chosen_early true p t o e = inl e
-chosen_early false p t o e = e
+-- where the branch item has no branches, what is left has no members
+pub none_at_item : (p : Puzzle) (t : List Move) (i : ℕ) → AreLegal p t → choice_after p t ≡ Some (i, 0)
+    → listing (residual_of p t) ≡ []
+none_at_item p t i legal e =
+    let may = may_choose p t i 0 legal e in
+    let r = residual_of p t in
+    let w = wanted_at p t i in
+    let none : branches_of r w ≡ [] = ap (λ n. drop n (branches_of r w)) may.count ∙ branches_end r w in
+    may.lists ∙ rw none refl
 
 -- ======== Where each option holds as many primary items as are open, each option that is left holds all of them.
 
@@ -511,7 +509,7 @@ opens_moved {d} {i = i} o f ef = omega (
 )
 
 -- where no level stands none was begun
-pub none_begun : {x : Bool} {first : ℕ} {u : Option (List ℕ)} {d e : Dancing} {ls ks : Levels} {m n begun : ℕ}
-    → Stands x first u d ls m e ks n begun → ks.levels ≡ [] → begun ≡ 0
+pub none_begun : {first : ℕ} {u : Option (List ℕ)} {d e : Dancing} {ls ks : Levels} {m n begun : ℕ}
+    → Stands first u d ls m e ks n begun → ks.levels ≡ [] → begun ≡ 0
 none_begun {begun = begun} s none = by_number begun (λ e. e)
     (λ k e. absurd (cc (rw none at (s.later (omega (arith, e))))))

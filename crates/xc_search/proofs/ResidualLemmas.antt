@@ -439,6 +439,10 @@ least_with_count f g (w ∷ ws) a = grind (arith, best_alike f g w ws a.0 a.1)
 abbrev pub choice_of : Residual → Option (ℕ × ℕ)
 choice_of r = option_map (λ w. (w.item, branch_count r w)) (branch_item r)
 
+-- the same choice has the same count
+pub same_count : {a b : ℕ × ℕ} → Some a ≡ Some b → a.1 ≡ b.1
+same_count e = cc e
+
 pub choice_is_branch_item : (p : Puzzle) (t : List Move) → AreLegal p t → choice_after p t ≡ choice_of (residual_of p t)
 choice_is_branch_item p t legal =
     least_with_count (branches_after p t) (branch_count (residual_of p t)) (wanted_after p t) (counts_same p t legal)

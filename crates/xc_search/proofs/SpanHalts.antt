@@ -20,7 +20,7 @@ use Rattle.xc_search.specs.Outlook.{shown_after}
 use Rattle.xc_search.specs.Listing.{whole, Branch, branches_of, listing}
 use Rattle.xc_search.specs.Spans.{precedes, is_before, between, row_of}
 use Rattle.xc_search.specs.InSpan.{InSpan, left_of, row_or_end, MovesFew}
-use Rattle.xc_search.specs.Nodes.{IsRowOf, longest_row}
+use Rattle.xc_search.specs.Nodes.{IsRowOf}
 use Rattle.xc_search.specs.Going.{WentOnBy}
 use Rattle.xc_search.specs.inner.Levels.{Levels, choices_of, oldest, residual_of, AreStacked, MayBegin, MayBranch}
 use Rattle.xc_search.specs.inner.Levels.{IsEntered, begun_level, branches_at, branch_members, to_give, coming}
@@ -29,7 +29,7 @@ use Rattle.xc_search.specs.inner.Spanning.{row_at, row_from, Halts, RanTo, Enter
 use Rattle.xc_search.specs.inner.Spanning.{GoesDown, IsSeenBy}
 use Rattle.xc_search.specs.declared.level.Begun.{Begun}
 use Rattle.xc_search.specs.Residuals.{wanted_at}
-use Rattle.xc_search.specs.inner.Ahead.{visits, work_left, MayLead, EntersBranch, IsDone, branched, KeepsBy, AreLater}
+use Rattle.xc_search.specs.inner.Ahead.{visits, work_left, MayLead, EntersBranch, IsDone, branched, KeepsPath, AreLater}
 use Rattle.xc_search.specs.inner.Ahead.{numbers}
 use Rattle.xc_search.proofs.SpanRuns.{Advances, IsAt, over_first, ran_out, still_more, at_member, shown_there, at_end}
 use Rattle.xc_search.proofs.SpanRuns.{end_not_before, end_not_right_behind, lengths_meet, none_long}
@@ -72,8 +72,8 @@ some_and P (Some x) some h = h
 pub went_on : (many most : ℕ) (w : Went) (s n : InSpan) (from : List ℕ) → s.row ≡ Some from
     → n ≡ record s { row = n.row; shown = n.shown; made = n.made; begun = n.begun }
     → Comes s.puzzle from s.until n.row w.members → (w.steps ≤ most) × (w.members ≤ many)
-    → (again : ℕ) × (n.begun ≡ s.begun + w.steps + again) × (again ≤ longest_row s.puzzle)
-    × (w.steps < most → again ≡ 0)
+    → (more : ℕ) × (n.begun ≡ s.begun + w.steps + more) × (more ≤ 1)
+    × (w.steps < most → more ≡ 0)
     → MovesFew s n → HaltsThere w.halt many most w s n
     → (0 < many → 0 < most → IfSome n.row (λ row. precedes from row ≡ true)) → (most ≡ 0 → n.row ≡ s.row)
     → WentOnBy many most w s n
@@ -205,11 +205,11 @@ module _ (d : Dancing) (ls : Levels) {down : Bool} {until : Option (List ℕ)}
             went_on many most (record { halt = halt; members = by; steps = most - left })
             (in_state d ls down until shown) (record (in_state e ks true until now) { row = row })
             (row_from d.puzzle ls.levels down) refl moved came (omega (arith, ran.bounded), few) (
-              ran.again,
+              ran.more,
               omega (arith, ran.bounded, ran.counted),
               ran.few,
               λ h. ran.none (omega (arith, ran.bounded, h)),
-            ) (few_moves d.puzzle (ran.begun + ran.again) ls.begun ks.begun (moves_made d) (moves_made e)
+            ) (few_moves d.puzzle (ran.begun + ran.more) ls.begun ks.begun (moves_made d) (moves_made e)
             (omega (arith, ran.made)) (omega (arith, ran.counted)))
             halts (λ _ _. later) (λ h. absurd (omega (arith, h, steps)))
 
@@ -409,10 +409,10 @@ module _ {d : Dancing} {ls : Levels} {i n : ℕ} {g : Dancing} {k : Level} (s : 
   stays_on = rw s.is (stays_next s.stays g s.branch s.still (rw s.is at s.base) (rw s.is at s.entered))
 
   module _ (ks : Levels) (levels : ks ≡ with_begun k ls) where
-    pub enters_at : (x : Bool) (first : ℕ) (u : Option (List ℕ)) (m : ℕ) → MayBranch d.puzzle d.trail i n
-        → MayLead x d.puzzle d.trail i → k.begun ≡ first → LeavesOut u d.puzzle ls.levels first
-        → Enters x first u d ls m g ks m i k.place
-    enters_at x first u m may leads number leaves =
+    pub enters_at : (first : ℕ) (u : Option (List ℕ)) (m : ℕ) → MayBranch d.puzzle d.trail i n
+        → MayLead false d.puzzle d.trail i → k.begun ≡ first → LeavesOut u d.puzzle ls.levels first
+        → Enters first u d ls m g ks m i k.place
+    enters_at first u m may leads number leaves =
         let f = s.from in
         let l = s.at in
         let same : f.puzzle ≡ d.puzzle = ap (λ (f : Dancing). f.puzzle) s.stays.still in
@@ -439,7 +439,7 @@ module _ {d : Dancing} {ls : Levels} {i n : ℕ} {g : Dancing} {k : Level} (s : 
           begins = record {
             still = grind (arith, levels, s.stays.still, next.0.goes_on.still);
             standing = next.0.goes_on.standing;
-            path = λ v a. next.1 x v (rw (s.stays.under, same, s.stays.item) leads) (rw (s.stays.under, same) a);
+            path = λ v a. next.1 false v (rw (s.stays.under, same, s.stays.item) leads) (rw (s.stays.under, same) a);
             rises = rises_below k ls ks (ap (λ (ks : Levels). ks.levels) levels);
             down = inr (rw (levels, ← number) (numbers_more k ls.levels));
             less = omega (arith, next.0.less, s.stays.less);
@@ -454,10 +454,10 @@ module _ {d : Dancing} {ls : Levels} {i n : ℕ} {g : Dancing} {k : Level} (s : 
 
 pub ends_at_once : {d e : Dancing} {ls : Levels} {i n : ℕ} {l : Level} → Opens d e ls i n l → (f : Dancing)
     → f ≡ record e { trail = oldest l.mark e.trail; undone = e.undone + (length e.trail - l.mark) }
-    → (x : Bool) (first : ℕ) (u : Option (List ℕ)) (m : ℕ) → n < first → LeavesOut u d.puzzle ls.levels first
-    → Falls x first u d ls m f ls m
+    → (first : ℕ) (u : Option (List ℕ)) (m : ℕ) → n < first → LeavesOut u d.puzzle ls.levels first
+    → Falls first u d ls m f ls m
 unfolding branches_at
-ends_at_once {d} {e} {ls} {i} {n} {l} o f ef x first u m less leaves =
+ends_at_once {d} {e} {ls} {i} {n} {l} o f ef first u m less leaves =
     let same = back_before o f ef in
     let fp : f.puzzle ≡ d.puzzle = ap (λ (f : Dancing). f.puzzle) same in
     let ft : f.trail ≡ d.trail = ap (λ (f : Dancing). f.trail) same in
@@ -487,11 +487,11 @@ ends_at_once {d} {e} {ls} {i} {n} {l} o f ef x first u m less leaves =
 -- ======== The steps of a search of a span.
 
 -- what is left below is passed over with no move
-pub falls_over : (x : Bool) (c : ℕ) (until : Option (List ℕ)) (d : Dancing) (ls : Levels) (m n : ℕ)
+pub falls_over : (c : ℕ) (until : Option (List ℕ)) (d : Dancing) (ls : Levels) (m n : ℕ)
     → IsStanding d.puzzle d.trail ls.levels true
     → PassesOver c until m n (coming d.puzzle d.trail ls.levels true) (coming d.puzzle d.trail ls.levels false)
-    → Falls x c until d ls m d ls n
-falls_over x c until d ls m n s over = record {
+    → Falls c until d ls m d ls n
+falls_over c until d ls m n s over = record {
   still = (refl, refl);
   standing = stands_behind d.puzzle d.trail ls.levels s.stacked;
   path = λ u a. a;
@@ -501,11 +501,11 @@ falls_over x c until d ls m n s over = record {
 }
 
 -- a branch of a level is entered
-pub enters_back : {x : Bool} {c : ℕ} {until : Option (List ℕ)} {d e f : Dancing} {ls ks js : Levels} {m n i q : ℕ}
-    → Falls x c until d ls m e ks n → EntersBranch e ks false f js i q → KeepsBy x e ks (branched f i q) js
+pub enters_back : {c : ℕ} {until : Option (List ℕ)} {d e f : Dancing} {ls ks js : Levels} {m n i q : ℕ}
+    → Falls c until d ls m e ks n → EntersBranch e ks false f js i q → KeepsPath e ks (branched f i q) js
     → AreLater ks js → length js.levels ≤ length ks.levels
-    → Enters x c until d ls m f js n i q
-enters_back {x} {c} {until} {n = n} back b path rises few = record {
+    → Enters c until d ls m f js n i q
+enters_back {c} {until} {n = n} back b path rises few = record {
   can = b.can;
   place = b.place;
   begins = record {
@@ -522,9 +522,9 @@ enters_back {x} {c} {until} {n = n} back b path rises few = record {
 }
 
 -- all levels end
-pub ends_back : {x : Bool} {c : ℕ} {until : Option (List ℕ)} {d e f : Dancing} {ls ks js : Levels} {m n : ℕ}
-    → Falls x c until d ls m e ks n → IsDone e ks false f js → Ends c until d ls m f js n
-ends_back {x} {c} {until} {n = n} back done = record {
+pub ends_back : {c : ℕ} {until : Option (List ℕ)} {d e f : Dancing} {ls ks js : Levels} {m n : ℕ}
+    → Falls c until d ls m e ks n → IsDone e ks false f js → Ends c until d ls m f js n
+ends_back {c} {until} {n = n} back done = record {
   still = grind (arith, back.still, done.still);
   ended = done.ended;
   over = over_more back.over (over_none c until n _ _ done.members);

@@ -21,7 +21,6 @@ use Rattle.xc_search.specs.inner.Ahead.{IsSolved, AreLed, numbers}
 use Rattle.xc_search.specs.inner.Spanning.{row_at, row_from, Halts, EndsSpan, BeginsBranch, Ends, PassesOver, Stands}
 use Rattle.xc_search.specs.inner.Spanning.{RunsTo, RanTo, IsSeenBy, IsRest, Settles}
 use Rattle.xc_search.specs.Room.{room_for}
-use Rattle.xc_search.specs.Nodes.{longest_row}
 use Rattle.xc_search.specs.declared.levels.Stop.{Stop}
 use Rattle.xc_search.specs.declared.levels.Stop.TheVariants.{Member, Steps, Row, Nothing}
 use Rattle.xc_search.proofs.ResidualLemmas.{choice_is_branch_item}
@@ -364,11 +363,11 @@ module _ (p : Puzzle) (t : List Move) (ls : List Level) (from : List ℕ) (until
 
 -- ======== How a run of a search of a span goes.
 
-module _ {bound x : Bool} {c : ℕ} {u until : Option (List ℕ)} {d e : Dancing} {ls ks : Levels}
-    {m most n begun steps : ℕ} (s : Stands x c u d ls m e ks n begun) (count : bound ≡ true → begun + steps ≡ most)
+module _ {bound : Bool} {c : ℕ} {u until : Option (List ℕ)} {d e : Dancing} {ls ks : Levels}
+    {m most n begun steps : ℕ} (s : Stands c u d ls m e ks n begun) (count : bound ≡ true → begun + steps ≡ most)
   where
     pub runs_to_steps : bound ≡ true → steps ≡ 0 → is_before until (row_at e.puzzle ks.levels) ≡ true
-        → RunsTo bound x c u until d ls m most Steps e ks n steps
+        → RunsTo bound c u until d ls m most Steps e ks n steps
     runs_to_steps is zero before = record {
       begun = begun;
       bounded = count;
@@ -384,7 +383,7 @@ module _ {bound x : Bool} {c : ℕ} {u until : Option (List ℕ)} {d e : Dancing
 
     pub runs_to_member : {f : Dancing} {js : Levels} {o : ℕ} → f ≡ e → js ≡ ks → n ≡ 0 → o ≡ 0
         → IsSolved e.puzzle e.trail ks.levels → is_before until (row_at e.puzzle ks.levels) ≡ true
-        → RunsTo bound x c u until d ls m most Member f js o steps
+        → RunsTo bound c u until d ls m most Member f js o steps
     runs_to_member {f} {js} {o} ef ej zero none solved before =
         let same : o ≡ n = none ∙ sym zero in
         rw (ef, ej) (record {
@@ -402,7 +401,7 @@ module _ {bound x : Bool} {c : ℕ} {u until : Option (List ℕ)} {d e : Dancing
 
     pub runs_to_end : {f : Dancing} {js : Levels} {o : ℕ} → Ends c u e ks n f js o
         → (js.begun ≡ ks.begun) × (moves_made f ≤ e.undone + room_for e.puzzle)
-        → RunsTo bound x c u until d ls m most Nothing f js o steps
+        → RunsTo bound c u until d ls m most Nothing f js o steps
     runs_to_end {f} b made = record {
       begun = begun;
       bounded = count;
@@ -419,9 +418,9 @@ module _ {bound x : Bool} {c : ℕ} {u until : Option (List ℕ)} {d e : Dancing
       made = ends_made s (moves_made f) made.1;
     }
 
-    pub runs_to_row : {f : Dancing} {js : Levels} {o : ℕ} → bound ≡ true → 0 < steps → BeginsBranch x c u e ks n f js o
+    pub runs_to_row : {f : Dancing} {js : Levels} {o : ℕ} → bound ≡ true → 0 < steps → BeginsBranch c u e ks n f js o
         → is_before until (row_at f.puzzle js.levels) ≡ false
-        → RunsTo bound x c u until d ls m most Row f js o (steps - 1)
+        → RunsTo bound c u until d ls m most Row f js o (steps - 1)
     runs_to_row is some b past = record {
       begun = begun + 1;
       bounded = λ h. omega (arith, count h, some);
@@ -439,9 +438,9 @@ module _ {bound x : Bool} {c : ℕ} {u until : Option (List ℕ)} {d e : Dancing
     }
 
 -- what is known of an end of its own is known of another, where no branch was begun
-pub seen_rest : {bound x : Bool} {first : ℕ} {u until : Option (List ℕ)} {d e : Dancing} {ls ks : Levels}
+pub seen_rest : {bound : Bool} {first : ℕ} {u until : Option (List ℕ)} {d e : Dancing} {ls ks : Levels}
     {m most n begun steps last : ℕ} → IsSeenBy bound u until first most d.puzzle ls.levels
-    → Stands x first u d ls m e ks n begun → (bound ≡ true → begun + steps ≡ most) → (bound ≡ true → 0 < steps)
+    → Stands first u d ls m e ks n begun → (bound ≡ true → begun + steps ≡ most) → (bound ≡ true → 0 < steps)
     → (begun ≡ 0 → 2 ^ 64 - 1 ≤ last) → IsRest until e.puzzle ks.levels last first
     → IsRest u e.puzzle ks.levels last first
 seen_rest (inl same) s count going far rest = rw same rest
@@ -455,8 +454,8 @@ seen_rest {begun = begun} (inr (is, one, before, leaves)) s count going far rest
     })
 
 -- a search halts there by branch items alone
-halts_by : {x : Bool} {until : Option (List ℕ)} {d e : Dancing} {ls ks : Levels} {m n begun : ℕ}
-    → Stands x 1 until d ls m e ks n begun → AreLed e.puzzle [] e.trail ks.levels
+halts_by : {until : Option (List ℕ)} {d e : Dancing} {ls ks : Levels} {m n begun : ℕ}
+    → Stands 1 until d ls m e ks n begun → AreLed e.puzzle [] e.trail ks.levels
     → Halts until d ls m e ks n begun
 halts_by s led = record {
   still = s.still;
@@ -469,16 +468,16 @@ halts_by s led = record {
 
 module _ {until : Option (List ℕ)} {d b : Dancing} {ls js : Levels} {m n most steps : ℕ} {stop : Stop}
     (led : AreLed d.puzzle [] d.trail ls.levels)
-    (r : RunsTo true false 1 until until d ls m most stop b js n steps)
+    (r : RunsTo true 1 until until d ls m most stop b js n steps)
   where
     -- so many moves were made
-    all_made : (again made : ℕ)
-        → made ≤ (d.undone + room_for d.puzzle * (r.begun + 1)) + room_for d.puzzle * (again + 1)
-        → made ≤ moves_made d + room_for d.puzzle * (r.begun + again + 2)
-    all_made again made h =
-        let all : (r.begun + 1) + (again + 1) ≡ r.begun + again + 2 = omega arith in
-        let more = mul-add (room_for d.puzzle) (r.begun + 1) (again + 1) in
-        rw (← all) (omega (arith, more, h))
+    all_made : (more made : ℕ)
+        → made ≤ (d.undone + room_for d.puzzle * (r.begun + 1)) + room_for d.puzzle * (more + 1)
+        → made ≤ moves_made d + room_for d.puzzle * (r.begun + more + 2)
+    all_made more made h =
+        let all : (r.begun + 1) + (more + 1) ≡ r.begun + more + 2 = omega arith in
+        let both = mul-add (room_for d.puzzle) (r.begun + 1) (more + 1) in
+        rw (← all) (omega (arith, both, h))
 
     -- a run halts at a member, or comes to the end
     pub ran_to : stop ≢ Steps → RanTo d ls m most until stop b js n steps
@@ -491,8 +490,8 @@ module _ {until : Option (List ℕ)} {d b : Dancing} {ls js : Levels} {m n most 
             let some : listing (residual_of b.puzzle b.trail) ≢ [] = λ none.
             cc (solved_alone b.puzzle b.trail js.levels at, none) in
             let stands = r.stands (λ e. absurd (cc (i, e))) in
-            halts_by stands (led_exact false b.puzzle [] b.trail js.levels
-            (stands.path [] (led_by false _ _ _ _ led)) some)
+            halts_by stands (led_exact b.puzzle [] b.trail js.levels
+            (stands.path [] (led_by _ _ _ _ led)) some)
         | inr i ↦ absurd (aside i)
       ];
       before = r.before;
@@ -502,18 +501,18 @@ module _ {until : Option (List ℕ)} {d b : Dancing} {ls js : Levels} {m n most 
         | inl i ↦ ends_at_row led (r.stands (λ e. absurd (cc (i, e)))) (r.past i).1
         | inr i ↦ ends_all led (r.ended i)
       ];
-      again = 0;
+      more = 0;
       counted = omega (arith, r.counted);
       few = omega arith;
       none = λ _. refl;
       made = all_made 0 (moves_made b) (omega (arith, r.made));
     }
 
-    -- or it has no more steps, and goes back to a row of the search's tree
+    -- or it has no more steps, and goes on to a row of the search's tree
     module _ {e : Dancing} {ks : Levels} {found : Bool} (is : stop ≡ Steps) (some : 0 < most)
         (s : Settles b js e ks found)
       where
-        stands : Stands false 1 until d ls m b js n r.begun
+        stands : Stands 1 until d ls m b js n r.begun
         stands = r.stands (λ e. absurd (cc (is, e)))
 
         begun : 0 < r.begun
@@ -534,14 +533,9 @@ module _ {until : Option (List ℕ)} {d b : Dancing} {ls js : Levels} {m n most 
               (stands.later begun) (s.row h);
         }
 
-        -- and on its way back began some again
+        -- and began one more
         counted : ks.begun ≡ ls.begun + r.begun + s.way.begun
         counted = omega (arith, stands.counted, s.way.counted)
-
-        few : s.way.begun ≤ longest_row d.puzzle
-        few =
-            let puzzle = ap (λ (b : Dancing). longest_row b.puzzle) stands.still.0 in
-            omega (arith, s.way.few, stands.standing.shallow refl, puzzle)
 
         made : moves_made e ≤ moves_made d + room_for d.puzzle * (r.begun + s.way.begun + 2)
         made =
@@ -562,9 +556,9 @@ module _ {until : Option (List ℕ)} {d b : Dancing} {ls js : Levels} {m n most 
             | inl j ↦ absurd (cc j)
             | inr j ↦ absurd (cc j)
           ];
-          again = s.way.begun;
+          more = s.way.begun;
           counted = counted;
-          few = few;
+          few = s.way.few;
           none = λ i. absurd (omega (arith, i, (r.ran_out is).1));
           made = made;
         }
@@ -586,9 +580,9 @@ module _ {until : Option (List ℕ)} {d b : Dancing} {ls js : Levels} {m n most 
           solved = λ i. absurd (a i);
           ran_out = λ i. absurd (c i);
           ended = λ _. ends;
-          again = s.way.begun;
+          more = s.way.begun;
           counted = counted;
-          few = few;
+          few = s.way.few;
           none = λ i. absurd (omega (arith, i, (r.ran_out is).1));
           made = made;
         }
@@ -606,11 +600,11 @@ module _ {until : Option (List ℕ)} {d b : Dancing} {ls js : Levels} {m n most 
             (ap (filter (λ m. is_before until (row_of m))) (s.none h))) Nothing (λ i. cc i) (λ i. cc i)
 
 -- one step of a search that passes over one member at most, with no end
-module _ {x : Bool} {c : ℕ} {u : Option (List ℕ)} {d e : Dancing} {ls ks : Levels} {n steps : ℕ} {stop : Stop}
-    (r : RunsTo true x c u None d ls 1 1 stop e ks n steps)
+module _ {c : ℕ} {u : Option (List ℕ)} {d e : Dancing} {ls ks : Levels} {n steps : ℕ} {stop : Stop}
+    (r : RunsTo true c u None d ls 1 1 stop e ks n steps)
     (goes_on : (stop ≡ Member) ⊎ ((stop ≡ Steps) ⊎ (stop ≡ Row)))
   where
-    stood : Stands x c u d ls 1 e ks n r.begun
+    stood : Stands c u d ls 1 e ks n r.begun
     stood = r.stands (λ e. elim goes_on [
       | inl i ↦ absurd (cc (i, e))
       | inr j ↦ elim j [
@@ -631,12 +625,12 @@ module _ {x : Bool} {c : ℕ} {u : Option (List ℕ)} {d e : Dancing} {ls ks : L
       ]
     ]
 
-    pub step_stands : Stands x c u d ls 1 e ks n 1
-    step_stands = subst (Stands x c u d ls 1 e ks n) one stood
+    pub step_stands : Stands c u d ls 1 e ks n 1
+    step_stands = subst (Stands c u d ls 1 e ks n) one stood
 
 -- a run without bounds
 module _ {d e : Dancing} {ls ks : Levels} {m most n steps : ℕ} {stop : Stop}
-    (r : RunsTo false false 1 None None d ls m most stop e ks n steps)
+    (r : RunsTo false 1 None None d ls m most stop e ks n steps)
   where
     -- is at the member behind those that it was to pass over
     pub member_behind : stop ≡ Member

@@ -23,22 +23,22 @@ use Rattle.xc_search.specs.Listing.{listing, Wanted, Residual, Branch, branch_co
 use Rattle.xc_search.specs.Listing.{spend_one, level}
 use Rattle.xc_search.specs.Spans.{row_of, precedes, is_before, between}
 use Rattle.xc_search.specs.inner.Levels.{residual_of, choices_of, coming, to_give, Levels, IsStanding, chosen}
-use Rattle.xc_search.specs.inner.Levels.{newest_begun, oldest, branches_at, AreStacked}
-use Rattle.xc_search.specs.inner.Spanning.{IsRest, LeavesOut, PassesOver, row_at, from_on, CanGoTo, Reaches, RunsTo}
-use Rattle.xc_search.specs.inner.Spanning.{Stands, BeginsBranch, Ends, EndsSpan}
-use Rattle.xc_search.specs.inner.Ahead.{AreLed, AreLedBy, AreLater, numbers, IsStuck}
+use Rattle.xc_search.specs.inner.Levels.{newest_begun, oldest, branches_at, AreStacked, IsLevel}
+use Rattle.xc_search.specs.inner.Spanning.{IsRest, LeavesOut, PassesOver, row_at, from_on, Reaches, RunsTo}
+use Rattle.xc_search.specs.inner.Spanning.{Stands, BeginsBranch, Ends, EndsSpan, Settles}
+use Rattle.xc_search.specs.inner.Ahead.{AreLed, AreLedBy, AreLater, numbers, IsStuck, IsBranchItem, KeepsToItems}
+use Rattle.xc_search.specs.inner.Ahead.{EntersBranch, IsDone, branched}
 use Rattle.xc_search.specs.declared.levels.Stop.{Stop}
 use Rattle.xc_search.specs.declared.levels.Stop.TheVariants.{Nothing}
 use Rattle.xc_search.specs.Cover.{members}
 use Rattle.xc_search.specs.declared.level.Begun.{Begun}
 use Rattle.xc_search.specs.Residuals.{wanted_at, choice_after}
 use Rattle.xc_search.proofs.RowLemmas.{keep_none, less_before, same_beginning, not_before_before, before_either_way}
-use Rattle.xc_search.proofs.RowLemmas.{lists_by, not_before, is_within, lies_from, led_lies}
-use Rattle.xc_search.proofs.LoopSteps.{starts_coming}
+use Rattle.xc_search.proofs.RowLemmas.{lists_by, not_before, is_within, lies_from, led_lies, not_itself}
 use Rattle.xc_search.proofs.EndLemmas.{room_in}
 use Rattle.xc_search.proofs.ListingLemmas.{best, best_least, none_listed, still_short, still_without, IsBranchOf}
 use Rattle.xc_search.proofs.ListingLemmas.{takes_one, takes_none, in-branches}
-use Rattle.xc_search.proofs.ResidualLemmas.{choice_is_branch_item}
+use Rattle.xc_search.proofs.ResidualLemmas.{choice_is_branch_item, same_count}
 
 -- ======== Moves for so many branches, and for more.
 
@@ -174,22 +174,22 @@ rest_about p vs ls u until last first e some begins far leaves = record {
 }
 
 -- On the way to a row it began so many branches, and passed over no member from that row on.
-pub record Reaching (exact : Bool) (d : Dancing) (ls : Levels) (e : Dancing) (ks : Levels) (from : List ℕ)
+pub record Reaching (d : Dancing) (ls : Levels) (e : Dancing) (ks : Levels) (from : List ℕ)
     (begun : ℕ) : Type 0 where
   pub still : e ≡ record d { trail = e.trail; undone = e.undone }
   pub levels : ks ≡ record ls { levels = ks.levels; begun = ks.begun }
   pub standing : IsStanding e.puzzle e.trail ks.levels true
-  pub led : AreLedBy exact e.puzzle [] e.trail ks.levels
+  pub led : AreLedBy false e.puzzle [] e.trail ks.levels
   pub kept : from_on from (coming d.puzzle d.trail ls.levels true)
       ≡ from_on from (coming e.puzzle e.trail ks.levels true)
   pub counted : ks.begun ≡ ls.begun + begun
   pub undone : e.undone ≤ d.undone + room_for d.puzzle * begun
 
 -- it began no branch there
-pub starts_reaching : (exact : Bool) (d : Dancing) (ls : Levels) (from : List ℕ)
+pub starts_reaching : (d : Dancing) (ls : Levels) (from : List ℕ)
     → IsStanding d.puzzle d.trail ls.levels true
-    → AreLedBy exact d.puzzle [] d.trail ls.levels → Reaching exact d ls d ls from 0
-starts_reaching exact d ls from s a = record {
+    → AreLedBy false d.puzzle [] d.trail ls.levels → Reaching d ls d ls from 0
+starts_reaching d ls from s a = record {
   still = refl;
   levels = refl;
   standing = s;
@@ -199,11 +199,10 @@ starts_reaching exact d ls from s a = record {
   undone = omega arith;
 }
 
-module _ {exact : Bool} {d e : Dancing} {ls ks : Levels} {from : List ℕ} {before : ℕ}
-    (r : Reaching exact d ls e ks from before)
+module _ {d e : Dancing} {ls ks : Levels} {from : List ℕ} {before : ℕ} (r : Reaching d ls e ks from before)
   where
     pub reaches_on : {c : ℕ} {f : Dancing} {js : Levels} {m n begun : ℕ}
-        → Stands exact c (Some from) e ks m f js n begun → Reaching exact d ls f js from (before + begun)
+        → Stands c (Some from) e ks m f js n begun → Reaching d ls f js from (before + begun)
     reaches_on {f = f} {begun = begun} s = record {
       still = grind (arith, r.still, s.still);
       levels = grind (arith, r.levels, s.still);
@@ -217,7 +216,7 @@ module _ {exact : Bool} {d e : Dancing} {ls ks : Levels} {from : List ℕ} {befo
 
     -- it stands at the row, or behind it
     pub reaches_there : before ≤ length from → precedes (row_at e.puzzle ks.levels) from ≡ false
-        → Reaches exact 1 from d ls e ks true
+        → Reaches false 0 from d ls e ks true
     reaches_there few past = record {
       still = (r.still, r.levels);
       stacked = r.standing.stacked;
@@ -241,8 +240,8 @@ module _ {exact : Bool} {d e : Dancing} {ls ks : Levels} {from : List ℕ} {befo
 
     -- or all levels ended, by one branch at most
     pub reaches_none : {c : ℕ} {until : Option (List ℕ)} {f : Dancing} {js : Levels} {m n many steps : ℕ} {stop : Stop}
-        (run : RunsTo true exact c (Some from) until e ks m many stop f js n steps) → stop ≡ Nothing
-        → before + run.begun ≤ length from → Reaches exact 1 from d ls f js false
+        (run : RunsTo true c (Some from) until e ks m many stop f js n steps) → stop ≡ Nothing
+        → before + run.begun ≤ length from → Reaches false 0 from d ls f js false
     reaches_none {f = f} run is few =
         let s = run.ended is in
         let all : before + (run.begun + 1) ≡ (before + run.begun) + 1 = omega arith in
@@ -267,61 +266,9 @@ module _ {exact : Bool} {d e : Dancing} {ls ks : Levels} {from : List ℕ} {befo
         }
 
 -- where there are no levels, they lead to no moves
-pub led_nowhere : (exact : Bool) (p : Puzzle) {t : List Move} {ls : List Level} → ls ≡ [] → t ≡ []
-    → AreLedBy exact p [] t ls
-led_nowhere exact p levels moves = rw (levels, moves) refl
-
--- one way, or two
-module _ {exact : Bool} {d e : Dancing} {ls ks : Levels} {from : List ℕ} {found : Bool}
-    (w : Reaches exact 1 from d ls e ks found)
-  where
-    pub one_of_two : (found ≡ true → AreLed e.puzzle [] e.trail ks.levels) → Reaches true 2 from d ls e ks found
-    one_of_two led = record {
-      still = w.still;
-      stacked = w.stacked;
-      standing = w.standing;
-      led = led;
-      reached = w.reached;
-      kept = w.kept;
-      none = w.none;
-      way = record {
-        begun = w.way.begun;
-        counted = w.way.counted;
-        few = omega (arith, w.way.few);
-        made = omega (arith, w.way.made);
-      };
-    }
-
-    -- and back between them
-    module _ {f g : Dancing} {js is : Levels} {there : Bool} (start : CanGoTo d ls)
-        (undone : f ≡ record e { trail = []; undone = moves_made e }) (ended : js ≡ record ks { levels = [] })
-        (v : Reaches true 1 from f js g is there)
-      where
-        puzzle : f.puzzle ≡ d.puzzle
-        puzzle = ap (λ (d : Dancing). d.puzzle) undone ∙ ap (λ (d : Dancing). d.puzzle) w.still.0
-
-        all : coming d.puzzle d.trail ls.levels true ≡ coming f.puzzle f.trail js.levels true
-        all =
-            starts_coming d.puzzle d.trail ls.levels start.unmoved start.none ∙ ap members (sym puzzle)
-            ∙ sym (starts_coming f.puzzle f.trail js.levels (ap (λ (d : Dancing). d.trail) undone)
-            (ap (λ (s : Levels). s.levels) ended))
-
-        pub two_ways : Reaches true 2 from d ls g is there
-        two_ways = record {
-          still = (grind (arith, w.still, undone, v.still), grind (arith, w.still, ended, v.still));
-          stacked = v.stacked;
-          standing = v.standing;
-          led = v.led;
-          reached = v.reached;
-          kept = λ h. ap (from_on from) all ∙ v.kept h;
-          none = λ h. ap (from_on from) all ∙ v.none h;
-          way = record {
-            begun = w.way.begun + v.way.begun;
-            counted = omega (arith, w.way.counted, ap (λ (s : Levels). s.begun) ended, v.way.counted);
-            few = omega (arith, w.way.few, v.way.few);
-            made = omega (arith, w.way.made, ap moves_made undone, rw puzzle at v.way.made);
-          };
-        }
+pub led_nowhere : (p : Puzzle) {t : List Move} {ls : List Level} → ls ≡ [] → t ≡ []
+    → AreLedBy false p [] t ls
+led_nowhere p levels moves = rw (levels, moves) refl
 
 -- ======== The numbers of levels rise from branch to branch.
 
@@ -435,7 +382,8 @@ led_free p u t (l ∷ ls) a free =
     (same stuck.item (in-contains _ _ stuck.known))
     (in-branches r w a.0.branch (in-slice_get (branches_of r w) (l.begun - 1) a.0.branch a.0.at)))) in (
       record {
-        leads = elim a.0.leads.1 [ inl is ↦ is | inr stuck ↦ absurd (here stuck) ];
+        leads = elim a.0.leads.1 [ inl is ↦ is | inr dead ↦ absurd (here dead.0) ];
+        some = a.0.some;
         branch = a.0.branch;
         at = a.0.at;
         choice = a.0.choice;
@@ -448,6 +396,26 @@ led_free p u t (l ∷ ls) a free =
 pub never_stuck : (p : Puzzle) (t : List Move) → AreLegal p t → ((i : ℕ) → choice_after p t ≡ Some (i, 0) → ⊥)
     → IsStuck (residual_of p t) → ⊥
 never_stuck p t legal free s = let choice = stuck_choice p t legal s in free choice.0 choice.1
+
+-- A level that has another branch is of the branch item, and what it was begun on isn't stuck.
+pub led_again : (p : Puzzle) (u t : List Move) (l : Level) (ls : List Level) → IsLevel p t l → l.begun < l.count
+    → AreLedBy false p u t (l ∷ ls) → IsBranchItem p (oldest l.mark t) l.item × AreLed p u (oldest l.mark t) ls
+led_again p u t l ls is_level more a =
+    let s = oldest l.mark t in
+    let r = residual_of p s in
+    let w = wanted_at p s l.item in
+    let legal = is_level.node.searchable.legal in
+    let two : 2 ≤ branch_count r w = omega (arith, is_level.count, more, a.0.some) in
+    let is : IsBranchItem p s l.item = elim a.0.leads.1 [
+      | inl is ↦ is
+      | inr dead ↦ absurd (omega (arith, two, dead.1))
+    ] in
+    let free : IsStuck r → ⊥ = λ stuck.
+    let none = (stuck_choice p s legal stuck).1 in
+    let some = choice_is_branch_item p s legal ∙ ap (option_map (λ (w : Wanted). (w.item, branch_count r w))) is in
+    let zero : branch_count r w ≡ 0 = same_count (sym some ∙ none) in
+    absurd (omega (arith, two, zero)) in
+    (is, led_free p u s ls a.1 free)
 
 -- ======== Where what is left has members, each level is of the branch item.
 
@@ -474,12 +442,11 @@ nothing_below r w j b lists at none =
     (nothing_at (λ (b : Branch). map (λ m. b.choice ∷ m) (listing b.next)) (branches_of r w) j b at
     (sym lists ∙ none))
 
-pub led_exact : (x : Bool) (p : Puzzle) (u t : List Move) (ls : List Level) → AreLedBy x p u t ls
+pub led_exact : (p : Puzzle) (u t : List Move) (ls : List Level) → AreLedBy false p u t ls
     → listing (residual_of p t) ≢ [] → AreLed p u t ls
 unfolding branches_at
-led_exact true p u t ls a some = a
-led_exact false p u t [] a some = a
-led_exact false p u t (l ∷ ls) a some =
+led_exact p u t [] a some = a
+led_exact p u t (l ∷ ls) a some =
     let s = oldest l.mark t in
     let here : listing (residual_of p s) ≢ [] = λ none.
     some (ap listing a.0.next
@@ -487,29 +454,30 @@ led_exact false p u t (l ∷ ls) a some =
       record {
         leads = elim a.0.leads.1 [
           | inl is ↦ is
-          | inr stuck ↦ absurd (here (stuck_lists (residual_of p s) stuck))
+          | inr dead ↦ absurd (here (stuck_lists (residual_of p s) dead.0))
         ];
+        some = a.0.some;
         branch = a.0.branch;
         at = a.0.at;
         choice = a.0.choice;
         next = a.0.next;
       },
-      led_exact false p u s ls a.1 here,
+      led_exact p u s ls a.1 here,
     )
 
 -- the branch item lists what is left
-pub led_by : (x : Bool) (p : Puzzle) (u t : List Move) (ls : List Level) → AreLed p u t ls → AreLedBy x p u t ls
-led_by true p u t ls a = a
-led_by false p u t [] a = a
-led_by false p u t (l ∷ ls) a = (
+pub led_by : (p : Puzzle) (u t : List Move) (ls : List Level) → AreLed p u t ls → AreLedBy false p u t ls
+led_by p u t [] a = a
+led_by p u t (l ∷ ls) a = (
   record {
     leads = (lists_by true p (oldest l.mark t) l.item a.0.leads, inl a.0.leads);
+    some = a.0.some;
     branch = a.0.branch;
     at = a.0.at;
     choice = a.0.choice;
     next = a.0.next;
   },
-  led_by false p u (oldest l.mark t) ls a.1,
+  led_by p u (oldest l.mark t) ls a.1,
 )
 
 -- ======== A search of a span runs on.
@@ -523,9 +491,9 @@ pub led_from : (p : Puzzle) (t : List Move) (ls : List Level) → AreLed p [] t 
     → between p (row_at p ls) None ≡ coming p t ls true
 led_from p t ls a = led_from_by true p t ls a
 
-pub stands_first : (x : Bool) (c : ℕ) (u : Option (List ℕ)) (d : Dancing) (ls : Levels) (m : ℕ)
-    → IsStanding d.puzzle d.trail ls.levels true → Stands x c u d ls m d ls m 0
-stands_first x c u d ls m s = record {
+pub stands_first : (c : ℕ) (u : Option (List ℕ)) (d : Dancing) (ls : Levels) (m : ℕ)
+    → IsStanding d.puzzle d.trail ls.levels true → Stands c u d ls m d ls m 0
+stands_first c u d ls m s = record {
   still = (refl, refl);
   standing = s;
   path = λ u a. a;
@@ -537,8 +505,8 @@ stands_first x c u d ls m s = record {
   undone = omega arith;
 }
 
-module _ {x : Bool} {c : ℕ} {u : Option (List ℕ)} {d e : Dancing} {ls ks : Levels} {m n begun : ℕ}
-    (s : Stands x c u d ls m e ks n begun)
+module _ {c : ℕ} {u : Option (List ℕ)} {d e : Dancing} {ls ks : Levels} {m n begun : ℕ}
+    (s : Stands c u d ls m e ks n begun)
   where
     -- where it goes on to a later row, that is later than where it began
     later_than : (js : Levels) → AreLater ks js → AreLater ls js
@@ -546,8 +514,8 @@ module _ {x : Bool} {c : ℕ} {u : Option (List ℕ)} {d e : Dancing} {ls ks : L
         (λ h. rw (← (s.same h).1) b)
         (λ k h. rises_on ls ks js (s.later (omega (arith, h))) b)
 
-    pub stands_more : {f : Dancing} {js : Levels} {o : ℕ} → BeginsBranch x c u e ks n f js o
-        → Stands x c u d ls m f js o (begun + 1)
+    pub stands_more : {f : Dancing} {js : Levels} {o : ℕ} → BeginsBranch c u e ks n f js o
+        → Stands c u d ls m f js o (begun + 1)
     stands_more {f} {js} {o} b = record {
       still = grind (arith, s.still, b.still);
       standing = b.standing;
@@ -637,12 +605,119 @@ module _ {d e : Dancing} {ls ks : Levels} {m n : ℕ} {until : Option (List ℕ)
     }
 
     -- it ends at a row that doesn't come before its end
-    pub ends_at_row : {x : Bool} {begun : ℕ} → Stands x 1 until d ls m e ks n begun
+    pub ends_at_row : {begun : ℕ} → Stands 1 until d ls m e ks n begun
         → is_before until (row_at e.puzzle ks.levels) ≡ false → EndsSpan d ls m until e ks n
-    ends_at_row {x} s past =
+    ends_at_row s past =
         ends_span s.still s.standing.stacked s.over
-        (none_before x e.puzzle e.trail ks.levels until (s.path [] (led_by x _ _ _ _ led)) past)
+        (none_before false e.puzzle e.trail ks.levels until (s.path [] (led_by _ _ _ _ led)) past)
 
     -- or where all levels ended
     pub ends_all : Ends 1 until d ls m e ks n → EndsSpan d ls m until e ks n
     ends_all s = ends_span s.still (rw s.ended tt) s.over refl
+
+-- ======== A search goes on to a row of its tree.
+
+-- where what is left has no members
+none_here : (d : Dancing) (ls : Levels) → listing (residual_of d.puzzle d.trail) ≡ []
+    → coming d.puzzle d.trail ls.levels true ≡ coming d.puzzle d.trail ls.levels false
+none_here d ls none = rw none refl
+
+-- it stays where it is
+pub settles_here : {d : Dancing} {ls : Levels} → IsStanding d.puzzle d.trail ls.levels true
+    → AreLed d.puzzle [] d.trail ls.levels → Settles d ls d ls true
+settles_here {ls = ls} s led = record {
+  still = (refl, refl);
+  stacked = s.stacked;
+  standing = λ _. s;
+  led = λ _. led;
+  row = λ _. not_itself (numbers ls.levels);
+  members = λ _. refl;
+  none = λ h. absurd (cc h);
+  way = record { begun = 0; counted = omega arith; few = omega arith; made = omega arith };
+}
+
+-- or enters the next branch of a level
+pub settles_next : {d e : Dancing} {ls ks : Levels} {i q : ℕ} → EntersBranch d ls false e ks i q
+    → KeepsToItems d ls (branched e i q) ks → AreLater ls ks → AreLedBy false d.puzzle [] d.trail ls.levels
+    → listing (residual_of d.puzzle d.trail) ≡ [] → Settles d ls (branched e i q) ks true
+settles_next {d} {e} {ls} {ks} {i} {q} b items later led none =
+    let on = b.goes_on in
+    let f = branched e i q in
+    let puzzle : room_for f.puzzle ≡ room_for d.puzzle = ap (λ (f : Dancing). room_for f.puzzle) on.still.0 in
+    record {
+      still = on.still;
+      stacked = on.standing.stacked;
+      standing = λ _. on.standing;
+      led = λ _. items [] led;
+      row = λ _. before_either_way (numbers ls.levels) (numbers ks.levels) later;
+      members = λ _. none_here d ls none ∙ on.members;
+      none = λ h. absurd (cc h);
+      way = record {
+        begun = 1;
+        counted = b.counted;
+        few = omega arith;
+        made = omega (arith, b.undone, puzzle, room_in f.puzzle f.trail (on.standing.searchable refl));
+      };
+    }
+
+-- or comes to its end
+pub settles_nowhere : {d e : Dancing} {ls ks : Levels} → IsDone d ls false e ks
+    → listing (residual_of d.puzzle d.trail) ≡ [] → Settles d ls e ks false
+settles_nowhere {d} {e} {ls} {ks} s none = record {
+  still = s.still;
+  stacked = rw s.ended tt;
+  standing = λ h. absurd (cc h);
+  led = λ h. absurd (cc h);
+  row = λ h. absurd (cc h);
+  members = λ h. absurd (cc h);
+  none = λ _. none_here d ls none ∙ s.members;
+  way = record {
+    begun = 0;
+    counted = omega (arith, s.counted);
+    few = omega arith;
+    made = omega (arith, s.made);
+  };
+}
+
+-- and so it comes to a row from another
+module _ {d e : Dancing} {ls ks : Levels} {from : List ℕ} where
+  pub reaches_settled : {f : Dancing} {js : Levels} {found : Bool} → Reaches false 0 from d ls e ks true
+      → Settles e ks f js found → Reaches true 1 from d ls f js found
+  reaches_settled {f} {js} r s =
+      let all : (r.way.begun + 1) + (s.way.begun + 1) ≡ (r.way.begun + s.way.begun) + 2 = omega arith in
+      record {
+        still = (grind (arith, r.still, s.still), grind (arith, r.still, s.still));
+        stacked = s.stacked;
+        standing = s.standing;
+        led = s.led;
+        reached = λ h.
+            let past = not_before from (numbers ks.levels) (numbers js.levels)
+            (ap (λ a. precedes a from) (numbers_row e.puzzle ks.levels) ∙ r.reached refl) (s.row h) in
+            ap (λ a. precedes a from) (sym (numbers_row f.puzzle js.levels)) ∙ past;
+        kept = λ h. r.kept refl ∙ ap (from_on from) (s.members h);
+        none = λ h. r.kept refl ∙ ap (from_on from) (s.none h);
+        way = record {
+          begun = r.way.begun + s.way.begun;
+          counted = omega (arith, r.way.counted, s.way.counted);
+          few = omega (arith, r.way.few, s.way.few);
+          made = rw (← all) (more_moves d.puzzle e.puzzle (r.way.begun + 1) (s.way.begun + 1) (moves_made e)
+              (moves_made f) (moves_made d) (ap (λ (e : Dancing). e.puzzle) r.still.0) r.way.made s.way.made);
+        };
+      }
+
+  pub reaches_nowhere : Reaches false 0 from d ls e ks false → Reaches true 1 from d ls e ks false
+  reaches_nowhere r = record {
+    still = r.still;
+    stacked = r.stacked;
+    standing = λ h. absurd (cc h);
+    led = λ h. absurd (cc h);
+    reached = λ h. absurd (cc h);
+    kept = λ h. absurd (cc h);
+    none = r.none;
+    way = record {
+      begun = r.way.begun;
+      counted = r.way.counted;
+      few = omega (arith, r.way.few);
+      made = omega (arith, r.way.made);
+    };
+  }

@@ -7,16 +7,16 @@ use Rattle.xc_search.specs.Outlook.{shown_after}
 use Rattle.xc_search.specs.Listing.{whole}
 use Rattle.xc_search.specs.Spans.{precedes, is_before, between}
 use Rattle.xc_search.specs.InSpan.{InSpan, left_of, reached, MovesFew}
-use Rattle.xc_search.specs.Nodes.{IsRowOf, longest_row}
+use Rattle.xc_search.specs.Nodes.{IsRowOf}
 
 -- It passed the members between its rows, so many of them and by so many steps. Each step is a branch that it began;
--- where it ran out of steps, it may have begun some again on its way back.
+-- where it ran out of steps, it may have begun one more, to come to a row of the tree.
 pub record PassesBy (many steps : ℕ) (went : Went) (s n : InSpan) : Type 0 where
   pub passed : IfSome s.row (λ from. left_of s ≡ between s.puzzle from (reached n) ++ left_of n)
   pub count : IfSome s.row (λ from. length (between s.puzzle from (reached n)) ≡ went.members)
   pub within : (went.steps ≤ steps) × (went.members ≤ many)
-  pub begun : (again : ℕ) × (n.begun ≡ s.begun + went.steps + again)
-      × (again ≤ longest_row s.puzzle) × (went.steps < steps → again ≡ 0)
+  pub begun : (more : ℕ) × (n.begun ≡ s.begun + went.steps + more)
+      × (more ≤ 1) × (went.steps < steps → more ≡ 0)
   pub moves : MovesFew s n
 
 -- It halted at the last of so many members, at the end, or out of steps.

@@ -1,6 +1,6 @@
 -- The rows at which a search of a span may be.
 use Rattle.std.specs.Prelude.{ℕ, zero, suc, ◌+◌, ◌≤◌, ◌≡◌, true, List, [], ◌∷◌, length, sum_by, Option, Some, None}
-use Rattle.xc_input.specs.Problem.{Puzzle, option_count, primary_count}
+use Rattle.xc_input.specs.Problem.{Puzzle}
 use Rattle.xc_search.specs.Listing.{Wanted, Residual, whole, branch_item, branches_of}
 use Rattle.xc_search.specs.Spans.{precedes}
 use Rattle.xc_search.specs.InSpan.{branches_left, left_by_number}
@@ -11,10 +11,6 @@ abbrev pub IsRowOf : Residual → List ℕ → Type 0
 IsRowOf r [] = Unit {0}
 IsRowOf r (zero ∷ row) = (branch_item r ≡ None) × (row ≡ [])
 IsRowOf r (suc k ∷ row) = (suc k ≤ length (branches_left r)) × IsRowOf (left_by_number (suc k) r) row
-
--- No row has more branches: each takes an option or a primary item away.
-abbrev pub longest_row : Puzzle → ℕ
-longest_row p = option_count p + primary_count p
 
 -- these are rows of the tree, each after the one in front of it
 abbrev pub RowsGoOn : Puzzle → List ℕ → List (List ℕ) → Type 0

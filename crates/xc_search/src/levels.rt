@@ -14,19 +14,19 @@
 //! each. `unwind` ends levels by code of its own, so that the loop has the one call of `end_level`, which is inlined
 //! there (8 %). The end of a tweaked level is in the loop too (3 % with bounds). Tried and not faster: levels or their
 //! marks with numbers of 32 bits, solutions counted upward, and rare steps as calls that take the state by value.
-ghost use Rattle.std.specs.Prelude.{◌≡◌, ◌+◌, ◌-◌, ◌<◌, ◌≤◌, ◌^◌, ◌⊎◌, List, [], ◌∷◌, ◌++◌, length, map};
-ghost use Rattle.std.specs.Prelude.{true, false, not, None, Bool, ℕ, Option, option_map, IfSome, IsNone, IsSome};
+ghost use Rattle.std.specs.Prelude.{◌≡◌, ◌+◌, ◌-◌, ◌<◌, ◌≤◌, ◌^◌, List, [], ◌∷◌, ◌++◌, length, map};
+ghost use Rattle.std.specs.Prelude.{true, false, None, ℕ, Option, option_map, IfSome, IsNone, IsSome};
 ghost use Rattle.xc_input.specs.Problem.{Puzzle};
 ghost use Rattle.xc_dance.specs.Dancing.{moves_made};
 ghost use Rattle.xc_search.specs.inner.Levels.{most_levels, AreStacked, IsNext, IsSearchable, IsStanding, IsEntered};
-ghost use Rattle.xc_search.specs.inner.Levels.{begun_level, AreAllWanted, IsEarlyChoice, oldest, residual_of};
-ghost use Rattle.xc_search.specs.inner.Ahead.{Pays, EntersBranch, IsDone, IsSolved, branched, KeepsBy, IsChosenBy};
-ghost use Rattle.xc_search.specs.inner.Ahead.{AreLater};
+ghost use Rattle.xc_search.specs.inner.Levels.{begun_level, IsEarlyChoice, oldest, residual_of};
+ghost use Rattle.xc_search.specs.inner.Ahead.{Pays, EntersBranch, IsDone, IsSolved, branched, KeepsPath, AreLater};
+ghost use Rattle.xc_search.specs.inner.Ahead.{KeepsToItems};
 ghost use Rattle.xc_search.specs.inner.Spanning.{Enters, Ends, Falls, IsRest, IsSeenBy, LeavesOut, RunsTo, row_at};
 ghost use Rattle.xc_search.specs.Listing.{listing};
 ghost use Rattle.xc_search.specs.Room.{room_for};
 ghost use Rattle.xc_search.specs.Spans.{is_before, precedes};
-ghost use Rattle.xc_search.specs.Residuals.{choice_after, wanted_after};
+ghost use Rattle.xc_search.specs.Residuals.{choice_after};
 
 use crate::level::{Begun, Level, begin_level};
 use crate::position::Position;
@@ -72,17 +72,17 @@ fn deepen<D: Dance, const WAY: bool>(
     requires first { 0 < first }
     ensures same { result ≡ Below.Solution → (position.new ≡ position.old) × (stack.new ≡ stack.old) }
     ensures solved { result ≡ Below.Solution → choice_after position.old.puzzle position.old.trail ≡ None }
-    ensures deeper { (b : Entered) → result ≡ Below.Branch b → (exact : Bool) →
-        IsChosenBy exact position.old.puzzle position.old.trail next → (until : Option (List ℕ)) →
+    ensures deeper { (b : Entered) → result ≡ Below.Branch b →
+        IsEarlyChoice position.old.puzzle position.old.trail next → (until : Option (List ℕ)) →
         LeavesOut until position.old.puzzle stack.old.levels first → (m : ℕ) →
-        Enters exact first until position.old stack.old m position.new stack.new m b.item b.place }
+        Enters first until position.old stack.old m position.new stack.new m b.item b.place }
     ensures deeper_pays { (b : Entered) → result ≡ Below.Branch b → first ≡ 1 →
         IsEarlyChoice position.old.puzzle position.old.trail next → (m : ℕ) →
         Pays position.old stack.old true m (branched position.new b.item b.place) stack.new true m }
     ensures near { (b : Entered) → result ≡ Below.Branch b → b.place < 2 ^ 32 }
-    ensures nothing { result ≡ Below.Nothing → (exact : Bool) → (until : Option (List ℕ)) →
+    ensures nothing { result ≡ Below.Nothing → (until : Option (List ℕ)) →
         LeavesOut until position.old.puzzle stack.old.levels first → (m : ℕ) →
-        Falls exact first until position.old stack.old m position.new stack.new m }
+        Falls first until position.old stack.old m position.new stack.new m }
     ensures nothing_pays { result ≡ Below.Nothing → first ≡ 1 → (m : ℕ) →
         Pays position.old stack.old true m position.new stack.new false m }
     ensures moved { result ≡ Below.Nothing → 0 < moves_made position.new }
@@ -151,25 +151,26 @@ fn enter_next<D: Dance, const WAY: bool>(position: &mut Position<D>, level: &Lev
 }
 
 /// Enters the next branch of the newest level that has one, and ends the levels above it. None where no level has
-/// another branch, and then all have ended.
+/// another branch, and then all have ended. A level that has another is of the branch item, and so are those below it:
+/// an early choice of another item has one branch at most.
 #[inline(always)]
-fn resume<D: Dance, const WAY: bool>(
+pub fn resume<D: Dance, const WAY: bool>(
     position: &mut Position<D>,
     stack: &mut Stack,
 ) -> Option<Entered>
     requires standing { IsStanding position.old.puzzle position.old.trail stack.old.levels false }
     ensures resumed { IfSome result (λ b.
         EntersBranch position.old stack.old false position.new stack.new b.item b.place) }
-    ensures resumed_path { IfSome result (λ b. (exact : Bool) →
-        KeepsBy exact position.old stack.old (branched position.new b.item b.place) stack.new) }
+    ensures resumed_path { IfSome result (λ b.
+        KeepsPath position.old stack.old (branched position.new b.item b.place) stack.new) }
+    ensures resumed_items { IfSome result (λ b.
+        KeepsToItems position.old stack.old (branched position.new b.item b.place) stack.new) }
     ensures resumed_row { IfSome result (λ _. AreLater stack.old stack.new) }
     ensures resumed_levels { IfSome result (λ _. length stack.new.levels ≤ length stack.old.levels) }
     ensures near { IfSome result (λ b. b.place < 2 ^ 32) }
     ensures resumed_pays { IfSome result (λ b. (m : ℕ) →
         Pays position.old stack.old false m (branched position.new b.item b.place) stack.new true m) }
     ensures done { IsNone result → IsDone position.old stack.old false position.new stack.new }
-    ensures path { IsNone result → (exact : Bool) →
-        KeepsBy exact position.old stack.old position.new stack.new }
     ensures done_pays { IsNone result → (m : ℕ) →
         Pays position.old stack.old false m position.new stack.new false m }
 {
@@ -220,20 +221,6 @@ fn skip_rest<D: Dance>(position: &Position<D>, more: &mut u64) -> bool
     true
 }
 
-/// An item to branch on: the branch item, unless an early choice is to be made.
-#[inline(always)]
-fn choose_by<D: Dance>(position: &Position<D>, early: bool) -> Option<(u32, usize)>
-    requires { AreAllWanted (wanted_after position.now.puzzle position.now.trail) }
-    ensures choice { IsChosenBy (not early) position.now.puzzle position.now.trail result }
-    ensures few { IfSome result (λ c. c.1 < 2 ^ 32) }
-{
-    if early {
-        position.choose_early()
-    } else {
-        position.choose()
-    }
-}
-
 /// Goes below the levels: enters a branch of another level, the first that isn't left out, where what is left has any.
 /// A solution is passed over where `more` are to be, and is one of them. `last` is how many levels there were where the
 /// last choice led to a solution: where there are as many again, and all that is left comes before the end, the
@@ -242,7 +229,6 @@ fn choose_by<D: Dance>(position: &Position<D>, early: bool) -> Option<(u32, usiz
 fn go_below<D: Dance, const WAY: bool>(
     position: &mut Position<D>,
     stack: &mut Stack,
-    early: bool,
     first: u32,
     more: &mut u64,
     last: &mut usize,
@@ -251,14 +237,14 @@ fn go_below<D: Dance, const WAY: bool>(
     requires levels_fit { most_levels position.old.puzzle ≤ stack.old.room }
     requires first { 0 < first }
     ensures entered { (b : Entered) → result ≡ Below.Branch b → (until : Option (List ℕ)) →
-        IsRest until position.old.puzzle stack.old.levels last.old first → Enters (not early) first until
+        IsRest until position.old.puzzle stack.old.levels last.old first → Enters first until
         position.old stack.old more.old position.new stack.new more.new b.item b.place }
     ensures near { (b : Entered) → result ≡ Below.Branch b → b.place < 2 ^ 32 }
     ensures same { result ≡ Below.Solution →
         (position.new ≡ position.old) × (stack.new ≡ stack.old) × (more.old ≡ 0) × (more.new ≡ 0) }
     ensures solved { result ≡ Below.Solution → IsSolved position.old.puzzle position.old.trail stack.old.levels }
     ensures back { result ≡ Below.Nothing → (until : Option (List ℕ)) →
-        IsRest until position.old.puzzle stack.old.levels last.old first → Falls (not early) first until
+        IsRest until position.old.puzzle stack.old.levels last.old first → Falls first until
         position.old stack.old more.old position.new stack.new more.new }
     ensures entered_pays { (b : Entered) → result ≡ Below.Branch b → first ≡ 1 →
         Pays position.old stack.old true more.old (branched position.new b.item b.place) stack.new true more.new }
@@ -270,7 +256,7 @@ fn go_below<D: Dance, const WAY: bool>(
     if stack.levels().len() == *last && skip_rest(position, more) {
         return Below::Nothing;
     }
-    let next = choose_by(position, early);
+    let next = position.choose_early();
     match deepen::<D, WAY>(position, stack, next, first) {
         Below::Branch(entered) => Below::Branch(entered),
         Below::Nothing => Below::Nothing,
@@ -290,7 +276,6 @@ fn go_below<D: Dance, const WAY: bool>(
 fn enter_branch<D: Dance, const WAY: bool>(
     position: &mut Position<D>,
     stack: &mut Stack,
-    early: bool,
     first: u32,
     more: &mut u64,
     last: &mut usize,
@@ -299,7 +284,7 @@ fn enter_branch<D: Dance, const WAY: bool>(
     requires levels_fit { most_levels position.old.puzzle ≤ stack.old.room }
     requires first { 0 < first }
     ensures entered { (b : Entered) → result ≡ Next.Branch b → (until : Option (List ℕ)) →
-        IsRest until position.old.puzzle stack.old.levels last.old first → Enters (not early) first until
+        IsRest until position.old.puzzle stack.old.levels last.old first → Enters first until
         position.old stack.old more.old position.new stack.new more.new b.item b.place }
     ensures near { (b : Entered) → result ≡ Next.Branch b → b.place < 2 ^ 32 }
     ensures same { result ≡ Next.Solution →
@@ -317,7 +302,7 @@ fn enter_branch<D: Dance, const WAY: bool>(
     ensures moved { result ≡ Next.Nothing → (stack.old.levels ≡ [] → 2 ^ 64 - 1 ≤ last.old) →
         0 < moves_made position.new }
 {
-    match go_below::<D, WAY>(position, stack, early, first, more, last) {
+    match go_below::<D, WAY>(position, stack, first, more, last) {
         Below::Branch(entered) => return Next::Branch(entered),
         Below::Solution => return Next::Solution,
         Below::Nothing => {}
@@ -333,8 +318,6 @@ fn enter_branch<D: Dance, const WAY: bool>(
 #[derive(Clone, Copy)]
 pub struct Task<'u> {
     pub until: Option<&'u [u32]>,
-    /// It may branch on another item than the branch item where what is left has no members.
-    pub early: bool,
     /// The branch that it enters first where it begins a level: those before it are left out.
     pub first: u32,
     pub over: u64,
@@ -362,12 +345,12 @@ pub struct Ran {
     pub steps: u64,
 }
 
-/// The same task. Off the way to a row it chooses early and leaves no branch out.
-// So the loop knows both before it takes in what it calls, and not only once a search takes in the loop: 0.6 % of the
+/// The same task. Off the way to a row it leaves no branch out.
+// So the loop knows that before it takes in what it calls, and not only once a search takes in the loop: 0.6 % of the
 // instructions.
 #[inline(always)]
 fn fixed<'u, const WAY: bool>(task: Task<'u>) -> Task<'u>
-    requires { WAY ≡ false → (task.early ≡ true) × (task.first ≡ 1) }
+    requires { WAY ≡ false → task.first ≡ 1 }
     ensures { result ≡ task.entry }
 {
     if WAY {
@@ -375,7 +358,6 @@ fn fixed<'u, const WAY: bool>(task: Task<'u>) -> Task<'u>
     }
     Task {
         until: task.until,
-        early: true,
         first: 1,
         over: task.over,
         steps: task.steps,
@@ -398,10 +380,10 @@ pub fn run<'u, D: Dance, const BOUND: bool, const WAY: bool>(
         ≡ true }
     requires all { IsSome task.until → task.first ≡ 1 }
     requires free { BOUND ≡ false → task.until ≡ None }
-    requires fixed { WAY ≡ false → (task.early ≡ true) × (task.first ≡ 1) }
+    requires fixed { WAY ≡ false → task.first ≡ 1 }
     ensures ran { (u : Option (List ℕ)) → IsSeenBy BOUND u (option_map (λ u. u.now) task.entry.until) task.entry.first
         task.entry.steps position.old.puzzle stack.old.levels →
-        RunsTo BOUND (not task.entry.early) task.entry.first u (option_map (λ u. u.now) task.entry.until)
+        RunsTo BOUND task.entry.first u (option_map (λ u. u.now) task.entry.until)
         position.old stack.old task.entry.over task.entry.steps
         result.stop position.new stack.new result.more result.steps }
     ensures stands_pays { result.stop ≡ Stop.Member → task.entry.first ≡ 1 →
@@ -411,14 +393,14 @@ pub fn run<'u, D: Dance, const BOUND: bool, const WAY: bool>(
     ensures moved { result.stop ≡ Stop.Nothing → 0 < moves_made position.new }
 {
     let task = fixed::<WAY>(task);
-    let (until, early, first) = (task.until, task.early, task.first);
+    let (until, first) = (task.until, task.first);
     let (mut more, mut steps) = (task.over, task.steps);
     let mut last = usize::MAX;
     if BOUND && steps == 0 {
         return halted(Stop::Steps, more, steps);
     }
     loop {
-        match enter_branch::<D, WAY>(position, stack, early, first, &mut more, &mut last) {
+        match enter_branch::<D, WAY>(position, stack, first, &mut more, &mut last) {
             Next::Branch(at) => position.commit_branch::<WAY>(at.item, at.place as u32),
             Next::Solution => return halted(Stop::Member, more, steps),
             Next::Nothing => return halted(Stop::Nothing, more, steps),

@@ -1,12 +1,11 @@
 //! A search of a span: of the members from one row of numbers on and before another.
-ghost use Rattle.std.specs.Prelude.{ℕ, ◌≡◌, ◌≢◌, ◌+◌, ◌*◌, ◌-◌, ◌^◌, ◌<◌, ◌≤◌, ◌⊎◌, List, [], ◌∷◌, ◌++◌, length, map};
-ghost use Rattle.std.specs.Prelude.{true, false, if◌then◌else◌, Some, None, IfSome, IsSome, IsSomeAnd, IfOk, IfErr};
+ghost use Rattle.std.specs.Prelude.{◌≡◌, ◌≢◌, ◌+◌, ◌*◌, ◌-◌, ◌^◌, ◌<◌, ◌≤◌, [], ◌∷◌, ◌++◌, length, map};
+ghost use Rattle.std.specs.Prelude.{true, false, if◌then◌else◌, Some, None, IfSome, IsSome, IfOk, IfErr};
 ghost use Rattle.std.specs.Prelude.{option_map, option_and_then, slice_get};
-ghost use Rattle.xc_search.specs.Outlook.{shown_after};
 ghost use Rattle.xc_search.specs.Room.{room_for};
 ghost use Rattle.xc_search.specs.Listing.{whole};
 ghost use Rattle.xc_search.specs.Spans.{precedes, is_before, between};
-ghost use Rattle.xc_search.specs.InSpan.{left_of, reached, branches_along, MovesFew};
+ghost use Rattle.xc_search.specs.InSpan.{left_of, reached, branches_along};
 ghost use Rattle.xc_search.specs.Nodes.{IsRowOf};
 ghost use Rattle.xc_search.specs.Going.{WentOnBy};
 ghost use Rattle.xc_dance.specs.Dancing.{moves_made};
@@ -95,8 +94,6 @@ pub struct Span<'a, D: Dance> {
     ended: bool,
     until: Option<&'a [u32]>,
     choices: Vec<Choice>,
-    /// Memory for a row of the levels.
-    numbers: Vec<u32>,
 }
 
 impl<'a, D: Dance> Model for Span<'a, D> {
@@ -130,7 +127,6 @@ impl<'a, D: Dance> Model for Span<'a, D> {
           is_before (option_map (λ u. u.now) s.until) (row_at s.state.position.puzzle s.state.stack.levels) ≡ true;
       levels_fit : s.state.stack.room ≡ most_levels s.state.position.puzzle;
       choices_fit : vec_capacity s.choices ≡ most_levels s.state.position.puzzle;
-      numbers_fit : vec_capacity s.numbers ≡ most_levels s.state.position.puzzle;
     } };
 }
 
@@ -160,7 +156,7 @@ impl<'a, D: Dance> Span<'a, D> {
           made = s.made;
           begun = s.begun;
         }) }
-        ensures way { IfOk result (λ s. s.begun ≤ 2 * length from.now) }
+        ensures way { IfOk result (λ s. s.begun ≤ length from.now + 1) }
         ensures moves { IfOk result (λ s.
             s.made ≤ moves_made (D.state dance) + room_for problem.now.puzzle * (s.begun + 2)) }
         ensures left { IfOk result (λ s. left_of s ≡ between problem.now.puzzle from.now s.until) }
@@ -171,9 +167,6 @@ impl<'a, D: Dance> Span<'a, D> {
     {
         let most = most_levels(problem);
         let Ok(choices) = Vec::with_capacity(alloc, most) else {
-            return Err((dance, Memory));
-        };
-        let Ok(numbers) = Vec::with_capacity(alloc, most) else {
             return Err((dance, Memory));
         };
         let Ok(stack) = Stack::new(alloc, most) else {
@@ -189,7 +182,6 @@ impl<'a, D: Dance> Span<'a, D> {
             ended: !reached || !within,
             until,
             choices,
-            numbers,
         })
     }
 
@@ -240,7 +232,7 @@ impl<'a, D: Dance> Span<'a, D> {
     {
         // Where it is at a solution, it finds that one again.
         let over = if self.unsearched { many - 1 } else { many };
-        let ran = go_over(&mut self.state, &mut self.numbers, self.until, over, steps);
+        let ran = go_over(&mut self.state, self.until, over, steps);
         let taken = steps - ran.steps;
         match ran.stop {
             Stop::Member => {
@@ -318,7 +310,6 @@ impl<'a, D: Dance> Span<'a, D> {
             ended: _,
             until: _,
             choices: _,
-            numbers: _,
         } = self;
         let State {
             mut position,

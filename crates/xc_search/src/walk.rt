@@ -277,7 +277,6 @@ impl<'a, D: Dance> Standing<'a, D> {
             &mut stack,
             Task {
                 until: None,
-                early: true,
                 first: 1,
                 over: more,
                 steps: 0,

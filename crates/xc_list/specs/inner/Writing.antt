@@ -13,7 +13,7 @@ use Rattle.xc_search.specs.declared.choice.Choice.{Choice}
 use Rattle.xc_search.specs.Outlook.{Outlook}
 use Rattle.xc_search.specs.Listing.{whole}
 use Rattle.xc_search.specs.Spans.{precedes, between}
-use Rattle.xc_search.specs.Nodes.{IsRowOf, longest_row}
+use Rattle.xc_search.specs.Nodes.{IsRowOf}
 use Rattle.xc_search.specs.Room.{room_for}
 use Rattle.xc_search.specs.InSpan.{InSpan, left_of, row_or_end, branches_along}
 use Rattle.xc_search.specs.declared.span.Halt.{Halt}
@@ -228,4 +228,4 @@ SpanWritten a asked old new r = MatchResult r (λ went. OfSpan a asked went Took
 -- From s to n a search that was asked so often to go on took so many steps, and few moves.
 pub record GoesFew (calls steps : ℕ) (s n : InSpan) : Type 0 where
   pub moves : n.made + room_for s.puzzle * s.begun ≤ s.made + room_for s.puzzle * (n.begun + 2 * calls)
-  pub begun : n.begun ≤ s.begun + steps + longest_row s.puzzle * calls
+  pub begun : n.begun ≤ s.begun + steps + calls

@@ -6,7 +6,7 @@ use Rattle.xc_dance.specs.declared.dance.Move.{Move}
 use Rattle.xc_dance.specs.Dancing.{Dancing, moves_made}
 use Rattle.xc_dance.specs.Commits.{option_at}
 use Rattle.xc_search.specs.inner.Levels.{size_of, residual_of, oldest, Levels, IsStanding, coming, choices_of}
-use Rattle.xc_search.specs.inner.Levels.{branches_at, IsPlace, CanBranch, after_branch, IsEarlyChoice, chosen}
+use Rattle.xc_search.specs.inner.Levels.{branches_at, IsPlace, CanBranch, after_branch, chosen}
 use Rattle.xc_search.specs.declared.level.Level.{Level}
 use Rattle.xc_search.specs.Listing.{Residual, Branch, Wanted, branch_count, branch_item, level, listing}
 use Rattle.xc_search.specs.Outlook.{shown_after}
@@ -124,21 +124,19 @@ pub record IsStuck (r : Residual) : Type 0 where
   pub sound : item.low ≤ item.high
   pub without : branch_count r item ≡ 0
 
--- exactly: item i is the branch item; else it lists what is left, and is the branch item where each item has branches
+-- exactly: item i is the branch item; else it lists what is left, and is the branch item, or has one branch at most
+-- where some item has none
 abbrev pub MayLead : Bool → Puzzle → List Move → ℕ → Type 0
 MayLead true p t i = IsBranchItem p t i
 MayLead false p t i =
     (listing (residual_of p t) ≡ level listing (Some (wanted_at p t i)) (residual_of p t))
-    × (IsBranchItem p t i ⊎ IsStuck (residual_of p t))
-
--- the branch item was chosen; or else an early choice was made
-abbrev pub IsChosenBy : Bool → Puzzle → List Move → Option (ℕ × ℕ) → Type 0
-IsChosenBy true p t o = o ≡ choice_after p t
-IsChosenBy false p t o = IsEarlyChoice p t o
+    × (IsBranchItem p t i
+    ⊎ (IsStuck (residual_of p t) × (branch_count (residual_of p t) (wanted_at p t i) ≤ 1)))
 
 -- the level's newest branch is one of an item that may lead, and leaves what the moves t leave
 pub record IsLed (exact : Bool) (p : Puzzle) (t : List Move) (l : Level) : Type 0 where
   pub leads : MayLead exact p (oldest l.mark t) l.item
+  pub some : 0 < l.begun
   pub branch : Branch
   pub at : slice_get (branches_at p (oldest l.mark t) l.item) (l.begun - 1) ≡ Some branch
   pub choice : chosen p l ≡ branch.choice
@@ -154,9 +152,14 @@ abbrev pub AreLed : Puzzle → List Move → List Move → List Level → Type 0
 AreLed p u t ls = AreLedBy true p u t ls
 
 -- Where levels ls led to state d, levels ks lead to state e from the same moves.
-abbrev pub KeepsBy : Bool → Dancing → Levels → Dancing → Levels → Type 0
-KeepsBy exact d ls e ks =
-    (u : List Move) → AreLedBy exact d.puzzle u d.trail ls.levels → AreLedBy exact e.puzzle u e.trail ks.levels
+abbrev pub KeepsPath : Dancing → Levels → Dancing → Levels → Type 0
+KeepsPath d ls e ks =
+    (u : List Move) → AreLedBy false d.puzzle u d.trail ls.levels → AreLedBy false e.puzzle u e.trail ks.levels
+
+-- And levels ks are of the branch items alone.
+abbrev pub KeepsToItems : Dancing → Levels → Dancing → Levels → Type 0
+KeepsToItems d ls e ks =
+    (u : List Move) → AreLedBy false d.puzzle u d.trail ls.levels → AreLed e.puzzle u e.trail ks.levels
 
 -- the numbers of the levels' branches, from the first level down
 abbrev pub numbers : List Level → List ℕ

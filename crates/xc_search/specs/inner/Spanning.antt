@@ -11,11 +11,10 @@ use Rattle.xc_input.specs.Problem.{Puzzle}
 use Rattle.xc_dance.specs.Dancing.{Dancing, moves_made}
 use Rattle.xc_search.specs.Room.{room_for}
 use Rattle.xc_dance.specs.Commits.{option_at}
-use Rattle.xc_search.specs.Nodes.{longest_row}
 use Rattle.xc_search.specs.Spans.{row_of, precedes, is_before, between}
 use Rattle.xc_search.specs.inner.Levels.{Levels, IsStanding, AreStacked, IsPlace, CanBranch, choices_of, coming}
 use Rattle.xc_search.specs.inner.Levels.{most_levels}
-use Rattle.xc_search.specs.inner.Ahead.{IsSolved, work_left, branched, AreLed, AreLedBy, KeepsBy, AreLater, numbers}
+use Rattle.xc_search.specs.inner.Ahead.{IsSolved, work_left, branched, AreLed, AreLedBy, KeepsPath, AreLater, numbers}
 
 -- the row of the levels
 abbrev pub row_at : Puzzle → List Level → List ℕ
@@ -52,11 +51,11 @@ pub record PassesOver (first : ℕ) (until : Option (List ℕ)) (m n : ℕ) (ms 
   pub count : first ≡ 1 → m ≡ length passed + n
 
 -- Nothing is left below the levels ls in state d, and the search is at them, as levels ks, in state e.
-pub record Falls (exact : Bool) (first : ℕ) (until : Option (List ℕ)) (d : Dancing) (ls : Levels) (m : ℕ) (e : Dancing)
+pub record Falls (first : ℕ) (until : Option (List ℕ)) (d : Dancing) (ls : Levels) (m : ℕ) (e : Dancing)
     (ks : Levels) (n : ℕ) : Type 0 where
   pub still : (e ≡ record d { trail = e.trail; undone = e.undone }) × (ks ≡ ls)
   pub standing : IsStanding e.puzzle e.trail ks.levels false
-  pub path : KeepsBy exact d ls e ks
+  pub path : KeepsPath d ls e ks
   pub less : work_left e ks false ≤ work_left d ls true
   pub over : PassesOver first until m n (coming d.puzzle d.trail ls.levels true)
       (coming e.puzzle e.trail ks.levels false)
@@ -68,12 +67,12 @@ GoesDown first ls ks =
     (length ks.levels ≤ length ls.levels) ⊎ (numbers ks.levels ≡ numbers ls.levels ++ first ∷ [])
 
 -- From levels ls in state d it began a branch.
-pub record BeginsBranch (exact : Bool) (first : ℕ) (until : Option (List ℕ)) (d : Dancing) (ls : Levels) (m : ℕ)
+pub record BeginsBranch (first : ℕ) (until : Option (List ℕ)) (d : Dancing) (ls : Levels) (m : ℕ)
     (e : Dancing) (ks : Levels) (n : ℕ) : Type 0 where
   pub still : (e ≡ record d { trail = e.trail; undone = e.undone })
       × (ks ≡ record ls { levels = ks.levels; begun = ks.begun })
   pub standing : IsStanding e.puzzle e.trail ks.levels true
-  pub path : KeepsBy exact d ls e ks
+  pub path : KeepsPath d ls e ks
   pub rises : AreLater ls ks
   pub down : GoesDown first ls ks
   pub less : work_left e ks true < work_left d ls true
@@ -84,11 +83,11 @@ pub record BeginsBranch (exact : Bool) (first : ℕ) (until : Option (List ℕ))
   pub undone : e.undone ≤ d.undone + room_for d.puzzle
 
 -- It entered a branch, whose moves are still to be made.
-pub record Enters (exact : Bool) (first : ℕ) (until : Option (List ℕ)) (d : Dancing) (ls : Levels) (m : ℕ) (e : Dancing)
+pub record Enters (first : ℕ) (until : Option (List ℕ)) (d : Dancing) (ls : Levels) (m : ℕ) (e : Dancing)
     (ks : Levels) (n i q : ℕ) : Type 0 where
   pub can : CanBranch e.puzzle i (option_at e.puzzle i q) e.trail
   pub place : IsPlace e.puzzle i q
-  pub begins : BeginsBranch exact first until d ls m (branched e i q) ks n
+  pub begins : BeginsBranch first until d ls m (branched e i q) ks n
 
 -- All levels ended.
 pub record Ends (first : ℕ) (until : Option (List ℕ)) (d : Dancing) (ls : Levels) (m : ℕ) (e : Dancing)
@@ -100,12 +99,12 @@ pub record Ends (first : ℕ) (until : Option (List ℕ)) (d : Dancing) (ls : Le
 
 -- From levels ls in state d it began so many branches, and is at levels ks in state e, where what is left wasn't
 -- looked at yet.
-pub record Stands (exact : Bool) (first : ℕ) (until : Option (List ℕ)) (d : Dancing) (ls : Levels) (m : ℕ) (e : Dancing)
+pub record Stands (first : ℕ) (until : Option (List ℕ)) (d : Dancing) (ls : Levels) (m : ℕ) (e : Dancing)
     (ks : Levels) (n begun : ℕ) : Type 0 where
   pub still : (e ≡ record d { trail = e.trail; undone = e.undone })
       × (ks ≡ record ls { levels = ks.levels; begun = ks.begun })
   pub standing : IsStanding e.puzzle e.trail ks.levels true
-  pub path : KeepsBy exact d ls e ks
+  pub path : KeepsPath d ls e ks
   pub over : PassesOver first until m n (coming d.puzzle d.trail ls.levels true)
       (coming e.puzzle e.trail ks.levels true)
   pub same : begun ≡ 0 → (e ≡ d) × (ks ≡ ls) × (n ≡ m)
@@ -120,11 +119,11 @@ IsSeenBy bound u until first steps p ls =
     (u ≡ until) ⊎ ((bound ≡ true) × (steps ≡ 1) × (is_before u (row_at p ls) ≡ true) × LeavesOut u p ls first)
 
 -- One run came so far: it began so many branches, no more than it was to, if that is bound.
-pub record RunsTo (bound exact : Bool) (first : ℕ) (u until : Option (List ℕ)) (d : Dancing) (ls : Levels) (m most : ℕ)
+pub record RunsTo (bound : Bool) (first : ℕ) (u until : Option (List ℕ)) (d : Dancing) (ls : Levels) (m most : ℕ)
     (stop : Stop) (e : Dancing) (ks : Levels) (n steps : ℕ) : Type 0 where
   pub begun : ℕ
   pub bounded : bound ≡ true → begun + steps ≡ most
-  pub stands : stop ≢ Nothing → Stands exact first u d ls m e ks n begun
+  pub stands : stop ≢ Nothing → Stands first u d ls m e ks n begun
   pub before : (stop ≡ Member) ⊎ (stop ≡ Steps) → is_before until (row_at e.puzzle ks.levels) ≡ true
   pub solved : stop ≡ Member → (n ≡ 0) × IsSolved e.puzzle e.trail ks.levels
   pub ran_out : stop ≡ Steps → (bound ≡ true) × (steps ≡ 0)
@@ -134,10 +133,10 @@ pub record RunsTo (bound exact : Bool) (first : ℕ) (u until : Option (List ℕ
   pub made : moves_made e ≤ d.undone + room_for d.puzzle * (begun + 1)
 
 -- Seen against each end that it may be seen against, one run came so far.
-abbrev pub Runs : Bool → Bool → ℕ → Option (List ℕ) → Dancing → Levels → ℕ → ℕ → Dancing → Levels → Ran → Type 0
-Runs bound exact first until d ls m most e ks ran =
+abbrev pub Runs : Bool → ℕ → Option (List ℕ) → Dancing → Levels → ℕ → ℕ → Dancing → Levels → Ran → Type 0
+Runs bound first until d ls m most e ks ran =
     (u : Option (List ℕ)) → IsSeenBy bound u until first most d.puzzle ls.levels
-    → RunsTo bound exact first u until d ls m most ran.stop e ks ran.more ran.steps
+    → RunsTo bound first u until d ls m most ran.stop e ks ran.more ran.steps
 
 -- A run may begin at levels ls in state d.
 pub record CanRun (until : Option (List ℕ)) (d : Dancing) (ls : Levels) : Type 0 where
@@ -152,16 +151,17 @@ pub record CanGoTo (d : Dancing) (ls : Levels) : Type 0 where
   pub none : ls.levels ≡ []
   pub unmoved : d.trail ≡ []
 
--- On so many ways to a row it began branches, so many at most on each.
-pub record TakesWays (ways most : ℕ) (d : Dancing) (ls : Levels) (e : Dancing) (ks : Levels) : Type 0 where
+-- It began no more than so many branches, and for each of them and for each of so many ways it made no more moves than
+-- can be on the trail at once.
+pub record TakesWay (ways most : ℕ) (d : Dancing) (ls : Levels) (e : Dancing) (ks : Levels) : Type 0 where
   pub begun : ℕ
   pub counted : ks.begun ≡ ls.begun + begun
-  pub few : begun ≤ ways * most
+  pub few : begun ≤ most
   pub made : moves_made e ≤ moves_made d + room_for d.puzzle * (begun + ways)
 
--- By so many ways it came to a row that doesn't come before this one, with no member from it on between. Or no such row
--- was found, and no member from it on was to come.
-pub record Reaches (exact : Bool) (ways : ℕ) (from : List ℕ) (d : Dancing) (ls : Levels) (e : Dancing) (ks : Levels)
+-- It came to a row that doesn't come before this one, with no member from it on between, and by so many branches more
+-- than that has numbers. Or no such row was found, and no member from it on was to come.
+pub record Reaches (exact : Bool) (more : ℕ) (from : List ℕ) (d : Dancing) (ls : Levels) (e : Dancing) (ks : Levels)
     (found : Bool) : Type 0 where
   pub still : (e ≡ record d { trail = e.trail; undone = e.undone })
       × (ks ≡ record ls { levels = ks.levels; begun = ks.begun })
@@ -172,10 +172,10 @@ pub record Reaches (exact : Bool) (ways : ℕ) (from : List ℕ) (d : Dancing) (
   pub kept : found ≡ true → from_on from (coming d.puzzle d.trail ls.levels true)
       ≡ from_on from (coming e.puzzle e.trail ks.levels true)
   pub none : found ≡ false → from_on from (coming d.puzzle d.trail ls.levels true) ≡ []
-  pub way : TakesWays ways (length from) d ls e ks
+  pub way : TakesWay (1 + more) (length from + more) d ls e ks
 
--- From the row of levels ls in state d it went back to the first level, and is at that row or at the next one of
--- the search's tree, with no member between. Or no such row was found, and no member was to come.
+-- From the row of levels ls in state d it came to that row or to the next one of the search's tree, with no member
+-- between. Or no such row was found, and no member was to come.
 pub record Settles (d : Dancing) (ls : Levels) (e : Dancing) (ks : Levels) (found : Bool) : Type 0 where
   pub still : (e ≡ record d { trail = e.trail; undone = e.undone })
       × (ks ≡ record ls { levels = ks.levels; begun = ks.begun })
@@ -185,7 +185,7 @@ pub record Settles (d : Dancing) (ls : Levels) (e : Dancing) (ks : Levels) (foun
   pub row : found ≡ true → precedes (numbers ks.levels) (numbers ls.levels) ≡ false
   pub members : found ≡ true → coming d.puzzle d.trail ls.levels true ≡ coming e.puzzle e.trail ks.levels true
   pub none : found ≡ false → coming d.puzzle d.trail ls.levels true ≡ []
-  pub way : TakesWays 1 (length ls.levels) d ls e ks
+  pub way : TakesWay 1 1 d ls e ks
 
 -- From levels ls in state d it began so many branches, and halts at levels ks in state e, at a row of the search's
 -- tree.
@@ -218,9 +218,9 @@ pub record RanTo (d : Dancing) (ls : Levels) (m most : ℕ) (until : Option (Lis
   pub solved : stop ≡ Member → (n ≡ 0) × IsSolved e.puzzle e.trail ks.levels
   pub ran_out : stop ≡ Steps → steps ≡ 0
   pub ended : (stop ≡ Row) ⊎ (stop ≡ Nothing) → EndsSpan d ls m until e ks n
-  -- so many it began again on its way back
-  pub again : ℕ
-  pub counted : ks.begun ≡ ls.begun + begun + again
-  pub few : again ≤ longest_row d.puzzle
-  pub none : 0 < steps → again ≡ 0
-  pub made : moves_made e ≤ moves_made d + room_for d.puzzle * (begun + again + 2)
+  -- and one more at most, to come to a row of the search's tree
+  pub more : ℕ
+  pub counted : ks.begun ≡ ls.begun + begun + more
+  pub few : more ≤ 1
+  pub none : 0 < steps → more ≡ 0
+  pub made : moves_made e ≤ moves_made d + room_for d.puzzle * (begun + more + 2)

@@ -1,5 +1,5 @@
 use Rattle.std.proofs.Common.{arith, ◌≡◌, refl, ap}
-use Rattle.xc_search.proofs.BranchLemmas.{opens_moved, chosen_leads}
+use Rattle.xc_search.proofs.BranchLemmas.{opens_moved, early_leads}
 use Rattle.xc_search.proofs.MoveLemmas.{plain_above, plain_after_spend}
 use Rattle.xc_search.proofs.LoopSteps.{depth_at, Opens, node_at, deepens}
 use Rattle.xc_search.proofs.SpanHalts.{opens_stays, may_go_on, step_on, stays_on, enters_at, ends_at_once}
@@ -29,9 +29,9 @@ pub undo_to-requires-clause-other : goal.undo_to-requires-clause-other
 undo_to-requires-clause-other g c = grind (arith, opened, plain_above, plain_after_spend, deepens)
 
 pub returns-then-count-first-clause-nothing : goal.returns-then-count-first-clause-nothing
-returns-then-count-first-clause-nothing g c _ x until leaves m =
+returns-then-count-first-clause-nothing g c _ until leaves m =
     ends_at_once (opened g (goal.at.returns-then-count-first-clause-nothing g c).After-descend-level)
-    c.undo_to.new.self c.undo_to.ensures x c.args.first until m c.if-count-first.true leaves
+    c.undo_to.new.self c.undo_to.ensures c.args.first until m c.if-count-first.true leaves
 
 pub returns-then-count-first-clause-nothing_pays : goal.returns-then-count-first-clause-nothing_pays
 returns-then-count-first-clause-nothing_pays g c _ one m =
@@ -81,13 +81,13 @@ loop-level-preserved g c =
     }
 
 pub returns-clause-deeper : goal.returns-clause-deeper
-returns-clause-deeper g c b is x chose until leaves m =
+returns-clause-deeper g c b is chose until leaves m =
     let some = (goal.at.returns-clause-deeper g c).In-Some in
     let here = c.requires.standing.searchable refl in
-    let leads = chosen_leads x _ _ _ _ here.valid here.legal (rw some.in-Some.is at chose) in
+    let leads = early_leads _ _ _ _ here.valid here.legal (rw some.in-Some.is at chose) in
     let open_at = opened g (goal.at.returns-clause-deeper g c).After-descend-level in
     let was = c.loop-level.invariant in
-    rw (← same_branch _ b is) (enters_at was.step c.push.new.self c.push.ensures x c.args.first until m open_at.next
+    rw (← same_branch _ b is) (enters_at was.step c.push.new.self c.push.ensures c.args.first until m open_at.next
     leads (omega (arith, was.within, c.loop-level-test.false)) leaves)
 
 pub returns-clause-deeper_pays : goal.returns-clause-deeper_pays

@@ -28,7 +28,7 @@ resume-requires g c = record {
 pub returns-in-Some-clause-entered : goal.returns-in-Some-clause-entered
 returns-in-Some-clause-entered g c b is until rest =
     rw (← same_entered _ b is) (enters_back (c.go_below.ensures.back c.in-Nothing.is until rest)
-    c.in-Some.ensures.resumed (c.in-Some.ensures.resumed_path _) c.in-Some.ensures.resumed_row
+    c.in-Some.ensures.resumed c.in-Some.ensures.resumed_path c.in-Some.ensures.resumed_row
     c.in-Some.ensures.resumed_levels)
 
 pub returns-in-Some-clause-entered_pays : goal.returns-in-Some-clause-entered_pays

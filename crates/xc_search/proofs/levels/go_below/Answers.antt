@@ -1,17 +1,17 @@
-use Rattle.std.proofs.Common.{arith, ◌≡◌, ◌∙◌, not, refl}
+use Rattle.std.proofs.Common.{arith, ◌≡◌, ◌∙◌, refl}
 use Rattle.std.proofs.lemmas.List.{length-reverse}
-use Rattle.xc_search.proofs.BranchLemmas.{levels_moved, solved_moved, chosen_next, chosen_early}
+use Rattle.xc_search.proofs.BranchLemmas.{levels_moved, solved_moved, early_next}
 use Rattle.xc_search.proofs.LoopSteps.{solution}
 use Rattle.xc_search.proofs.SpanHalts.{falls_over}
 use Rattle.xc_search.proofs.SpanSteps.{over_below, over_one}
 use Rattle.xc_search.proofs.EndLemmas.{pays_over, pays_one}
 use Rattle.xc_search.proofs.levels.go_below.Goals as goal
-use Rattle.xc_search.proofs.levels.go_below.Goals.{After-choose_by-next}
+use Rattle.xc_search.proofs.levels.go_below.Goals.{After-choose_early-next}
 
 pub returns-then-skip_rest-clause-back : goal.returns-then-skip_rest-clause-back
 returns-then-skip_rest-clause-back g c _ until is =
     let d = c.args.position.now in
-    falls_over (not c.args.early) c.args.first until d c.args.stack.now _ _ c.requires.standing
+    falls_over c.args.first until d c.args.stack.now _ _ c.requires.standing
     (over_below until d.puzzle d.trail c.args.stack.now.levels c.args.last.now c.args.first _ _ is
     (grind (arith, length-reverse)) (grind (arith, length-reverse))
     (c.skip_rest.ensures.skipped c.if-skip_rest.true))
@@ -23,42 +23,42 @@ returns-then-skip_rest-clause-back_pays g c _ _ =
 pub deepen-requires-clause-next : goal.deepen-requires-clause-next
 deepen-requires-clause-next g c =
     let here = c.requires.standing.searchable refl in
-    chosen_next (not c.args.early) _ _ _ here.valid here.legal c.choose_by-next.ensures.choice
+    early_next _ _ _ here.valid here.legal c.choose_early-next.ensures.choice
 
 -- where the last choice wasn't counted, as many are to be passed over
-as_many : (g : _) (c : After-choose_by-next g) → c.else-levels-last.more ≡ c.args.more.now
+as_many : (g : _) (c : After-choose_early-next g) → c.else-levels-last.more ≡ c.args.more.now
 as_many g c = grind (arith)
 
 pub returns-in-Branch-clause-entered : goal.returns-in-Branch-clause-entered
 returns-in-Branch-clause-entered g c b is until rest =
-    rw (as_many g (goal.at.returns-in-Branch-clause-entered g c).After-choose_by-next)
-    (c.deepen.ensures.deeper b (c.in-Branch.is ∙ is) (not c.args.early) c.choose_by-next.ensures.choice until
+    rw (as_many g (goal.at.returns-in-Branch-clause-entered g c).After-choose_early-next)
+    (c.deepen.ensures.deeper b (c.in-Branch.is ∙ is) c.choose_early-next.ensures.choice until
     rest.leaves c.args.more.now)
 
 pub returns-in-Branch-clause-entered_pays : goal.returns-in-Branch-clause-entered_pays
 returns-in-Branch-clause-entered_pays g c b is one =
-    rw (as_many g (goal.at.returns-in-Branch-clause-entered_pays g c).After-choose_by-next)
+    rw (as_many g (goal.at.returns-in-Branch-clause-entered_pays g c).After-choose_early-next)
     (c.deepen.ensures.deeper_pays b (c.in-Branch.is ∙ is) one
-    (chosen_early (not c.args.early) _ _ _ c.choose_by-next.ensures.choice) c.args.more.now)
+    c.choose_early-next.ensures.choice c.args.more.now)
 
 pub returns-in-Nothing-clause-back : goal.returns-in-Nothing-clause-back
 returns-in-Nothing-clause-back g c _ until rest =
-    rw (as_many g (goal.at.returns-in-Nothing-clause-back g c).After-choose_by-next)
-    (c.deepen.ensures.nothing c.in-Nothing.is (not c.args.early) until rest.leaves c.args.more.now)
+    rw (as_many g (goal.at.returns-in-Nothing-clause-back g c).After-choose_early-next)
+    (c.deepen.ensures.nothing c.in-Nothing.is until rest.leaves c.args.more.now)
 
 pub returns-in-Nothing-clause-back_pays : goal.returns-in-Nothing-clause-back_pays
 returns-in-Nothing-clause-back_pays g c _ one =
-    rw (as_many g (goal.at.returns-in-Nothing-clause-back_pays g c).After-choose_by-next)
+    rw (as_many g (goal.at.returns-in-Nothing-clause-back_pays g c).After-choose_early-next)
     (c.deepen.ensures.nothing_pays c.in-Nothing.is one c.args.more.now)
 
 pub returns-else-more-eq0-clause-back : goal.returns-else-more-eq0-clause-back
 returns-else-more-eq0-clause-back g c _ until is =
-    let same = as_many g (goal.at.returns-else-more-eq0-clause-back g c).After-choose_by-next in
+    let same = as_many g (goal.at.returns-else-more-eq0-clause-back g c).After-choose_early-next in
     let d = c.args.position.now in
     let here = c.deepen.ensures.same c.in-Solution.is in
     let none = c.deepen.ensures.solved c.in-Solution.is in
     let one = solution d.puzzle d.trail c.args.stack.now.levels (c.requires.standing.searchable refl).legal none in
-    rw (here.0, here.1) (falls_over (not c.args.early) c.args.first until d c.args.stack.now _ _
+    rw (here.0, here.1) (falls_over c.args.first until d c.args.stack.now _ _
     c.requires.standing (over_one c.args.first until d.puzzle d.trail c.args.stack.now.levels c.args.last.now _ _
     is one (omega (arith, same, c.if-more-eq0.false))))
 

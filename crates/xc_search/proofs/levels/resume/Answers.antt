@@ -1,8 +1,8 @@
 use Rattle.xc_search.proofs.LoopSteps.{finished, GoesOn-trans, goes_on_to, unwound, enters_next}
-use Rattle.std.proofs.Common.{◌<◌, ◌≤◌, ◌∷◌, ◌∙◌, drop, false, refl, ap, arith}
+use Rattle.std.proofs.Common.{◌<◌, ◌≤◌, ◌∷◌, ◌∙◌, drop, true, false, refl, ap, arith}
 use Rattle.xc_search.specs.inner.Levels.{Levels, AreStacked}
 use Rattle.xc_search.specs.inner.Ahead.{GoesOn, visits}
-use Rattle.xc_search.proofs.SpanSteps.{oldest_all, oldest_fewer, rises_next, no_more_levels}
+use Rattle.xc_search.proofs.SpanSteps.{oldest_all, oldest_fewer, rises_next, no_more_levels, led_again}
 use Rattle.xc_search.proofs.EndLemmas.{Pays-trans, pays_next, pays_back}
 use Rattle.xc_search.proofs.levels.resume.Goals as goal
 use Rattle.xc_search.proofs.levels.resume.Goals.{In-Some, After-pop}
@@ -36,13 +36,22 @@ returns-then-level-clause-resumed g c =
     c.enter_next-branch.ensures.entered c.note_branch.ensures).0
 
 pub returns-then-level-clause-resumed_path : goal.returns-then-level-clause-resumed_path
-returns-then-level-clause-resumed_path g c = λ x u a.
+returns-then-level-clause-resumed_path g c = λ u a.
+    let led = rw c.in-Some.ensures.some at (c.loop-level.invariant.path u a) in
     (enters_next c.loop-level.position c.enter_next-branch.new.position c.in-Some.level.now c.enter_next-branch.result
     c.loop-level.stack c.note_branch.new.self c.loop-level.invariant.goes_on.standing.stacked c.in-Some.ensures.some
     c.enter_next-branch.ensures.still (omega (arith, c.enter_next-branch.ensures.undone))
-    c.enter_next-branch.ensures.entered c.note_branch.ensures).1 x u
-    (rw c.in-Some.ensures.some at (c.loop-level.invariant.path x u a)).0.leads
-    (rw c.in-Some.ensures.some at (c.loop-level.invariant.path x u a)).1
+    c.enter_next-branch.ensures.entered c.note_branch.ensures).1 false u led.0.leads led.1
+
+pub returns-then-level-clause-resumed_items : goal.returns-then-level-clause-resumed_items
+returns-then-level-clause-resumed_items g c = λ u a.
+    let level = (stacked g (goal.at.returns-then-level-clause-resumed_items g c).In-Some).0 in
+    let led = rw c.in-Some.ensures.some at (c.loop-level.invariant.path u a) in
+    let items = led_again _ u _ c.in-Some.level.now (drop 1 c.loop-level.stack.levels) level c.if-level.true led in
+    (enters_next c.loop-level.position c.enter_next-branch.new.position c.in-Some.level.now c.enter_next-branch.result
+    c.loop-level.stack c.note_branch.new.self c.loop-level.invariant.goes_on.standing.stacked c.in-Some.ensures.some
+    c.enter_next-branch.ensures.still (omega (arith, c.enter_next-branch.ensures.undone))
+    c.enter_next-branch.ensures.entered c.note_branch.ensures).1 true u items.0 items.1
 
 pub returns-then-level-clause-resumed_row : goal.returns-then-level-clause-resumed_row
 returns-then-level-clause-resumed_row g c = grind (arith, rises_next)
@@ -59,7 +68,7 @@ loop-level-preserved g c =
     let ended : c.in-Some.level.now.count ≤ c.in-Some.level.now.begun = omega (arith, c.if-level.false) in
     record {
       goes_on = GoesOn-trans _ _ _ _ _ _ _ _ _ is.goes_on (back g c).0;
-      path = λ x u a. grind arith;
+      path = λ u a. grind arith;
       oldest = oldest_fewer c.in-Some.level.now _ _ _ c.in-Some.ensures.some
           (ap (λ (s : Levels). s.levels) c.pop.ensures) is.oldest;
       pays = λ m. Pays-trans (is.pays m) (pays_back c.loop-level.position c.end_level.new.position

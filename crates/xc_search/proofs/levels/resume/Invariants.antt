@@ -1,6 +1,6 @@
-use Rattle.std.proofs.Common.{ℕ, ◌≡◌, ◌≤◌, Bool, false}
+use Rattle.std.proofs.Common.{ℕ, ◌≡◌, ◌≤◌, false}
 use Rattle.xc_dance.specs.Dancing.{moves_made}
-use Rattle.xc_search.specs.inner.Ahead.{visits, GoesOn, KeepsBy, Pays}
+use Rattle.xc_search.specs.inner.Ahead.{visits, GoesOn, KeepsPath, Pays}
 use Rattle.xc_search.proofs.SpanSteps.{IsOldest}
 use Rattle.xc_search.proofs.levels.resume.Given as goal
 
@@ -8,7 +8,7 @@ use Rattle.xc_search.proofs.levels.resume.Given as goal
 abbrev pub invariant-loop-level : goal.invariant-loop-level
 invariant-loop-level g l = record {
   goes_on : GoesOn l.initial.position l.initial.stack false l.position l.stack false;
-  path : (x : Bool) → KeepsBy x l.initial.position l.initial.stack l.position l.stack;
+  path : KeepsPath l.initial.position l.initial.stack l.position l.stack;
   oldest : IsOldest l.initial.stack l.stack;
   pays : (m : ℕ) → Pays l.initial.position l.initial.stack false m l.position l.stack false m;
   less : visits l.position.puzzle l.position.trail l.stack.levels ≤ visits l.initial.position.puzzle

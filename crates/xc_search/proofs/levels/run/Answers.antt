@@ -16,7 +16,7 @@ pub loop-at-init : goal.loop-at-init
 loop-at-init g c = record {
   begun = 0;
   count = λ _. omega arith;
-  stands = λ u _. stands_first (not c.fixed-task.result.early) c.fixed-task.result.first u _ _ _ c.requires.standing;
+  stands = λ u _. stands_first c.fixed-task.result.first u _ _ _ c.requires.standing;
   rest = rw c.fixed-task.ensures (by_option c.args.task.until
       (λ e. rw e (rest_of_all c.args.position.now.puzzle c.args.stack.now.levels _ _))
       (λ v e. first_rest _ _ _ _ _ c.requires.before (omega arith) (c.requires.all (rw e refl))));
@@ -47,7 +47,7 @@ module _ (g : _) (c : After-enter_branch g) where
 -- a branch was begun
 begins : (g : _) (c : After-commit_branch g) (u : Option (List ℕ))
     → IsRest u c.loop-at.position.puzzle c.loop-at.stack.levels c.loop-at.last c.fixed-task.result.first
-    → BeginsBranch (not c.fixed-task.result.early) c.fixed-task.result.first u
+    → BeginsBranch c.fixed-task.result.first u
     c.loop-at.position c.loop-at.stack c.loop-at.more
     c.commit_branch.new.self c.enter_branch.new.stack c.enter_branch.new.more
 begins g c u is =
@@ -166,7 +166,7 @@ pub returns-then-steps-eq0-clause-ran : goal.returns-then-steps-eq0-clause-ran
 returns-then-steps-eq0-clause-ran g c = rw (← c.fixed-task.ensures) (λ u is.
     let bound : not (nat_eq g.row.BOUND 0) ≡ true = grind (arith, nat_tests, c.if-this-ne0.true) in
     rw c.halted.ensures (runs_to_steps
-    (stands_first (not c.fixed-task.result.early) c.fixed-task.result.first u _ _ _ c.requires.standing)
+    (stands_first c.fixed-task.result.first u _ _ _ c.requires.standing)
     (λ _. omega arith) bound c.if-steps-eq0.true (rw c.fixed-task.ensures c.requires.before)))
 
 pub returns-then-steps-eq0-2-clause-ran : goal.returns-then-steps-eq0-2-clause-ran

@@ -11,7 +11,7 @@ invariant-loop-at g l = record {
   count : not (nat_eq g.row.BOUND 0) ≡ true → begun + l.steps ≡ l.initial.steps;
   stands : (u : Option (List ℕ)) → IsSeenBy (not (nat_eq g.row.BOUND 0)) u
       (option_map (λ u. u.now) l.initial.until) l.first
-      l.initial.steps l.initial.position.puzzle l.initial.stack.levels → Stands (not l.early) l.first u
+      l.initial.steps l.initial.position.puzzle l.initial.stack.levels → Stands l.first u
       l.initial.position l.initial.stack l.initial.more l.position l.stack l.more begun;
   rest : IsRest (option_map (λ u. u.now) l.initial.until) l.position.puzzle l.stack.levels l.last l.first;
   far : begun ≡ 0 → 2 ^ 64 - 1 ≤ l.last;

@@ -1,4 +1,4 @@
-use Rattle.std.proofs.Common.{◌∙◌, sym, ap, inl, inr, refl, [], false}
+use Rattle.std.proofs.Common.{◌∙◌, sym, ap, inl, inr, refl, []}
 use Rattle.std.specs.Prelude.{option_map}
 use Rattle.xc_search.specs.Spans.{is_before}
 use Rattle.xc_search.proofs.SpanSteps.{row_levels, led_by}
@@ -7,15 +7,15 @@ use Rattle.xc_search.proofs.spanning.go_over.Goals as goal
 
 pub replace_with-ran-requires : goal.replace_with-ran-requires
 replace_with-ran-requires g c =
-    (c.requires.can, (refl, refl))
+    (c.requires.can, refl)
 
 pub settle-requires-clause-led : goal.settle-requires-clause-led
 settle-requires-clause-led g c =
     let ran = c.replace_with-ran.ensures _ (inl refl) in
-    (ran.stands (λ e. absurd (cc (c.in-Steps.is, e)))).path [] (led_by false _ _ _ _ c.requires.led)
+    (ran.stands (λ e. absurd (cc (c.in-Steps.is, e)))).path [] (led_by _ _ _ _ c.requires.led)
 
-pub returns-in-Member-clause-ran : goal.returns-in-Member-clause-ran
-returns-in-Member-clause-ran g c =
+pub returns-in-Member : goal.returns-in-Member
+returns-in-Member g c =
     ran_to c.requires.led (c.replace_with-ran.ensures _ (inl refl)) (λ e. elim c.in-Member.is [
       | inl i ↦ absurd (cc (i, e))
       | inr j ↦ elim j [
@@ -24,26 +24,26 @@ returns-in-Member-clause-ran g c =
       ]
     ])
 
-pub returns-then-not-settle-clause-ran : goal.returns-then-not-settle-clause-ran
-returns-then-not-settle-clause-ran g c =
+pub returns-then-not-settle : goal.returns-then-not-settle
+returns-then-not-settle g c =
     settled_nowhere c.requires.led (c.replace_with-ran.ensures _ (inl refl)) c.in-Steps.is c.requires.some
-    c.settle.ensures.settles
+    c.settle.ensures
     c.if-not-settle.true
 
-pub returns-then-is_before-clause-ran : goal.returns-then-is_before-clause-ran
-returns-then-is_before-clause-ran g c =
+pub returns-then-is_before : goal.returns-then-is_before
+returns-then-is_before g c =
     let row = row_levels c.settle.new.state.position.puzzle c.levels.result.now c.settle.new.state.stack.levels
     c.levels.ensures.levels in
     settled c.requires.led (c.replace_with-ran.ensures _ (inl refl)) c.in-Steps.is c.requires.some
-    c.settle.ensures.settles
+    c.settle.ensures
     c.if-not-settle.false
     (ap (is_before (option_map (λ u. u.now) c.args.until)) (sym row) ∙ sym c.is_before.ensures ∙ c.if-is_before.true)
 
-pub returns-else-is_before-clause-ran : goal.returns-else-is_before-clause-ran
-returns-else-is_before-clause-ran g c =
+pub returns-else-is_before : goal.returns-else-is_before
+returns-else-is_before g c =
     let row = row_levels c.settle.new.state.position.puzzle c.levels.result.now c.settle.new.state.stack.levels
     c.levels.ensures.levels in
     settled_behind c.requires.led (c.replace_with-ran.ensures _ (inl refl)) c.in-Steps.is c.requires.some
-    c.settle.ensures.settles
+    c.settle.ensures
     c.if-not-settle.false
     (ap (is_before (option_map (λ u. u.now) c.args.until)) (sym row) ∙ sym c.is_before.ensures ∙ c.if-is_before.false)

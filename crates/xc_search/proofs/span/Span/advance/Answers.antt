@@ -26,13 +26,13 @@ module _ (g : _) (c : After-go_over-ran g) where
       c.args.steps (option_map (λ u. u.now) c.self.inside.until) c.go_over-ran.result.stop
       c.go_over-ran.new.state.position c.go_over-ran.new.state.stack c.go_over-ran.result.more
       c.go_over-ran.result.steps
-  ran = rw over at c.go_over-ran.ensures.ran
+  ran = rw over at c.go_over-ran.ensures
 
 pub show-requires-clause-shown : goal.show-requires-clause-shown
 show-requires-clause-shown g c =
     all_shown c.go_over-ran.new.state.position.puzzle c.go_over-ran.new.state.position.trail
     c.go_over-ran.new.state.stack.levels
-    (c.go_over-ran.ensures.ran.halts (inl c.in-Member.is)).standing.stacked
+    (c.go_over-ran.ensures.halts (inl c.in-Member.is)).standing.stacked
 
 pub overflow_sub-many-in-Row : goal.overflow_sub-many-in-Row
 overflow_sub-many-in-Row g c =

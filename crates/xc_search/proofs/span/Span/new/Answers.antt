@@ -80,7 +80,6 @@ invariant_of-result g c =
       before = λ h. sym (within g c) ∙ (open_at h).1;
       levels_fit = omega (arith, c.most_levels-most.ensures.value, room, most);
       choices_fit = omega (arith, c.most_levels-most.ensures.value, c.in-Ok.ensures.exact, most);
-      numbers_fit = omega (arith, c.most_levels-most.ensures.value, c.in-Ok-with_capacity.ensures.exact, most);
     }
 
 pub returns-clause-left : goal.returns-clause-left

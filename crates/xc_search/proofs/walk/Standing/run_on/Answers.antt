@@ -14,7 +14,7 @@ has : (g : _) (c : Joined-unsearched g) → HasToPass c.args.self.position.puzzl
     c.args.self.stack.levels c.args.self.unsearched c.args.many c.if-unsearched.more
 has g c = grind arith
 
-ran : (g : _) (c : After-run-ran g) → RunsTo false false 1 None None c.args.self.position c.args.self.stack
+ran : (g : _) (c : After-run-ran g) → RunsTo false 1 None None c.args.self.position c.args.self.stack
     c.if-unsearched.more 0 c.run-ran.result.stop c.run-ran.new.position c.run-ran.new.stack c.run-ran.result.more
     c.run-ran.result.steps
 ran g c = c.run-ran.ensures.ran None (inl refl)

@@ -1,6 +1,6 @@
 use Rattle.std.proofs.lemmas.Grind.{common_steps}
 use Rattle.std.proofs.lemmas.List.{length-reverse}
-use Rattle.std.proofs.Common.{ℕ, ◌≡◌, ◌+◌, ◌<◌, ◌⊎◌, Some, None, true, false, not, length, take, get_or}
+use Rattle.std.proofs.Common.{ℕ, ◌≡◌, ◌+◌, ◌<◌, ◌⊎◌, Some, None, true, false, length, take, get_or}
 use Rattle.std.proofs.Common.{refl, sym, ap, ◌∙◌, arith}
 use Rattle.xc_search.specs.Spans.{precedes}
 use Rattle.xc_search.specs.declared.levels.Stop.TheVariants.{Member, Steps, Row}
@@ -11,10 +11,10 @@ use Rattle.xc_search.proofs.SpanHalts.{IsNextNumber, next_number, seen_before, r
 use Rattle.xc_search.proofs.SpanHalts.{row_grows}
 use Rattle.xc_search.proofs.RowLemmas.{not_itself}
 use Rattle.xc_search.proofs.SpanRuns.{step_stands}
-use Rattle.xc_search.proofs.spanning.reach_by.Goals as goal
-use Rattle.xc_search.proofs.spanning.reach_by.Goals.{After-replace_with}
-use Rattle.xc_search.proofs.spanning.reach_by.Goals.{then-levels-via-then-levels}
-use Rattle.xc_search.proofs.spanning.reach_by.Goals.{then-levels-via-else-levels+then-number-eq0}
+use Rattle.xc_search.proofs.spanning.reach_early.Goals as goal
+use Rattle.xc_search.proofs.spanning.reach_early.Goals.{After-replace_with}
+use Rattle.xc_search.proofs.spanning.reach_early.Goals.{then-levels-via-then-levels}
+use Rattle.xc_search.proofs.spanning.reach_early.Goals.{then-levels-via-else-levels+then-number-eq0}
 
 module _ (g : _) (c : After-replace_with g) where
   abbrev number : ℕ
@@ -25,13 +25,13 @@ module _ (g : _) (c : After-replace_with g) where
       c.loop-number.invariant.row c.loop-number-test.true refl
       (λ h. omega (arith, h, c.max.ensures)) (λ h. omega (arith, h, c.max.ensures))
 
-  ran : RunsTo true (not c.args.early) c.max.result (Some c.args.from.now) None c.loop-number.state.position
+  ran : RunsTo true c.max.result (Some c.args.from.now) None c.loop-number.state.position
       c.loop-number.state.stack 1 1 c.replace_with.result.stop c.replace_with.new.dest.position
       c.replace_with.new.dest.stack c.replace_with.result.more c.replace_with.result.steps
   ran = c.replace_with.ensures (Some c.args.from.now) (seen_before next c.loop-number.state.position.puzzle)
 
   stands : (c.replace_with.result.stop ≡ Member) ⊎ ((c.replace_with.result.stop ≡ Steps)
-      ⊎ (c.replace_with.result.stop ≡ Row)) → Stands (not c.args.early) c.max.result (Some c.args.from.now)
+      ⊎ (c.replace_with.result.stop ≡ Row)) → Stands c.max.result (Some c.args.from.now)
       c.loop-number.state.position c.loop-number.state.stack 1 c.replace_with.new.dest.position
       c.replace_with.new.dest.stack c.replace_with.result.more 1
   stands is = step_stands ran is
@@ -98,8 +98,8 @@ returns g c =
 pub loop-number-init : goal.loop-number-init
 loop-number-init g c = record {
   begun = 0;
-  reaching = starts_reaching (not c.args.early) _ _ _ c.requires.start.standing
-      (led_nowhere (not c.args.early) _ c.requires.start.none c.requires.start.unmoved);
+  reaching = starts_reaching _ _ _ c.requires.start.standing
+      (led_nowhere _ c.requires.start.none c.requires.start.unmoved);
   row = rw c.requires.start.none refl;
   few = omega arith;
 }
