@@ -1,9 +1,9 @@
 //! A search that counts beside a sweep, turn by turn.
 //!
 //! How far the search has come tells about how much work it is: each branch of a level counts as much as another, as
-//! in the progress reports of Knuth's programs. On the benchmark's problems that is, after a tenth of the work, from a
-//! sixth of it to four times as much. While the sweep did little of this, it keeps pace with the search, so that it
-//! takes twice as long as alone where it ends first; from there on it adds hardly a state between two turns.
+//! in the progress reports of Knuth's programs. On sixteen problems of the benchmark that is, after a tenth of the
+//! work, from a sixth of it to four times as much. While the sweep did little of this, it keeps pace with the search,
+//! so that it takes twice as long as alone where it ends first; from there on it adds hardly a state between two turns.
 ghost use Rattle.std.specs.Prelude.{◌≡◌, length, IfOk};
 ghost use Rattle.xc_search.specs.Cover.{members};
 
@@ -23,9 +23,11 @@ use xc_search::{Halt, Span};
 pub const FIRST_WORK: u64 = 10_000_000;
 /// The work of a turn of the search, about.
 const TURN_WORK: u64 = 4_000_000;
+/// And more for each item and option. At its end a turn looks at the open items, and progress at each level.
+const LOOK_WORK: u64 = 50;
 /// The sweep keeps pace with the search until it did one of so many parts of what the search is expected to be.
 const PARTS: u64 = 12;
-/// The progress of a search that has ended.
+/// The progress of a search that has gone over all branches.
 const WHOLE: u64 = 1 << 60;
 /// By how much progress is rounded to tell the search's work.
 const GRAIN: u64 = 1 << 40;
@@ -50,6 +52,8 @@ pub struct Rival<'a> {
     option_work: u64,
     /// How many covers it has passed.
     passed: u64,
+    /// The work of a turn, about.
+    turn_work: u64,
     /// How many branches a turn begins.
     branches: u64,
     /// How much work the sweep does until the search has its next turn.
@@ -90,11 +94,18 @@ fn option_work(problem: &Problem) -> u64 {
     (SAMPLE * use_work).saturating_mul(uses) / u64::from(problem.options()).max(1)
 }
 
-/// How many branches the next turn begins, after one of so many that was so much work.
-fn next_branches(branches: u64, work: u64) -> u64 {
-    if work > TURN_WORK {
+/// The work of a turn of a search of this problem.
+fn turn_work(problem: &Problem) -> u64 {
+    let looks = u64::from(problem.items()) + u64::from(problem.options());
+    TURN_WORK + LOOK_WORK * looks
+}
+
+/// How many branches the next turn begins, after one of so many that was so much work, where a turn is to be about so
+/// much.
+fn next_branches(branches: u64, work: u64, turn_work: u64) -> u64 {
+    if work > turn_work {
         (branches / 2).max(1)
-    } else if work < TURN_WORK / 4 {
+    } else if work < turn_work / 4 {
         branches.saturating_mul(2)
     } else {
         branches
@@ -115,6 +126,7 @@ impl<'a> Rival<'a> {
             gone_over,
             option_work: option_work(problem),
             passed: 0,
+            turn_work: turn_work(problem),
             branches: FIRST_BRANCHES,
             left: FIRST_WORK,
             swept: FIRST_WORK,
@@ -134,7 +146,7 @@ impl<'a> Rival<'a> {
             .steps
             .saturating_mul(BRANCH_WORK)
             .saturating_add(options.saturating_mul(self.option_work));
-        self.branches = next_branches(self.branches, work);
+        self.branches = next_branches(self.branches, work, self.turn_work);
         self.done = self.done.saturating_add(work);
         (work, went.halt == Halt::End)
     }
@@ -145,9 +157,12 @@ impl<'a> Rival<'a> {
         let mut branch = WHOLE;
         let mut place = 0;
         while let Some(number) = self.span.number_at(place) {
-            branch /= u64::from(number.n).max(1);
-            let before = u64::from(number.k).saturating_sub(1);
-            passed = passed.saturating_add(branch.saturating_mul(before));
+            // Most levels of a deep search have one branch, and a division takes longer than all else here.
+            if number.n > 1 {
+                branch /= u64::from(number.n);
+                let before = u64::from(number.k).saturating_sub(1);
+                passed = passed.saturating_add(branch.saturating_mul(before));
+            }
             place += 1;
         }
         passed
@@ -208,6 +223,7 @@ impl<'a> Rival<'a> {
             gone_over: _,
             option_work: _,
             passed,
+            turn_work: _,
             branches: _,
             left: _,
             swept: _,
