@@ -74,6 +74,40 @@ fn are_found(alloc: Global, problem: &Problem) -> bool {
     false
 }
 
+/// Whether the first three solutions are found by their numbers.
+fn are_first_found(alloc: Global, problem: &Problem) -> bool {
+    let Ok(links) = Links::for_search(alloc, problem) else {
+        return false;
+    };
+    let Ok(mut search) = Search::begin(alloc, links, problem) else {
+        return false;
+    };
+    for number in 1..4u64 {
+        match search.next() {
+            Step::Done => return false,
+            Step::Solution => {
+                if !is_found(alloc, problem, number, Some(search.choices())) {
+                    return false;
+                }
+            }
+        }
+    }
+    true
+}
+
+#[test]
+fn the_first_solutions_of_many_items(rt: HostRuntime) {
+    let alloc = rt.alloc();
+    assert!(rt;
+        twenty_each(alloc, 201).is_some_and(|text| on_problem(
+            alloc,
+            Kind::Plain,
+            text.as_slice(),
+            |p| are_first_found(alloc, p)
+        ))
+    );
+}
+
 /// The solution of a number that is written in decimal.
 fn nth_of(alloc: Global, problem: &Problem, digits: &[u8]) -> Option<Option<Vec<Choice>>> {
     nth(alloc, problem, &parse(alloc, digits).ok()?, ROOMS[0]).ok()

@@ -1,6 +1,6 @@
 //! The solution of a number.
 
-ghost use Rattle.std.specs.Prelude.{◌≡◌, [], IfOk, option_map};
+ghost use Rattle.std.specs.Prelude.{◌≡◌, [], IfOk, IfSome, option_map};
 ghost use Rattle.xc_input.specs.Problem.{IsValid, numbered_get};
 ghost use Rattle.xc_search.specs.Cover.{members};
 ghost use Rattle.xc_count.specs.inner.Held.{HoldsOnce};
@@ -9,7 +9,7 @@ ghost use Rattle.xc_count.specs.inner.Plans.{IsPlan};
 use crate::branches::{branch_item, branch_with};
 use crate::counting::is_once;
 use crate::errors::CountError;
-use crate::passing::nth_by_search;
+use crate::passing::{nth_by_search, nth_in_steps};
 use crate::plan::Plan;
 use natural::Natural;
 use std::alloc::Global;
@@ -66,10 +66,32 @@ fn nth_by_plan(
     nth_by_counts(alloc, problem, &plan, number, bound)
 }
 
+/// Up to so many primary items going down by counts takes little time.
+const FEW_ITEMS: u32 = 200;
+
+/// The solution of a number, where there are many items and a short search comes to it: going down by counts takes a
+/// sweep over all items for each level. With 2,000 of them that took some twenty times as long as a search of so many
+/// steps.
+fn nth_soon(
+    alloc: Global,
+    problem: &Problem,
+    number: &Natural,
+) -> Result<Option<Option<Vec<Choice>>>, Memory>
+    ensures { IfOk result (λ known. IfSome known (λ found. option_map (λ c. c.items) found
+        ≡ numbered_get (members problem.now.puzzle) number.now)) }
+{
+    if problem.primary() <= FEW_ITEMS {
+        return Ok(None);
+    }
+    let items = u64::from(problem.primary());
+    nth_in_steps(alloc, problem, number, items * items)
+}
+
 /// The solution of a number in the listing, counted from 1; none where there are fewer. It goes down the branches of
 /// the search, and counts the solutions behind each as `count` does, so it makes none of those before it. (Finding an
-/// object by its rank: Nijenhuis and Wilf, Combinatorial Algorithms, 1978.) If an item has other bounds than `1:1`, or
-/// the states of a count would take more than about `bound` bytes, it searches up to the solution.
+/// object by its rank: Nijenhuis and Wilf, Combinatorial Algorithms, 1978.) If there are many items, a short search
+/// goes first. If an item has other bounds than `1:1`, or the states of a count would take more than about `bound`
+/// bytes, it searches up to the solution.
 ///
 /// # Errors
 /// `Memory` where there is none for the search's tables.
@@ -83,6 +105,9 @@ pub fn nth(
         ≡ numbered_get (members problem.now.puzzle) number.now) }
 {
     if is_once(problem) {
+        if let Some(found) = nth_soon(alloc, problem, number)? {
+            return Ok(found);
+        }
         if let Ok(found) = nth_by_plan(alloc, problem, number, bound) {
             return Ok(found);
         }
