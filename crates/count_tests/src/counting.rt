@@ -70,12 +70,13 @@ fn covers_are_counted(rt: HostRuntime) -> Result<(), Fail> {
     Ok(())
 }
 
-/// Adds the name of an item: one letter more than the item before it has, and what follows it.
+/// Adds the name of an item, a letter behind an `i` for each alphabet of items before it, and what follows it.
 fn add_name(text: &mut Vec<u8>, item: usize, tail: u8) -> Option<()> {
-    for _ in 0..item {
+    for _ in 0..item / 26 {
         text.push(b'i').ok()?;
     }
-    text.extend_from_slice(&[b'a', tail]).ok()
+    let letter = b'a' + (item % 26) as u8;
+    text.extend_from_slice(&[letter, tail]).ok()
 }
 
 /// A text of so many items, each in twenty options of its own.
