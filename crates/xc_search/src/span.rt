@@ -193,8 +193,8 @@ impl<'a, D: Dance> Span<'a, D> {
     }
 
     /// Goes on by so many members and at most so many steps, each a branch that is begun. It may run out of steps
-    /// between any two branches, and not at members alone. Some branches that it begins lead to no member and are none
-    /// of the search's tree: where it is at one of these and has no more steps, it goes on to the tree's next row.
+    /// between any two branches, and not at members alone. Where it is then at a dead end, an item that has no option
+    /// left, it goes on to the next row of the search's tree: the branches that led there may be none of the tree.
     /// After `End` it returns `End` again.
     pub fn go_on(&mut self, many: u64, steps: u64) -> Went
         ensures { WentOnBy many steps result self.old self.new }

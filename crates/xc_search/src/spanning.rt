@@ -121,8 +121,8 @@ fn is_stuck<'a, D: Dance>(position: &Position<'a, D>) -> bool
     matches!(position.choose(), Some((_, 0)))
 }
 
-/// Goes to the next row of the search's tree where early choices led to one that is none of it. No member is between.
-/// False where the tree has no such row.
+/// Goes from a dead end to the next row of the search's tree, and stays where it is elsewhere. The dead end is a row of
+/// the tree, or early choices led to it. No member is between. False where the tree has no such row.
 fn settle<'a, D: Dance>(state: &mut State<'a, D>) -> bool
     requires standing { IsStanding state.old.position.puzzle state.old.position.trail state.old.stack.levels true }
     requires led { AreLedBy false state.old.position.puzzle [] state.old.position.trail state.old.stack.levels }
@@ -140,8 +140,8 @@ fn settle<'a, D: Dance>(state: &mut State<'a, D>) -> bool
     true
 }
 
-/// Goes from where there are no levels to the row `from`, or to a later one of the search's tree with no member between.
-/// False where all levels ended, since no branch has a row that late.
+/// Goes from where there are no levels to the row `from`, or to a later one of the search's tree with no member
+/// between. False where all levels ended, since no branch has a row that late.
 pub fn reach<'a, D: Dance>(state: &mut State<'a, D>, from: &[u32]) -> bool
     requires start { CanGoTo state.old.position state.old.stack }
     ensures { Reaches true 1 from.now state.old.position state.old.stack
