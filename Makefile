@@ -41,7 +41,7 @@ test: bin ## the merge gate: proofs, wrong bodies, tests, programs
 	@python3 tests/count/numbered.py 30 1
 	@sh tests/guide.sh docs/GUIDE.md
 	@sh tests/python.sh
-test-mutants: ## plant the wrong bodies of crates/*/mutants.edits
+test-mutants: ## plant the mutants of the crates
 	@python3 tests/wrong_bodies.py
 test-hostile: ## the programs on hostile inputs
 	@python3 tests/hostile/programs.py

@@ -1,7 +1,7 @@
 #!/usr/bin/env python3
-"""Plants the wrong bodies of crates/*/mutants.edits, or of the crates named, in copies of the libraries, where the
-prover has to refuse each by the goal that its line `# clause: FILE GOAL` names; with --gate those of must-fail/. Prints
-each that isn't refused by it, with -v each one. The last line is `N passed, M failed`.
+"""Plants the wrong bodies of crates/*/mutants.edits and must-fail/, or of the crates named, in copies of the libraries,
+where the prover has to refuse each by the goal that its line `# clause: FILE GOAL` names. Prints each that isn't
+refused by it, with -v each one. The last line is `N passed, M failed`.
 
 A check takes ten seconds and more before its first function. So a dozen wrong bodies that change different functions
 stand in one check, which goes on past open goals and prints each; one that isn't refused there has one of its own.
@@ -56,14 +56,14 @@ class Group(NamedTuple):
     texts: Texts
 
 
-def edits_of(crate: str, gate: bool) -> list[Edit]:
-    """Those of must-fail/, a file each, or of mutants.edits, where each begins with a line `# NAME`."""
+def edits_of(crate: str) -> list[Edit]:
+    """Those of mutants.edits, where each begins with a line `# NAME`, and of must-fail/, a file each."""
     at = TOP / "crates" / crate
-    if gate:
-        return [read(crate, it.stem, it.read_text()) for it in sorted((at / "must-fail").glob("*.edit"))]
     file = at / "mutants.edits"
     parts = re.split(r"^# (\w+)\n", file.read_text() if file.exists() else "", flags=re.MULTILINE)
-    return [read(crate, name, text) for name, text in zip(parts[1::2], parts[2::2])]
+    texts = {name: text for name, text in zip(parts[1::2], parts[2::2])}
+    texts.update((it.stem, it.read_text()) for it in sorted((at / "must-fail").glob("*.edit")))
+    return [read(crate, name, text) for name, text in texts.items()]
 
 
 def read(crate: str, name: str, text: str) -> Edit:
@@ -190,7 +190,6 @@ class Tree:
 def main() -> int:
     parser = argparse.ArgumentParser(description="Plants wrong bodies, each of which the prover has to refuse.")
     parser.add_argument("-v", action="store_true", help="print each wrong body")
-    parser.add_argument("--gate", action="store_true", help="plant those of must-fail/")
     parser.add_argument("crates", nargs="*", metavar="CRATE", help=f"of {', '.join(CRATES)}")
     words = parser.parse_args()
     signal.signal(signal.SIGTERM, lambda *_: sys.exit(2))
@@ -199,7 +198,7 @@ def main() -> int:
     with tempfile.TemporaryDirectory() as folder:
         tree, runs = Tree(folder), []
         for crate in words.crates or CRATES:
-            edits = edits_of(crate, words.gate)
+            edits = edits_of(crate)
             if edits and tree.check(crate).returncode:
                 print(f"{crate} isn't proved as it stands", flush=True)
                 failed += len(edits)
