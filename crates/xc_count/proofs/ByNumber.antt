@@ -8,6 +8,7 @@ use Rattle.std.specs.Prelude.{is_none, nat_lt, option_map, slice_get, flat_map, 
 use Rattle.std.specs.List.{AllByRecursion, best_of, enumerate_from}
 use Rattle.std.proofs.lemmas.List.{length-map, take_all}
 use Rattle.std.proofs.lemmas.List.FromFn.{length-enumerate_from}
+use Rattle.std.proofs.lemmas.Option.{slice_get-map}
 use Rattle.xc_input.specs.declared.problem.Bounds.{Bounds}
 use Rattle.xc_input.specs.Problem.{Puzzle, Numbered, numbered_get, numbered_options, holding, holds, option_count}
 use Rattle.xc_input.specs.Problem.{primary_count, uses_of, IsPrimary, IsValid}
@@ -56,6 +57,11 @@ number_past f xs ys zero h = absurd (omega (arith, h))
 number_past f xs ys (suc k) h =
     let same : suc (k - length xs) ≡ suc k - length xs = omega (arith, h) in
     get_past f xs ys k (omega (arith, h)) ∙ ap (numbered_get ys) same
+
+number_map : {X Y : Type 0} (f : X → Y) (xs : List X) (n : ℕ)
+    → numbered_get (map f xs) n ≡ option_map f (numbered_get xs n)
+number_map f xs zero = refl
+number_map f xs (suc k) = slice_get-map f xs k
 
 get_none : {X : Type 0} (xs : List X) (k : ℕ) → length xs ≤ k → slice_get xs k ≡ None
 get_none [] k h = refl
@@ -301,6 +307,17 @@ module _ (p : Puzzle) (v : IsValid p) (once : HoldsOnce p) (s : Held) where
     pub fork_primary : IsPrimary p fork.0
     fork_primary = subst (IsPrimary p) same_item (fork_item fork e).3
 
+    -- there are as many branches as options that agree
+    pub fork_many : length (that_agree p s (options_with p fork.0)) ≡ fork.1
+    fork_many =
+        let at = fork_item fork e in
+        let there = in-filter (λ z. is_none (s z.item)) (whole p).items at.0 (branch_item-in r at.0 at.1) in
+        let low = (known p once at.0 there.0).1 in
+        let agreeing = options_that_fit p s at.0.item in
+        let many : length (that_agree p s (options_with p at.0.item)) ≡ branch_count r at.0 =
+        omega (arith, agreeing, low) in
+        subst (λ (x : ℕ × ℕ). length (that_agree p s (options_with p x.0)) ≡ x.1) at.2 many
+
     pub fork_listing : listing r ≡ members_with p s fork.0 fork.1 1 (options_with p fork.0)
     fork_listing = let at = fork_item fork e in
         listing_with at.0 at.1 ∙ ap (λ (x : ℕ × ℕ). members_with p s x.0 x.1 1 (options_with p x.0)) at.2
@@ -330,6 +347,14 @@ pub with_next : (p : Puzzle) (s : Held) (i n j : ℕ) (os : List ℕ) (k : ℕ) 
 with_next p s i n j os k h =
     let more : k + 1 ≡ suc k = omega arith in
     ap (members_with p s i n j) (drop-cons os k 0 h ∙ ap (λ m. get_or os k 0 ∷ drop m os) (sym more))
+
+-- no option of these agrees
+none_with : (p : Puzzle) (s : Held) (i n k : ℕ) (os : List ℕ) → length (that_agree p s os) ≡ 0
+    → members_with p s i n k os ≡ []
+none_with p s i n k [] h = refl
+none_with p s i n k (o ∷ os) h = by_bool (agree s (uses_of p o))
+    (λ e. let more = rw e at h in absurd (omega (arith, more)))
+    (λ e. rw e (none_with p s i n k os (rw e at h)))
 
 -- ---- a pass over the items
 
@@ -405,6 +430,15 @@ module _ (p : Puzzle) (s : Held) (i n j : ℕ) (os : List ℕ) (k number : ℕ) 
       → from j k number ≡ option_map (λ m. choice_of i n j o ∷ m) (numbered_get behind_it number)
   at_taken e h = at_one e ∙ number_within (λ m. choice_of i n j o ∷ m) behind_it
       (members_with p s i n (j + 1) (drop (k + 1) os)) number h
+
+  -- it is behind it, or none, where no later option agrees
+  pub at_last : agree s (uses_of p o) ≡ true → length (that_agree p s (drop (k + 1) os)) ≡ 0
+      → from j k number ≡ option_map (λ m. choice_of i n j o ∷ m) (numbered_get behind_it number)
+  at_last e h = at_one e
+      ∙ ap (λ ms. numbered_get (map (λ m. choice_of i n j o ∷ m) behind_it ++ ms) number)
+      (none_with p s i n (j + 1) (drop (k + 1) os) h)
+      ∙ ap (λ ms. numbered_get ms number) (append-nil (map (λ m. choice_of i n j o ∷ m) behind_it))
+      ∙ number_map (λ m. choice_of i n j o ∷ m) behind_it number
 
   -- it is past them
   pub at_passed : (left : ℕ) → agree s (uses_of p o) ≡ true → length behind_it < number

@@ -15,7 +15,7 @@ use Rattle.xc_input.proofs.ListLemmas.{by_bool, by_option}
 use Rattle.xc_input.proofs.OptionLemmas.{numbered_from}
 use Rattle.xc_count.specs.declared.layer.State.{State}
 use Rattle.xc_count.specs.declared.plan.Plan.{Plan}
-use Rattle.xc_count.specs.declared.sweeping.Step.{Step}
+use Rattle.xc_count.specs.declared.plan.Step.{Step}
 use Rattle.xc_count.specs.inner.Held.{Held, HoldsOnce, left_by}
 use Rattle.xc_count.specs.inner.Keys.{mark_says}
 use Rattle.xc_count.specs.inner.Passed.{AreMore, step_item, taken_here, with_same, worth_left, worth_passed}

@@ -1,25 +1,26 @@
 -- What a sweep goes by.
 use Rattle.std.proofs.Common.{ℕ, zero, suc, ◌≡◌, ◌≢◌, ◌<◌, ◌≤◌, ◌+◌, ◌-◌, Bool, true, false, not, ◌&&◌, cond, List, []}
-use Rattle.std.proofs.Common.{◌∷◌, length}
+use Rattle.std.proofs.Common.{◌∷◌, ◌++◌, length}
 use Rattle.std.proofs.Common.{Option, Some, None, refl, sym, ap, ap₂, ◌∙◌, arith, subst, eqb, eq-eqb, drop, take}
 use Rattle.std.proofs.Common.{ltb-true, ltb-false, lt-ltb, inl, inr, ◌⊎◌}
-use Rattle.std.proofs.Math.ListN.{get_or}
+use Rattle.std.proofs.Math.ListN.{get_or, get_or-append}
+use Rattle.std.proofs.Math.Seq.{get_or-append_seam}
 use Rattle.std.specs.Prelude.{is_some, nat_lt, Contains}
 use Rattle.std.specs.List.{list_all}
 use Rattle.std.specs.Option.{option_or}
-use Rattle.std.proofs.lemmas.List.{get_or-take, take_all}
+use Rattle.std.proofs.lemmas.List.{get_or-take, length-append, take_all}
 use Rattle.std.proofs.lemmas.List.Elements.{recursion_from_All}
 use Rattle.xc_input.specs.declared.problem.Use.{Use}
 use Rattle.xc_input.specs.Problem.{Puzzle, IsPrimary, IsItem, IsValid, colour_in, uses_of}
 use Rattle.xc_input.proofs.ListLemmas.{and_left, and_right, by_bool, IsIn, in-contains, contains-in, in-take, each_in}
 use Rattle.xc_input.proofs.ListLemmas.{list_all-each}
 use Rattle.xc_count.specs.declared.plan.Plan.{Plan}
-use Rattle.xc_count.specs.declared.sweeping.Step.{Step}
+use Rattle.xc_count.specs.declared.plan.Step.{Step}
 use Rattle.xc_search.specs.Listing.{Residual, listing}
 use Rattle.xc_count.specs.inner.Held.{Held, agree, holding_uses, left_by}
 use Rattle.xc_count.specs.inner.Keys.{held_in, rank_of}
 use Rattle.xc_count.specs.inner.Passed.{worth_taken}
-use Rattle.xc_count.specs.inner.Plans.{IsPlan, IsStep, IsOver, options_with}
+use Rattle.xc_count.specs.inner.Plans.{AreWindows, IsPlan, IsStep, IsOver, options_with}
 use Rattle.xc_count.specs.inner.Worth.{holds_first, key_below, says, with_number}
 use Rattle.xc_count.proofs.Below.{left_over, left_same}
 use Rattle.xc_count.proofs.HolderLemmas.{option_known}
@@ -59,6 +60,54 @@ take_next xs k i h in_it = next xs k i h (subst (λ n. IsIn (take n xs) i) (let 
     next (x ∷ xs) zero i h (inr m) = absurd m
     next (x ∷ xs) (suc k) i h (inl e) = inl (inl e)
     next (x ∷ xs) (suc k) i h (inr m) = elim (next xs k i (omega (arith, h)) m) [ inl a ↦ inl (inr a) | inr b ↦ inr b ]
+
+take_more : (xs : List ℕ) (k i : ℕ) → IsIn (take k xs) i → IsIn (take (k + 1) xs) i
+take_more xs k i m = subst (λ n. IsIn (take n xs) i) (let e : suc k ≡ k + 1 = omega arith in e) (more xs k i m)
+  where
+    more : (xs : List ℕ) (k i : ℕ) → IsIn (take k xs) i → IsIn (take (suc k) xs) i
+    more xs zero i m = absurd m
+    more [] (suc k) i m = m
+    more (x ∷ xs) (suc k) i (inl e) = inl e
+    more (x ∷ xs) (suc k) i (inr m) = inr (more xs k i m)
+
+-- ---- windows
+
+-- what is over stays over
+over_more : (p : Puzzle) (order : List ℕ) (k i : ℕ) → IsOver p (take k order) i → IsOver p (take (k + 1) order) i
+over_more p order k i h = record {
+  held = λ primary. more i (h.held primary);
+  options = λ j d l. let one = h.options j d l in (one.0, more one.0 one.1, one.2);
+}
+  where
+    more : (j : ℕ) → Contains (take k order) j → Contains (take (k + 1) order) j
+    more j c = contains-in _ _ (take_more order k j (in-contains _ _ c))
+
+-- the items of lower ranks, once one more is held
+pub over_below : (p : Puzzle) (order ranks : List ℕ) (place from next : ℕ)
+    → ((i : ℕ) → IsItem p i → rank_of ranks i < from → IsOver p (take place order) i)
+    → ((i : ℕ) → IsItem p i → from ≤ rank_of ranks i → rank_of ranks i < next → IsOver p (take (place + 1) order) i)
+    → (i : ℕ) → IsItem p i → rank_of ranks i < next → IsOver p (take (place + 1) order) i
+over_below p order ranks place from next before here i item low = by_bool (nat_lt (rank_of ranks i) from)
+    (λ e. over_more p order place i (before i item (ltb-true _ _ e)))
+    (λ e. here i item (ltb-false _ _ e) low)
+
+-- one window more
+pub window_pushed : (p : Puzzle) (order ranks old new : List ℕ) (w : ℕ) → new ≡ old ++ w ∷ []
+    → AreWindows p order ranks old
+    → ((i : ℕ) → IsItem p i → rank_of ranks i < w → IsOver p (take (length old + 1) order) i)
+    → AreWindows p order ranks new
+window_pushed p order ranks old new w is olds over = subst (AreWindows p order ranks) (sym is) (λ k i h item low.
+    by_bool (nat_lt k (length old))
+    (λ e.
+    let before = ltb-true _ _ e in
+    olds k i before item (subst (λ x. rank_of ranks i < x) (get_or-append old (w ∷ []) 0 k before) low))
+    (λ e.
+    let after = ltb-false _ _ e in
+    let many = length-append old (w ∷ []) in
+    let here : k ≡ length old = omega (arith, after, h, many) in
+    let at : get_or (old ++ w ∷ []) k 0 ≡ w =
+    ap (λ j. get_or (old ++ w ∷ []) j 0) here ∙ get_or-append_seam old w [] 0 in
+    subst (λ j. IsOver p (take (j + 1) order) i) (sym here) (over i item (subst (λ x. rank_of ranks i < x) at low))))
 
 some_not_none : (o : Option ℕ) → is_some o ≡ true → o ≢ None
 some_not_none o s e = cc

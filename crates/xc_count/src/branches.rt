@@ -136,6 +136,10 @@ pub fn branch_with(
             continue;
         };
         k += 1;
+        // A number that is too high for the last branch is too high at each of its levels.
+        if k == fork.1 {
+            return Ok(Some(taking(fork, option, k, next)));
+        }
         let covers = count_left(alloc, problem, plan, next.as_slice(), bound)?;
         if *number <= covers {
             return Ok(Some(taking(fork, option, k, next)));

@@ -10,8 +10,8 @@ ghost use Rattle.xc_count.specs.inner.Worth.{EachKey, holds_first};
 
 use crate::errors::CountError;
 use crate::layer::Layer;
-use crate::plan::Plan;
-use crate::sweeping::{Step, first_layer, hold};
+use crate::plan::{Plan, Step};
+use crate::sweeping::{first_layer, hold};
 use std::alloc::Global;
 use xc_input::Problem;
 
@@ -78,13 +78,12 @@ pub fn keep_layers(
     let mut room = bound;
     let mut from = 0;
     for place in 0..plan.order.len() {
-        let next = plan.window(problem, place + 1, from);
-        let step = Step { place, from, next };
+        let step = plan.step(place, from);
+        from = step.next;
         room = layer.beside(room);
         let more = next_layer(alloc, problem, plan, step, &layer, room)?;
         kept.push(Kept { layer, step })?;
         layer = more;
-        from = next;
     }
     Ok(Swept {
         kept,

@@ -8,8 +8,8 @@ ghost use Rattle.xc_count.specs.inner.Worth.{EachKey, holds_first, key_below, wo
 
 use crate::errors::CountError;
 use crate::layer::{Layer, pop_state};
-use crate::plan::Plan;
-use crate::sweeping::{Step, hold, total};
+use crate::plan::{Plan, Step};
+use crate::sweeping::{hold, total};
 use natural::Natural;
 use std::alloc::Global;
 use xc_input::Problem;
@@ -75,16 +75,9 @@ pub fn count_left(
     let mut layer = layer_of(alloc, problem, plan, key, bound)?;
     let mut from = 0;
     for place in 0..plan.order.len() {
-        let next = plan.window(problem, place + 1, from);
-        layer = pass_alone(
-            alloc,
-            problem,
-            plan,
-            Step { place, from, next },
-            layer,
-            bound,
-        )?;
-        from = next;
+        let step = plan.step(place, from);
+        layer = pass_alone(alloc, problem, plan, step, layer, bound)?;
+        from = step.next;
     }
     total(alloc, problem, plan, from, layer)
 }

@@ -1,9 +1,9 @@
 //! What a sweep goes by: an order of the primary items, ranks of all items, and which options hold each.
 
 ghost use Rattle.std.specs.Prelude.{ℕ, ◌≡◌, ◌<◌, ◌≤◌, length, take, true, Some, All, Contains, IfOk, is_some};
-ghost use Rattle.xc_input.specs.Problem.{IsItem, IsOption, IsPrimary, colour_in};
+ghost use Rattle.xc_input.specs.Problem.{Puzzle, IsItem, IsOption, IsPrimary, colour_in};
 ghost use Rattle.xc_count.specs.inner.Keys.{rank_of};
-ghost use Rattle.xc_count.specs.inner.Plans.{HoldsPast, IsOver, IsPlan, options_with};
+ghost use Rattle.xc_count.specs.inner.Plans.{AreWindows, HoldsPast, IsOver, IsPlan, IsStep, options_with};
 
 use crate::errors::CountError;
 use crate::holders::{options_by_item, options_of};
@@ -23,6 +23,17 @@ pub struct Plan {
     /// The options that hold each item.
     pub holders: Vec<Vec<u32>>,
     pub ranking: Ranking,
+    /// For each place of the order, the rank from which on keys have marks once the item there is held.
+    windows: Vec<usize>,
+}
+
+/// One step of a sweep: the place in the order of the item that it holds, and from which ranks on the keys before and
+/// after it have marks.
+#[derive(Clone, Copy)]
+pub struct Step {
+    pub place: usize,
+    pub from: usize,
+    pub next: usize,
 }
 
 /// The items in the order in which no option can hold them any more.
@@ -63,12 +74,15 @@ impl Plan {
         let ends = ends(alloc, problem, places.as_slice())?;
         let items = items_by_end(alloc, ends.as_slice())?;
         let ranking = rank_items(alloc, items, problem.items())?;
-        Ok(Plan {
+        let mut plan = Plan {
             order,
             places,
             holders,
             ranking,
-        })
+            windows: Vec::new(alloc),
+        };
+        plan.windows = plan.find_windows(alloc, problem)?;
+        Ok(plan)
     }
 
     /// Whether an item is one of the first `past` of the order.
@@ -138,7 +152,7 @@ impl Plan {
     }
 
     /// The rank from which on keys have marks, once the sweep has held the first `past` of the order.
-    pub fn window(&self, problem: &Problem, past: usize, from: usize) -> usize
+    fn next_window(&self, problem: &Problem, past: usize, from: usize) -> usize
         requires { IsPlan problem.now.puzzle self.now }
         ensures rises { from ≤ result }
         ensures over { (i : ℕ) → IsItem problem.now.puzzle i → from ≤ rank_of self.now.ranking.ranks.items i
@@ -154,5 +168,34 @@ impl Plan {
             next += 1;
         }
         next
+    }
+
+    /// The windows of a plan that has none.
+    fn find_windows(&self, alloc: Global, problem: &Problem) -> Result<Vec<usize>, CountError>
+        requires { IsPlan problem.now.puzzle self.now }
+        ensures { IfOk result (λ ws. AreWindows problem.now.puzzle self.now.order.items
+            self.now.ranking.ranks.items ws.items) }
+    {
+        let mut windows = Vec::new(alloc);
+        let mut from = 0;
+        for place in 0..self.order.len() {
+            from = self.next_window(problem, place + 1, from);
+            windows.push(from)?;
+        }
+        Ok(windows)
+    }
+
+    /// The step that holds the item at a place of the order, where keys have marks from this rank on.
+    pub fn step(&self, place: usize, from: usize) -> Step
+        requires { place < length self.now.order.items }
+        ensures place { result.place ≡ place }
+        ensures from { result.from ≡ from }
+        ensures step { (p : Puzzle) → IsPlan p self.now → IsStep p self.now result }
+    {
+        let next = match self.windows.get(place) {
+            Some(window) if *window > from => *window,
+            _ => from,
+        };
+        Step { place, from, next }
     }
 }

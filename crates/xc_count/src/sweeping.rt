@@ -20,20 +20,11 @@ use crate::errors::{CountError, Halted};
 use crate::holders::options_of;
 use crate::keys::{do_agree, mark_of, mark_uses, without_first};
 use crate::layer::{Layer, State, pop_state};
-use crate::plan::Plan;
+use crate::plan::{Plan, Step};
 use crate::rival::Rival;
 use natural::Natural;
 use std::alloc::Global;
 use xc_input::Problem;
-
-/// One step of a sweep: the place in the order of the item that it holds, and from which ranks on the keys before and
-/// after it have marks.
-#[derive(Clone, Copy)]
-pub struct Step {
-    pub place: usize,
-    pub from: usize,
-    pub next: usize,
-}
 
 /// The work of trying an option, in about nanoseconds.
 const TRY_WORK: u64 = 6;
@@ -277,17 +268,9 @@ pub fn sweep(
     let mut layer = first_layer(alloc, problem, plan, bound)?;
     let mut from = 0;
     for place in 0..plan.order.len() {
-        let next = plan.window(problem, place + 1, from);
-        layer = pass(
-            alloc,
-            problem,
-            plan,
-            Step { place, from, next },
-            layer,
-            bound,
-            rival,
-        )?;
-        from = next;
+        let step = plan.step(place, from);
+        layer = pass(alloc, problem, plan, step, layer, bound, rival)?;
+        from = step.next;
     }
     Ok(total(alloc, problem, plan, from, layer)?)
 }

@@ -6,7 +6,7 @@ use Rattle.xc_count.specs.declared.backward.Ahead.{Ahead}
 use Rattle.xc_count.specs.declared.forward.Kept.{Kept}
 use Rattle.xc_count.specs.declared.layer.State.{State}
 use Rattle.xc_count.specs.declared.plan.Plan.{Plan}
-use Rattle.xc_count.specs.declared.sweeping.Step.{Step}
+use Rattle.xc_count.specs.declared.plan.Step.{Step}
 use Rattle.xc_count.specs.inner.Held.{Held, agree, left_by, holding_uses}
 use Rattle.xc_count.specs.inner.Plans.{IsStep, options_with}
 use Rattle.xc_count.specs.inner.Worth.{EachKey, holds_first, key_below, says, with_number, worth_by}

@@ -5,7 +5,7 @@ use Rattle.xc_input.specs.Problem.{Puzzle, IsPrimary, IsItem, item_count, number
 use Rattle.xc_input.specs.Problem.{uses_of, colour_in}
 use Rattle.xc_input.specs.declared.problem.Use.{Use}
 use Rattle.xc_count.specs.declared.plan.Plan.{Plan}
-use Rattle.xc_count.specs.declared.sweeping.Step.{Step}
+use Rattle.xc_count.specs.declared.plan.Step.{Step}
 use Rattle.xc_count.specs.inner.Keys.{rank_of}
 
 -- the options that hold item i, in order
@@ -34,11 +34,6 @@ pub record IsOrder (p : Puzzle) (order : List ℕ) : Type 0 where
   pub primary : All (IsPrimary p) order
   pub each : (i : ℕ) → IsPrimary p i → Contains order i
 
-pub record IsPlan (p : Puzzle) (plan : Plan) : Type 0 where
-  pub order : IsOrder p plan.order.items
-  pub holders : AreHolders p (map (λ l. l.items) plan.holders.items)
-  pub ranks : IsRanking (item_count p) plan.ranking.ranks.items plan.ranking.items.items
-
 -- option o holds one of these items
 abbrev pub HoldsPast : Puzzle → List ℕ → ℕ → Type 0
 HoldsPast p past o = (j : ℕ) × Contains past j × (is_some (colour_in (uses_of p o) j) ≡ true)
@@ -48,6 +43,17 @@ HoldsPast p past o = (j : ℕ) × Contains past j × (is_some (colour_in (uses_o
 pub record IsOver (p : Puzzle) (past : List ℕ) (i : ℕ) : Type 0 where
   pub held : IsPrimary p i → Contains past i
   pub options : All (HoldsPast p past) (options_with p i)
+
+-- once the item at a place of the order is held, those of ranks below the window are over
+abbrev pub AreWindows : Puzzle → List ℕ → List ℕ → List ℕ → Type 0
+AreWindows p order ranks windows = (k i : ℕ) → k < length windows → IsItem p i
+    → rank_of ranks i < slice_index windows k → IsOver p (take (k + 1) order) i
+
+pub record IsPlan (p : Puzzle) (plan : Plan) : Type 0 where
+  pub order : IsOrder p plan.order.items
+  pub holders : AreHolders p (map (λ l. l.items) plan.holders.items)
+  pub ranks : IsRanking (item_count p) plan.ranking.ranks.items plan.ranking.items.items
+  pub windows : AreWindows p plan.order.items plan.ranking.ranks.items plan.windows.items
 
 -- a step of a sweep: the ranks that it leaves are of items that are over
 pub record IsStep (p : Puzzle) (plan : Plan) (step : Step) : Type 0 where

@@ -1,4 +1,4 @@
-use Rattle.std.proofs.Common.{◌≡◌, ◌<◌, ◌≤◌, ◌+◌, ◌∷◌, Some, arith, ap, ◌∙◌, length, subst, sym, get_or}
+use Rattle.std.proofs.Common.{◌≡◌, ◌<◌, ◌≤◌, ◌+◌, ◌∷◌, Some, arith, ap, ◌∙◌, drop, length, subst, sym, get_or}
 use Rattle.std.specs.Prelude.{Contains, option_map}
 use Rattle.std.proofs.lemmas.List.{drop_all}
 use Rattle.std.proofs.lemmas.Map.Keys.{le_from_is_le}
@@ -10,8 +10,9 @@ use Rattle.xc_count.specs.inner.Held.{holding_uses, left_by}
 use Rattle.xc_count.specs.inner.Numbered.{IsLess, behind_taken, left_by_key, size_left}
 use Rattle.xc_count.specs.inner.Worth.{says}
 use Rattle.xc_count.proofs.Below.{left_same}
-use Rattle.xc_count.proofs.ByNumber.{fork_primary, fork_listing, fork_less, members_with, few_options, more_than}
-use Rattle.xc_count.proofs.ByNumber.{number_empty, at_none, at_taken, at_passed, choice_of}
+use Rattle.xc_count.proofs.ByNumber.{fork_primary, fork_listing, fork_less, fork_many, members_with, few_options}
+use Rattle.xc_count.proofs.ByNumber.{more_than, number_empty, at_none, at_last, at_taken, at_passed, choice_of}
+use Rattle.xc_count.proofs.ByNumber.{agree_step, that_agree}
 use Rattle.xc_count.proofs.HolderLemmas.{option_known}
 use Rattle.xc_count.proofs.branches.branch_with.Goals as goal
 
@@ -31,6 +32,8 @@ loop-place-init c =
           (fork_listing p c.requires.valid c.requires.once s fork c.requires.fork
           ∙ ap (members_with p s fork.0 fork.1 1) (sym c.options_of-options.ensures));
       few = omega arith;
+      ahead = let many = ap (λ os. length (that_agree p s os)) c.options_of-options.ensures
+          ∙ fork_many p c.requires.valid c.requires.once s fork c.requires.fork in omega (arith, many);
     }
 
 pub key_with-requires-clause-known : goal.key_with-requires-clause-known
@@ -53,6 +56,8 @@ loop-place-preserved-in_default c =
           ∙ at_none p s c.args.fork.0 c.args.fork.1 (c.loop-place.k + 1) os c.loop-place.place c.loop-place.number
           (omega arith) agreed;
       few = omega (arith, c.loop-place.invariant.few);
+      ahead = let step = agree_step p s os c.loop-place.place (omega arith) in
+          omega (arith, rw agreed at step, c.loop-place.invariant.ahead);
     }
 
 pub overflow_add-k : goal.overflow_add-k
@@ -61,6 +66,44 @@ overflow_add-k c =
     subst (λ xs. length xs ≤ option_count c.args.problem.now.puzzle) (sym c.options_of-options.ensures)
     (few_options c.args.problem.now.puzzle c.args.fork.0) in
     omega (arith, few, c.loop-place.invariant.few, c.loop-place-test.true, c.key_with.ensures.limits.options)
+
+pub returns-then-k-fork-clause-solution : goal.returns-then-k-fork-clause-solution
+returns-then-k-fork-clause-solution c =
+    let p = c.args.problem.now.puzzle in
+    let plan = c.args.plan.now in
+    let s = says plan 0 c.args.key.now in
+    let os = c.options_of-options.result.now in
+    let o = get_or os c.loop-place.place 0 in
+    let next = c.in-Some.next.items in
+    let agreed = rw c.in-Some.is at c.in_ok-next.ensures.key in
+    let left : left_by_key p plan next ≡ left_by p (holding_uses (uses_of p o) s) =
+    left_same p c.requires.valid (holding_uses (uses_of p o) s) (says plan 0 next) agreed.1 in
+    let step = agree_step p s os c.loop-place.place (omega arith) in
+    let none : length (that_agree p s (drop (c.loop-place.place + 1) os)) ≡ 0 =
+    omega (arith, rw agreed.0 at step, c.loop-place.invariant.ahead, c.if-k-fork.true) in
+    c.loop-place.invariant.solution
+    ∙ at_last p s c.args.fork.0 c.args.fork.1 (c.loop-place.k + 1) os c.loop-place.place c.loop-place.number
+    (omega arith) agreed.0 none
+    ∙ ap (λ r. option_map (λ m. choice_of c.args.fork.0 c.args.fork.1 (c.loop-place.k + 1) o ∷ m)
+    (numbered_get (listing r) c.loop-place.number)) (sym left)
+    ∙ ap (λ t. behind_taken p plan (Some t) c.loop-place.number) (sym c.taking.ensures)
+
+pub returns-then-k-fork-clause-less : goal.returns-then-k-fork-clause-less
+returns-then-k-fork-clause-less c =
+    let p = c.args.problem.now.puzzle in
+    let plan = c.args.plan.now in
+    let s = says plan 0 c.args.key.now in
+    let os = c.options_of-options.result.now in
+    let o = get_or os c.loop-place.place 0 in
+    let agreed = rw c.in-Some.is at c.in_ok-next.ensures.key in
+    let left : left_by_key p plan c.in-Some.next.items ≡ left_by p (holding_uses (uses_of p o) s) =
+    left_same p c.requires.valid (holding_uses (uses_of p o) s) (says plan 0 c.in-Some.next.items) agreed.1 in
+    let listed = contains-in os o
+    (in-slice_get os c.loop-place.place o (slice_get-get_or os c.loop-place.place 0 (omega arith))) in
+    let less = fork_less p c.requires.valid c.requires.once s c.args.fork c.requires.fork o
+    (subst (λ xs. Contains xs o) c.options_of-options.ensures listed) agreed.0 in
+    let here = subst (λ r. size_left r < size_left (left_by_key p plan c.args.key.now)) (sym left) less in
+    subst (λ t. IsLess p plan t.key.items c.args.key.now) (sym c.taking.ensures) here
 
 pub returns-then-le-clause-solution : goal.returns-then-le-clause-solution
 returns-then-le-clause-solution c =
@@ -82,7 +125,7 @@ returns-then-le-clause-solution c =
     (omega arith) agreed.0 (omega (arith, few, many))
     ∙ ap (λ r. option_map (λ m. choice_of c.args.fork.0 c.args.fork.1 (c.loop-place.k + 1) o ∷ m)
     (numbered_get (listing r) c.loop-place.number)) (sym left)
-    ∙ ap (λ t. behind_taken p plan (Some t) c.loop-place.number) (sym c.taking.ensures)
+    ∙ ap (λ t. behind_taken p plan (Some t) c.loop-place.number) (sym c.taking-then-le.ensures)
 
 pub returns-then-le-clause-less : goal.returns-then-le-clause-less
 returns-then-le-clause-less c =
@@ -99,7 +142,7 @@ returns-then-le-clause-less c =
     let less = fork_less p c.requires.valid c.requires.once s c.args.fork c.requires.fork o
     (subst (λ xs. Contains xs o) c.options_of-options.ensures listed) agreed.0 in
     let here = subst (λ r. size_left r < size_left (left_by_key p plan c.args.key.now)) (sym left) less in
-    subst (λ t. IsLess p plan t.key.items c.args.key.now) (sym c.taking.ensures) here
+    subst (λ t. IsLess p plan t.key.items c.args.key.now) (sym c.taking-then-le.ensures) here
 
 pub loop-place-preserved : goal.loop-place-preserved
 loop-place-preserved c =
@@ -122,6 +165,8 @@ loop-place-preserved c =
           (omega arith) c.sub_assign.new.self agreed.0 (omega (arith, more, many))
           (omega (arith, many, c.sub_assign.ensures));
       few = omega (arith, c.loop-place.invariant.few);
+      ahead = let step = agree_step p s os c.loop-place.place (omega arith) in
+          omega (arith, rw agreed.0 at step, c.loop-place.invariant.ahead);
     }
 
 pub returns-clause-solution : goal.returns-clause-solution

@@ -4,7 +4,7 @@ use Rattle.std.proofs.lemmas.List.Elements.{All-push}
 use Rattle.std.proofs.lemmas.List.Sums.{sum_by_push}
 use Rattle.xc_count.specs.Occurrences.{occurrences_of}
 use Rattle.xc_count.specs.declared.forward.Kept.{Kept}
-use Rattle.xc_count.specs.declared.sweeping.Step.{Step}
+use Rattle.xc_count.specs.declared.plan.Step.{Step}
 use Rattle.xc_count.specs.inner.Passed.{IsKept, taken_by, taken_here, worth_left, worth_passed}
 use Rattle.xc_count.specs.inner.Worth.{EachKey, holds_first, worth_by}
 use Rattle.xc_count.proofs.Having.{having}
@@ -33,15 +33,16 @@ loop-place-preserved c =
     let p = c.args.problem.now.puzzle in
     let plan = c.args.plan.now in
     let layer = c.loop-place.layer in
-    let step : Step =
-    record { place = c.loop-place.place; from = c.loop-place.from; next = c.window-next.result } in
+    let step : Step = c.step-step.result in
     let one : Kept = record { layer = layer; step = step } in
     let pushed : c.push.new.self.items ≡ c.loop-place.kept.items ++ one ∷ [] = c.in_ok-push.ensures.items in
-    let within : step.place < length plan.order.items = omega arith in
-    let is : IsKept p plan one = record {
-      step = record { within = within; rises = c.window-next.ensures.rises; over = c.window-next.ensures.over };
-      held = c.loop-place.invariant.held;
-    } in
+    let is_step = c.step-step.ensures in
+    let within : step.place < length plan.order.items = omega (arith, is_step.place) in
+    let held : EachKey (holds_first plan step.place step.from) layer.states.items =
+    subst (λ k. EachKey (holds_first plan k step.from) layer.states.items) (sym is_step.place)
+    (subst (λ f. EachKey (holds_first plan c.loop-place.place f) layer.states.items) (sym is_step.from)
+    c.loop-place.invariant.held) in
+    let is : IsKept p plan one = record { step = is_step.step p c.requires.plan; held = held } in
     record {
       taken = λ x.
           let push : sum_by (taken_by p plan x) c.push.new.self.items
@@ -53,10 +54,12 @@ loop-place-preserved c =
           let next : worth_left (having x) p plan step.next c.in_ok-more.more.states.items
           ≡ sum_by (λ s. s.ways * worth_passed (having x) p plan step s.key.items) layer.states.items =
           c.in_ok-more.ensures.worth (having x) in
-          omega (arith, push, parts, next, c.loop-place.invariant.taken x);
+          let same = ap (λ f. worth_left (having x) p plan f layer.states.items) is_step.from in
+          omega (arith, push, parts, next, same, c.loop-place.invariant.taken x);
       kept = subst (All (IsKept p plan)) (sym pushed)
           (All-push (IsKept p plan) c.loop-place.kept.items one c.loop-place.invariant.kept is);
-      held = c.in_ok-more.ensures.held;
+      held = subst (λ k. EachKey (holds_first plan (k + 1) step.next) c.in_ok-more.more.states.items) is_step.place
+          c.in_ok-more.ensures.held;
     }
 
 pub returns-clause-taken : goal.returns-clause-taken

@@ -2,7 +2,7 @@ use Rattle.std.proofs.Common.{ℕ, ◌≤◌, ◌<◌, ◌-◌, length, take}
 use Rattle.xc_input.specs.Problem.{IsItem}
 use Rattle.xc_count.specs.inner.Keys.{rank_of}
 use Rattle.xc_count.specs.inner.Plans.{IsOver}
-use Rattle.xc_count.proofs.plan.Plan.window.Given as goal
+use Rattle.xc_count.proofs.plan.Plan.next_window.Given as goal
 
 abbrev pub invariant-loop-next : goal.invariant-loop-next
 invariant-loop-next l = record {

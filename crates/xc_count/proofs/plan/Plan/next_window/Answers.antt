@@ -4,7 +4,7 @@ use Rattle.std.proofs.lemmas.List.{get_or_default}
 use Rattle.xc_input.proofs.ListLemmas.{by_bool}
 use Rattle.xc_count.specs.inner.Keys.{rank_of}
 use Rattle.xc_count.specs.inner.Plans.{IsOver}
-use Rattle.xc_count.proofs.plan.Plan.window.Goals as goal
+use Rattle.xc_count.proofs.plan.Plan.next_window.Goals as goal
 
 pub loop-next-preserved : goal.loop-next-preserved
 loop-next-preserved c = record {
