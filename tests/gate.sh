@@ -1,10 +1,9 @@
 #!/bin/sh
 # gate.sh [--page PAGE]: `rt ci`, with its output and its status, on all processors. With --page, if it passes, the
-# page's row for as many processors gets the kit, the number of mutants, and the minutes (elapsed, of a processor).
-# `rt ci` gives most proofs one job, and each library needs the one below it. So each is proved before by a run of its
-# own, which gets two jobs, and what stands on it beside the next one, with less priority, on a copy without mutants; but
-# for those of xc_dance, which the gate tries. `rt ci` takes what these runs kept. With CI=true the kit refuses a run of
-# some crates, and `rt ci` is alone.
+# page's row for as many processors gets the kit and the minutes (elapsed, of a processor).
+# `rt ci` gives most proofs one job, and each library needs the one below it. So these are proved before by runs of their
+# own, in which most get two jobs, and what stands on each beside the next one, with less priority. `rt ci` takes what
+# they kept. With CI=true the kit refuses a run of some crates, and `rt ci` is alone.
 cd "$(dirname "$0")/.." || exit 2
 folder=$(mktemp -d) || exit 2
 ahead= whole=
@@ -15,27 +14,22 @@ page=
 jobs=${RT_JOBS:-$(nproc)}
 begun=$(date +%s)
 if [ "${CI-}" != true ]; then
-    mkdir "$folder/tree" "$folder/tmp"
-    tar -c --exclude='crates/*/must-fail' --exclude='crates/*/mutants.edits' --exclude='crates/*/out' crates crates.txt HANDLES |
-        tar -x -C "$folder/tree"
-    (cd "$folder/tree" && unset RT_JOBS && TMPDIR=$folder/tmp exec setsid sh -ec '
+    (unset RT_JOBS && exec setsid sh -ec '
         beside() { nice rt ci "$@" & }
         beside natural
-        rt ci xc_input
-        beside reading_tests
         rt ci xc_dance
-        beside dance_tests
-        (cd "$0" && exec nice rt ci xc_dance) &
+        beside reading_tests dance_tests
         rt ci xc_search
+        rt ci xc_count &
         beside search_tests
-        beside xc_count
         rt ci xc_list
         beside listing_tests
         beside count_tests xc_c
         rt ci xc_tools
         beside dlx1 dlx2 dlx3 dlxcheck dlx_span dlx_join dlx_count
+        beside example_counts first_cover names_of_covers
         rt ci tool_tests
-        wait' "$PWD") >"$folder/log" 2>&1 </dev/null &
+        wait') >"$folder/log" 2>&1 </dev/null &
     ahead=$!
     wait $ahead
 fi
@@ -50,8 +44,7 @@ if [ $status = 0 ] && [ -n "$page" ]; then
     of_a_processor=$(awk -F '[ms ]+' 'NR == 2 { printf "%.0f", $1 + $2 / 60 + $3 + $4 / 60 }' "$folder/times")
     elapsed=$((($(date +%s) - begun + 30) / 60))
     kit=$(rt --version | cut -d ' ' -f 1)
-    mutants=$(find crates/*/must-fail -name '*.edit' | wc -l)
-    row="| $jobs | $kit | $mutants | $elapsed | $of_a_processor |"
+    row="| $jobs | $kit | $elapsed | $of_a_processor |"
     awk -v jobs="$jobs" -v row="$row" '$0 ~ "^[|] " jobs " [|] rattle-kit" { $0 = row } { print }' \
         "$page" >"$folder/page" && cat "$folder/page" >"$page"
 fi

@@ -6,7 +6,7 @@
 #[cfg(test)]
 mod callers;
 
-// Helpers. Those that `must-fail/` changes are proved without the tests too.
+// Helpers. Those that `mutants.edits` changes are proved without the tests too.
 pub mod costs;
 #[cfg(test)]
 mod keepers;

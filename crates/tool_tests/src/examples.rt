@@ -1,9 +1,10 @@
 //! The programs of the first page of `helgrothy`, as they are run.
-use helgrothy::{
-    Kind, Links, Problem, Search, SliceSource, VecSink, Words, check, read_problem, run,
-};
 use std::alloc::Global;
 use std::test::Fail;
+use xc_dance::Links;
+use xc_input::{Kind, Problem, SliceSource, read_problem};
+use xc_list::{VecSink, Words, check, run};
+use xc_search::Search;
 
 const TEXT: &[u8] = b"a b c d e f g\nc e\na d g\nb c f\na d f\nb g\nd e g\n";
 
