@@ -1,7 +1,7 @@
 #!/usr/bin/env python3
-"""Plants the wrong bodies of crates/*/mutants.edits, or of the crates named, in copies of the libraries, where the
-prover has to refuse each by the goal that its line `# clause: FILE GOAL` names. Prints each that isn't refused by it,
-with -v each one. The last line is `N passed, M failed`.
+"""Plants the wrong bodies of crates/*/mutants.edits and must-fail/, or of the crates named, in copies of the libraries,
+where the prover has to refuse each by the goal that its line `# clause: FILE GOAL` names. Prints each that isn't
+refused by it, with -v each one. The last line is `N passed, M failed`.
 
 A check takes ten seconds and more before its first function. So a dozen wrong bodies that change different functions
 stand in one check, which goes on past open goals and prints each; one that isn't refused there has one of its own.
@@ -57,10 +57,13 @@ class Group(NamedTuple):
 
 
 def edits_of(crate: str) -> list[Edit]:
-    """Those of mutants.edits, where each begins with a line `# NAME`."""
-    file = TOP / "crates" / crate / "mutants.edits"
+    """Those of mutants.edits, where each begins with a line `# NAME`, and of must-fail/, a file each."""
+    at = TOP / "crates" / crate
+    file = at / "mutants.edits"
     parts = re.split(r"^# (\w+)\n", file.read_text() if file.exists() else "", flags=re.MULTILINE)
-    return [read(crate, name, text) for name, text in zip(parts[1::2], parts[2::2])]
+    texts = {name: text for name, text in zip(parts[1::2], parts[2::2])}
+    texts.update((it.stem, it.read_text()) for it in sorted((at / "must-fail").glob("*.edit")))
+    return [read(crate, name, text) for name, text in texts.items()]
 
 
 def read(crate: str, name: str, text: str) -> Edit:
@@ -135,7 +138,7 @@ class Tree:
 
     def __init__(self, folder: str, source: Path = TOP) -> None:
         self.folder, self.is_ended = Path(folder) / "libraries", False
-        made = shutil.ignore_patterns("out", "mutants.edits")
+        made = shutil.ignore_patterns("out", "must-fail", "mutants.edits")
         for name in CRATES:
             shutil.copytree(source / "crates" / name, self.folder / "crates" / name, ignore=made)
         lines = (source / "crates.txt").read_text().splitlines(keepends=True)
