@@ -31,7 +31,7 @@ help:
 
 run: dlx1 ## build dlx1 and solve examples/seven.dlx
 	bin/dlx1 m1 < examples/seven.dlx
-test: bin ## the merge gate: proofs, tests, programs
+test: bin ## the merge gate: proofs, mutants, tests, programs
 	@sh tests/gate.sh
 	@sh tests/statuses.sh
 	@python3 tests/streams.py

@@ -1,9 +1,10 @@
 #!/bin/sh
 # gate.sh [--page PAGE]: `rt ci`, with its output and its status, on all processors. With --page, if it passes, the
-# page's row for as many processors gets the kit and the minutes (elapsed, of a processor).
+# page's row for as many processors gets the kit, the number of mutants, and the minutes (elapsed, of a processor).
 # `rt ci` gives most proofs one job, and each library needs the one below it. So these are proved before by runs of their
-# own, in which most get two jobs, and what stands on each beside the next one, with less priority. `rt ci` takes what
-# they kept. With CI=true the kit refuses a run of some crates, and `rt ci` is alone.
+# own, in which most get two jobs, and what stands on each beside the next one, with less priority, on a copy without
+# mutants, for which a run would wait. `rt ci` takes what they kept, and tries the mutants. With CI=true the kit refuses a
+# run of some crates, and `rt ci` is alone.
 cd "$(dirname "$0")/.." || exit 2
 folder=$(mktemp -d) || exit 2
 ahead= whole=
@@ -14,7 +15,10 @@ page=
 jobs=${RT_JOBS:-$(nproc)}
 begun=$(date +%s)
 if [ "${CI-}" != true ]; then
-    (unset RT_JOBS && exec setsid sh -ec '
+    mkdir "$folder/tree"
+    tar -c --exclude='crates/*/must-fail' --exclude='crates/*/mutants.edits' --exclude='crates/*/out' crates crates.txt HANDLES |
+        tar -x -C "$folder/tree"
+    (cd "$folder/tree" && unset RT_JOBS && exec setsid sh -ec '
         beside() { nice rt ci "$@" & }
         beside natural
         rt ci xc_dance
@@ -44,7 +48,8 @@ if [ $status = 0 ] && [ -n "$page" ]; then
     of_a_processor=$(awk -F '[ms ]+' 'NR == 2 { printf "%.0f", $1 + $2 / 60 + $3 + $4 / 60 }' "$folder/times")
     elapsed=$((($(date +%s) - begun + 30) / 60))
     kit=$(rt --version | cut -d ' ' -f 1)
-    row="| $jobs | $kit | $elapsed | $of_a_processor |"
+    mutants=$(find crates/*/must-fail -name '*.edit' | wc -l)
+    row="| $jobs | $kit | $mutants | $elapsed | $of_a_processor |"
     awk -v jobs="$jobs" -v row="$row" '$0 ~ "^[|] " jobs " [|] rattle-kit" { $0 = row } { print }' \
         "$page" >"$folder/page" && cat "$folder/page" >"$page"
 fi

@@ -1,7 +1,7 @@
 #!/usr/bin/env python3
 """forms.py [--check] [--page PAGE] [NAME..]: what each form that was decided by speed gains today.
 
-forms.edits has for each, after a line `# NAME`, the road not taken, in the format of mutants.edits: `file:`, `old:`, a
+forms.edits has for each, after a line `# NAME`, the road not taken, in the format of must-fail/: `file:`, `old:`, a
 text that stands there once, and `new:`. Here several lines `old:` or `new:` in a row are a text of so many lines. In
 front stand three lines more: what stands in the code, what instead, and the set of runs (instructions.py) that it is
 counted on. Each edit is planted in a copy, which is built without proofs and counted. The ratio is that of the
