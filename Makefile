@@ -37,6 +37,7 @@ test: bin ## the merge gate: proofs, mutants, tests, programs
 	@python3 tests/streams.py
 	@python3 tests/hostile/collisions.py
 	@$(MAKE) -s --no-print-directory bin
+	@sh tests/examples.sh
 	@python3 tests/count/trial.py 200 1
 	@python3 tests/count/numbered.py 30 1
 	@sh tests/guide.sh docs/GUIDE.md

@@ -23,7 +23,7 @@ from helgrothy import (
     programs,
 )
 
-EXAMPLES = os.path.join(os.path.dirname(os.path.abspath(__file__)), "..", "..", "crates", "example_counts", "data")
+EXAMPLES = os.path.join(os.path.dirname(os.path.abspath(__file__)), "..", "..", "examples")
 
 
 def children():
