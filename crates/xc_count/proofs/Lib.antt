@@ -15,6 +15,7 @@ pub mod Orders
 pub mod Passed
 pub mod PlanLemmas
 pub mod Split
+pub mod TakenKeys
 pub mod Turns
 pub mod MembersPassed
 pub mod WorthLemmas

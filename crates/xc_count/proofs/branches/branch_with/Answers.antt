@@ -1,19 +1,16 @@
-use Rattle.std.proofs.Common.{◌≡◌, ◌<◌, ◌≤◌, ◌+◌, ◌∷◌, Some, arith, ap, ◌∙◌, drop, length, subst, sym, get_or}
-use Rattle.std.specs.Prelude.{Contains, option_map}
+use Rattle.std.proofs.Common.{◌≡◌, ◌≤◌, ◌+◌, Some, arith, ap, ◌∙◌, drop, length, subst, sym, get_or}
 use Rattle.std.proofs.lemmas.List.{drop_all}
 use Rattle.std.proofs.lemmas.Map.Keys.{le_from_is_le}
-use Rattle.std.proofs.lemmas.Option.{slice_get-get_or}
-use Rattle.xc_input.specs.Problem.{numbered_get, option_count, uses_of}
-use Rattle.xc_input.proofs.ListLemmas.{contains-in, in-slice_get}
+use Rattle.xc_input.specs.Problem.{numbered_get, option_count}
 use Rattle.xc_search.specs.Listing.{listing}
-use Rattle.xc_count.specs.inner.Held.{holding_uses, left_by}
-use Rattle.xc_count.specs.inner.Numbered.{IsLess, behind_taken, left_by_key, size_left}
+use Rattle.xc_count.specs.inner.Numbered.{IsLess, behind_taken, left_by_key}
+use Rattle.xc_count.specs.inner.Plans.{options_with}
 use Rattle.xc_count.specs.inner.Worth.{says}
-use Rattle.xc_count.proofs.Below.{left_same}
-use Rattle.xc_count.proofs.ByNumber.{fork_primary, fork_listing, fork_less, fork_many, members_with, few_options}
+use Rattle.xc_count.proofs.ByNumber.{fork_primary, fork_listing, fork_many, members_with, few_options}
 use Rattle.xc_count.proofs.ByNumber.{more_than, number_empty, at_none, at_last, at_taken, at_passed, choice_of}
 use Rattle.xc_count.proofs.ByNumber.{agree_step, that_agree}
 use Rattle.xc_count.proofs.HolderLemmas.{option_known}
+use Rattle.xc_count.proofs.TakenKeys.{is_listed, left_with, less_with, solution_with}
 use Rattle.xc_count.proofs.branches.branch_with.Goals as goal
 
 pub options_of-options-requires-clause-item : goal.options_of-options-requires-clause-item
@@ -39,11 +36,9 @@ loop-place-init c =
 pub key_with-requires-clause-known : goal.key_with-requires-clause-known
 key_with-requires-clause-known c =
     let os = c.options_of-options.result.now in
-    let o = get_or os c.loop-place.place 0 in
-    let there = contains-in os o
-    (in-slice_get os c.loop-place.place o (slice_get-get_or os c.loop-place.place 0 (omega arith))) in
-    (option_known c.args.problem.now.puzzle c.args.fork.0 o
-    (subst (λ xs. Contains xs o) c.options_of-options.ensures there)).0
+    (option_known c.args.problem.now.puzzle c.args.fork.0 (get_or os c.loop-place.place 0)
+    (is_listed os (options_with c.args.problem.now.puzzle c.args.fork.0) c.loop-place.place (omega arith)
+    c.options_of-options.ensures)).0
 
 pub loop-place-preserved-in_default : goal.loop-place-preserved-in_default
 loop-place-preserved-in_default c =
@@ -70,79 +65,61 @@ overflow_add-k c =
 pub returns-then-k-fork-clause-solution : goal.returns-then-k-fork-clause-solution
 returns-then-k-fork-clause-solution c =
     let p = c.args.problem.now.puzzle in
-    let plan = c.args.plan.now in
-    let s = says plan 0 c.args.key.now in
+    let s = says c.args.plan.now 0 c.args.key.now in
     let os = c.options_of-options.result.now in
     let o = get_or os c.loop-place.place 0 in
-    let next = c.in-Some.next.items in
     let agreed = rw c.in-Some.is at c.in_ok-next.ensures.key in
-    let left : left_by_key p plan next ≡ left_by p (holding_uses (uses_of p o) s) =
-    left_same p c.requires.valid (holding_uses (uses_of p o) s) (says plan 0 next) agreed.1 in
     let step = agree_step p s os c.loop-place.place (omega arith) in
     let none : length (that_agree p s (drop (c.loop-place.place + 1) os)) ≡ 0 =
     omega (arith, rw agreed.0 at step, c.loop-place.invariant.ahead, c.if-k-fork.true) in
     c.loop-place.invariant.solution
     ∙ at_last p s c.args.fork.0 c.args.fork.1 (c.loop-place.k + 1) os c.loop-place.place c.loop-place.number
     (omega arith) agreed.0 none
-    ∙ ap (λ r. option_map (λ m. choice_of c.args.fork.0 c.args.fork.1 (c.loop-place.k + 1) o ∷ m)
-    (numbered_get (listing r) c.loop-place.number)) (sym left)
-    ∙ ap (λ t. behind_taken p plan (Some t) c.loop-place.number) (sym c.taking.ensures)
+    ∙ solution_with p c.requires.valid c.args.plan.now c.args.key.now c.in-Some.next.items o agreed.1
+    (choice_of c.args.fork.0 c.args.fork.1 (c.loop-place.k + 1) o) c.loop-place.number
+    ∙ ap (λ t. behind_taken p c.args.plan.now (Some t) c.loop-place.number) (sym c.taking.ensures)
 
 pub returns-then-k-fork-clause-less : goal.returns-then-k-fork-clause-less
 returns-then-k-fork-clause-less c =
     let p = c.args.problem.now.puzzle in
-    let plan = c.args.plan.now in
-    let s = says plan 0 c.args.key.now in
     let os = c.options_of-options.result.now in
-    let o = get_or os c.loop-place.place 0 in
+    let listed = is_listed os (options_with p c.args.fork.0) c.loop-place.place (omega arith)
+    c.options_of-options.ensures in
     let agreed = rw c.in-Some.is at c.in_ok-next.ensures.key in
-    let left : left_by_key p plan c.in-Some.next.items ≡ left_by p (holding_uses (uses_of p o) s) =
-    left_same p c.requires.valid (holding_uses (uses_of p o) s) (says plan 0 c.in-Some.next.items) agreed.1 in
-    let listed = contains-in os o
-    (in-slice_get os c.loop-place.place o (slice_get-get_or os c.loop-place.place 0 (omega arith))) in
-    let less = fork_less p c.requires.valid c.requires.once s c.args.fork c.requires.fork o
-    (subst (λ xs. Contains xs o) c.options_of-options.ensures listed) agreed.0 in
-    let here = subst (λ r. size_left r < size_left (left_by_key p plan c.args.key.now)) (sym left) less in
-    subst (λ t. IsLess p plan t.key.items c.args.key.now) (sym c.taking.ensures) here
+    subst (λ t. IsLess p c.args.plan.now t.key.items c.args.key.now) (sym c.taking.ensures)
+    (less_with p c.requires.valid c.args.plan.now c.args.key.now c.in-Some.next.items (get_or os c.loop-place.place 0)
+    agreed.1 c.requires.once c.args.fork c.requires.fork listed agreed.0)
 
 pub returns-then-le-clause-solution : goal.returns-then-le-clause-solution
 returns-then-le-clause-solution c =
     let p = c.args.problem.now.puzzle in
     let plan = c.args.plan.now in
-    let s = says plan 0 c.args.key.now in
     let os = c.options_of-options.result.now in
     let o = get_or os c.loop-place.place 0 in
     let next = c.in-Some.next.items in
     let agreed = rw c.in-Some.is at c.in_ok-next.ensures.key in
-    let left : left_by_key p plan next ≡ left_by p (holding_uses (uses_of p o) s) =
-    left_same p c.requires.valid (holding_uses (uses_of p o) s) (says plan 0 next) agreed.1 in
-    let many : c.in_ok-covers.covers ≡ length (listing (left_by p (holding_uses (uses_of p o) s))) =
-    c.in_ok-covers.ensures ∙ ap (λ k. length (listing (left_by_key p plan k))) c.as_slice-in-loop-place.ensures.value
+    let left = left_with p c.requires.valid plan c.args.key.now next o agreed.1 in
+    let many = c.in_ok-covers.ensures
+    ∙ ap (λ k. length (listing (left_by_key p plan k))) c.as_slice-in-loop-place.ensures.value
     ∙ ap (λ r. length (listing r)) left in
     let few = le_from_is_le c.loop-place.number c.in_ok-covers.covers (sym c.le.ensures ∙ c.if-le.true) in
     c.loop-place.invariant.solution
-    ∙ at_taken p s c.args.fork.0 c.args.fork.1 (c.loop-place.k + 1) os c.loop-place.place c.loop-place.number
-    (omega arith) agreed.0 (omega (arith, few, many))
-    ∙ ap (λ r. option_map (λ m. choice_of c.args.fork.0 c.args.fork.1 (c.loop-place.k + 1) o ∷ m)
-    (numbered_get (listing r) c.loop-place.number)) (sym left)
+    ∙ at_taken p (says plan 0 c.args.key.now) c.args.fork.0 c.args.fork.1 (c.loop-place.k + 1) os c.loop-place.place
+    c.loop-place.number (omega arith) agreed.0 (omega (arith, few, many))
+    ∙ solution_with p c.requires.valid plan c.args.key.now next o agreed.1
+    (choice_of c.args.fork.0 c.args.fork.1 (c.loop-place.k + 1) o) c.loop-place.number
     ∙ ap (λ t. behind_taken p plan (Some t) c.loop-place.number) (sym c.taking-then-le.ensures)
 
 pub returns-then-le-clause-less : goal.returns-then-le-clause-less
 returns-then-le-clause-less c =
     let p = c.args.problem.now.puzzle in
-    let plan = c.args.plan.now in
-    let s = says plan 0 c.args.key.now in
     let os = c.options_of-options.result.now in
-    let o = get_or os c.loop-place.place 0 in
+    let listed = is_listed os (options_with p c.args.fork.0) c.loop-place.place (omega arith)
+    c.options_of-options.ensures in
     let agreed = rw c.in-Some.is at c.in_ok-next.ensures.key in
-    let left : left_by_key p plan c.in-Some.next.items ≡ left_by p (holding_uses (uses_of p o) s) =
-    left_same p c.requires.valid (holding_uses (uses_of p o) s) (says plan 0 c.in-Some.next.items) agreed.1 in
-    let listed = contains-in os o
-    (in-slice_get os c.loop-place.place o (slice_get-get_or os c.loop-place.place 0 (omega arith))) in
-    let less = fork_less p c.requires.valid c.requires.once s c.args.fork c.requires.fork o
-    (subst (λ xs. Contains xs o) c.options_of-options.ensures listed) agreed.0 in
-    let here = subst (λ r. size_left r < size_left (left_by_key p plan c.args.key.now)) (sym left) less in
-    subst (λ t. IsLess p plan t.key.items c.args.key.now) (sym c.taking-then-le.ensures) here
+    subst (λ t. IsLess p c.args.plan.now t.key.items c.args.key.now) (sym c.taking-then-le.ensures)
+    (less_with p c.requires.valid c.args.plan.now c.args.key.now c.in-Some.next.items (get_or os c.loop-place.place 0)
+    agreed.1 c.requires.once c.args.fork c.requires.fork listed agreed.0)
 
 pub loop-place-preserved : goal.loop-place-preserved
 loop-place-preserved c =
@@ -151,12 +128,10 @@ loop-place-preserved c =
     let s = says plan 0 c.args.key.now in
     let os = c.options_of-options.result.now in
     let o = get_or os c.loop-place.place 0 in
-    let next = c.in-Some.next.items in
     let agreed = rw c.in-Some.is at c.in_ok-next.ensures.key in
-    let left : left_by_key p plan next ≡ left_by p (holding_uses (uses_of p o) s) =
-    left_same p c.requires.valid (holding_uses (uses_of p o) s) (says plan 0 next) agreed.1 in
-    let many : c.in_ok-covers.covers ≡ length (listing (left_by p (holding_uses (uses_of p o) s))) =
-    c.in_ok-covers.ensures ∙ ap (λ k. length (listing (left_by_key p plan k))) c.as_slice-in-loop-place.ensures.value
+    let left = left_with p c.requires.valid plan c.args.key.now c.in-Some.next.items o agreed.1 in
+    let many = c.in_ok-covers.ensures
+    ∙ ap (λ k. length (listing (left_by_key p plan k))) c.as_slice-in-loop-place.ensures.value
     ∙ ap (λ r. length (listing r)) left in
     let more = more_than c.loop-place.number c.in_ok-covers.covers (sym c.le.ensures ∙ c.if-le.false) in
     record {
