@@ -1,5 +1,0 @@
-use Rattle.std.proofs.Common.{◌≡◌}
-use Rattle.dance_tests.proofs.inverse.back.Given as goal
-
-abbrev pub invariant-loop-step : goal.invariant-loop-step
-invariant-loop-step g l = (g.D.Dance.state l.dance).puzzle ≡ (g.D.Dance.state l.fn.dance).puzzle

@@ -1,7 +1,0 @@
-use Rattle.std.proofs.Common.{◌≡◌, ℕ, Some}
-use Rattle.xc_dance.specs.Moves.{IsOpenPrimary}
-use Rattle.dance_tests.proofs.keepers.are_open.Given as goal
-
-abbrev pub invariant-loop-i : goal.invariant-loop-i
-invariant-loop-i g l =
-    (x : ℕ) → l.next ≡ Some x → IsOpenPrimary (g.D.Dance.state l.dance).puzzle (g.D.Dance.state l.dance).trail x

@@ -1,0 +1,18 @@
+//! Tests of moves and their undoing, over linked tables and live lists.
+
+// Helpers.
+mod costs;
+mod keepers;
+
+// What is there for callers.
+mod callers;
+
+// Memory, ample and scarce.
+mod memory;
+
+// Moves and their undoing.
+mod full;
+mod inverse;
+mod same;
+mod tables;
+mod vectors_of_links;

@@ -1,0 +1,164 @@
+//! Spans of listings, and the words that mean them.
+use crate::fixtures::{THREE_ALIKE, TWICE, Wanted, gathered, wrong_row};
+use std::alloc::Global;
+use xc_input::{Kind, Problem};
+use xc_list::{SpanFault, SpanWords, Tray, VecSink, list_span};
+
+/// Words, and what is written of the span that they mean. The digests of the problems are in `digests.rt`.
+struct Span(&'static [&'static [u8]], &'static [u8]);
+
+const SPANS: [(Kind, &[u8], Span); 9] = [
+    (
+        Kind::Plain,
+        THREE_ALIKE,
+        Span(
+            &[b"m1", b"0", b"-", b"-"],
+            b"from - problem 12589a6a85a80440\n1:\n A (1 of 3)\n2:\n A (2 of 3)\n3:\n A (3 of 3)\n\
+            from - until - solutions 3 steps 3 problem 12589a6a85a80440\n",
+        ),
+    ),
+    (
+        Kind::Plain,
+        THREE_ALIKE,
+        Span(
+            &[b"m1", b"0", b"02", b"3"],
+            b"from 2 problem 12589a6a85a80440\n1:\n A (2 of 3)\n\
+            from 2 until 3 solutions 1 steps 1 problem 12589a6a85a80440\n",
+        ),
+    ),
+    (
+        Kind::Plain,
+        THREE_ALIKE,
+        Span(
+            &[b"m1", b"2", b"-", b"-"],
+            b"from - problem 12589a6a85a80440\n1:\n A (1 of 3)\n\
+            from - until 2 of 3 solutions 1 steps 2 problem 12589a6a85a80440\n",
+        ),
+    ),
+    (
+        Kind::Plain,
+        THREE_ALIKE,
+        Span(
+            &[b"m1", b"1", b"-", b"-"],
+            b"from - problem 12589a6a85a80440\n\
+            from - until 1 of 3 solutions 0 steps 1 problem 12589a6a85a80440\n",
+        ),
+    ),
+    (
+        Kind::Plain,
+        THREE_ALIKE,
+        Span(
+            &[b"m0", b"2", b"-", b"-"],
+            b"from - until 2 of 3 solutions 1 steps 2 problem 12589a6a85a80440\n",
+        ),
+    ),
+    (
+        Kind::Plain,
+        THREE_ALIKE,
+        Span(
+            &[b"m0", b"0", b"1.0", b"1.0"],
+            b"from 1.0 until 1.0 solutions 0 steps 0 problem 12589a6a85a80440\n",
+        ),
+    ),
+    (
+        Kind::Plain,
+        THREE_ALIKE,
+        Span(
+            &[b"m0", b"0", b"1.4294967295", b"-"],
+            b"from 1.4294967295 until - solutions 2 steps 1 problem 12589a6a85a80440\n",
+        ),
+    ),
+    (
+        Kind::Plain,
+        THREE_ALIKE,
+        Span(
+            &[b"m0", b"0", b"4", b"-"],
+            b"from 4 until - solutions 0 steps 0 problem 12589a6a85a80440\n",
+        ),
+    ),
+    // Rows of two choices.
+    (
+        Kind::Bounds,
+        TWICE,
+        Span(
+            &[b"m0", b"3", b"1.2", b"-"],
+            b"from 1.2 until 2.1 of 2.1 solutions 1 steps 3 problem 18dfe1040992a59e\n",
+        ),
+    ),
+];
+
+/// What words mean; None where there is no memory.
+fn asked(alloc: Global, words: &[&[u8]]) -> Option<Option<SpanWords>> {
+    let all = gathered(alloc, words).ok()?;
+    SpanWords::read(alloc, &all).ok()
+}
+
+/// Whether a span is written so into a sink that takes it.
+fn is_written(alloc: Global, problem: &Problem, words: &SpanWords, wanted: &[u8]) -> bool {
+    let mut sink = VecSink::new(alloc);
+    let went = list_span(alloc, problem, words, &mut sink);
+    let written = went.is_ok() && sink.bytes() == wanted;
+    drop(sink);
+    written
+}
+
+/// Whether it breaks off in a sink that takes no more than these bytes.
+fn is_cut(alloc: Global, problem: &Problem, words: &SpanWords, begun: &[u8]) -> bool {
+    let Ok(mut tray) = Tray::new(alloc, 5, begun.len(), false) else {
+        return false;
+    };
+    let failed = list_span(alloc, problem, words, &mut tray).err();
+    let cut = failed == Some(SpanFault::WriteFailed) && tray.bytes() == begun;
+    drop(tray);
+    cut
+}
+
+/// Whether a span is written so, and each beginning of it into a sink that takes no more.
+fn is_listed(alloc: Global, problem: &Problem, words: &SpanWords, wanted: &[u8]) -> bool {
+    for room in 0..wanted.len() {
+        if !is_cut(alloc, problem, words, &wanted[..room]) {
+            return false;
+        }
+    }
+    is_written(alloc, problem, words, wanted)
+}
+
+impl Wanted for Span {
+    fn is_so(&self, alloc: Global, problem: &Problem) -> bool {
+        match asked(alloc, self.0) {
+            Some(Some(words)) => is_listed(alloc, problem, &words, self.1),
+            _ => false,
+        }
+    }
+}
+
+#[test]
+fn spans_by_words(rt: HostRuntime) {
+    assert_eq!(rt; wrong_row(rt.alloc(), &SPANS), None);
+}
+
+/// Words that mean no span.
+const REFUSED: [&[&[u8]]; 12] = [
+    &[],
+    &[b"m1", b"0", b"-"],
+    &[b"m1", b"0", b"-", b"-", b"-"],
+    &[b"m2", b"0", b"-", b"-"],
+    &[b"m1", b"", b"-", b"-"],
+    &[b"m1", b"18446744073709551616", b"-", b"-"],
+    &[b"m1", b"0", b"", b"-"],
+    &[b"m1", b"0", b"1.", b"-"],
+    &[b"m1", b"0", b"1..2", b"-"],
+    &[b"m1", b"0", b"1,2", b"-"],
+    &[b"m1", b"0", b"4294967296", b"-"],
+    &[b"m1", b"0", b"1.2", b"1.1.7"],
+];
+
+#[test]
+fn words_of_no_span(rt: HostRuntime) {
+    for (row, words) in REFUSED.iter().enumerate() {
+        assert!(rt;
+            matches!(asked(rt.alloc(), *words), Some(None)),
+            "row {row}"
+        );
+    }
+}

@@ -1,0 +1,10 @@
+//! Searches, walks over solutions, and searches of spans.
+
+mod closing;
+mod equal_values;
+mod large;
+mod made;
+mod searching;
+mod spanning;
+mod visiting;
+mod walking;

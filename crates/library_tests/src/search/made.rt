@@ -1,0 +1,30 @@
+//! What tests of searches share.
+use xc_dance::{Dance, Lists};
+use xc_search::Choice;
+
+/// Whether lists were handed back without moves. That they are dropped is proved here, and not in each test.
+pub fn are_undone(lists: Lists) -> bool {
+    lists.moves().is_empty()
+}
+
+/// The choices of the one solution of `SEVEN`.
+pub const SEVEN_CHOICES: [Choice; 3] = [
+    Choice {
+        item: 1,
+        option: Some(4),
+        k: 2,
+        n: 2,
+    },
+    Choice {
+        item: 2,
+        option: Some(5),
+        k: 1,
+        n: 1,
+    },
+    Choice {
+        item: 3,
+        option: Some(1),
+        k: 1,
+        n: 1,
+    },
+];

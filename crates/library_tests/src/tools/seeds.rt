@@ -1,0 +1,160 @@
+//! The seed that hashes names: what is read is the same by each.
+use crate::fixtures::has_option;
+use std::alloc::Global;
+use std::hash::BuildHasher;
+use std::test::Fail;
+use xc_input::{
+    Kind, Problem, ReadFailed, Reader, Seed, Seeded, SliceSource, Source, read_problem,
+};
+use xc_tools::random_seed;
+
+/// Names whose hashes by the fixed seed are one in the 32 bits that a table takes.
+const ONE_HASH: [&[u8]; 3] = [b"zywtca", b"wiigga", b"vnqsna"];
+
+/// These names as items and as colours, with an option of each.
+const TEXT_OF_ONE_HASH: &[u8] =
+    b"zywtca wiigga vnqsna | x\nzywtca x:zywtca\nwiigga x:wiigga\nvnqsna x:vnqsna\n";
+
+#[test]
+fn names_have_one_hash(rt: HostRuntime) -> Result<(), Fail> {
+    for (row, name) in ONE_HASH.iter().enumerate() {
+        let hash = Seed::FIXED.hash_one(*name);
+        // `tests/hostile/collisions.py` hashes as this does: it has the same number.
+        if (hash ^ (hash >> 32)) & 0xffff_ffff != 0x636b_03c0 {
+            return Err(Fail::new(format_args!("row {row}")));
+        }
+    }
+    Ok(())
+}
+
+/// The numbers of a problem's items, options and colours, those of some names and colours, and the uses of options.
+struct Known {
+    numbers: [u32; 3],
+    names: &'static [(&'static [u8], u32)],
+    colours: &'static [(&'static [u8], u32)],
+    options: &'static [(u32, &'static [(u32, u32)])],
+}
+
+/// Whether a problem is so, and hashes by this seed.
+fn is_known(problem: &Problem, seed: Seed, known: &Known) -> bool {
+    for (name, item) in known.names {
+        if problem.find(*name) != Some(*item) {
+            return false;
+        }
+    }
+    for (name, colour) in known.colours {
+        if problem.find_colour(*name) != Some(*colour) {
+            return false;
+        }
+    }
+    for (option, uses) in known.options {
+        if !has_option(problem, *option, *uses) {
+            return false;
+        }
+    }
+    [problem.items(), problem.options(), problem.colours()] == known.numbers
+        && problem.seed() == seed
+}
+
+/// Whether a source gives such a problem.
+fn gives<S: Source>(alloc: Global, source: &mut S, seed: Seed, known: &Known) -> bool {
+    match read_problem(alloc, Kind::Colours, source) {
+        Ok(read) => is_known(&read.problem, seed, known),
+        Err(_) => false,
+    }
+}
+
+/// Names of one hash are known apart, as items and as colours.
+const APART: Known = Known {
+    numbers: [4, 3, 3],
+    names: &[(b"zywtca", 1), (b"wiigga", 2), (b"vnqsna", 3)],
+    colours: &[(b"zywtca", 1), (b"wiigga", 2), (b"vnqsna", 3)],
+    options: &[
+        (1, &[(1, 0), (4, 1)]),
+        (2, &[(2, 0), (4, 2)]),
+        (3, &[(3, 0), (4, 3)]),
+    ],
+};
+
+#[test]
+fn names_of_one_hash(rt: HostRuntime) {
+    let mut source = SliceSource::new(TEXT_OF_ONE_HASH);
+    assert!(rt; gives(rt.alloc(), &mut source, Seed::FIXED, &APART));
+}
+
+/// A source around another, which passes its reads on and has the fixed seed.
+#[derive(Drop)]
+struct Around<'a> {
+    source: SliceSource<'a>,
+}
+
+impl<'a> Source for Around<'a> {
+    ghost state = { λ s. ⟦<SliceSource<'a> as Source>⟧.state s.source };
+
+    fn read(&mut self, buf: &mut [u8]) -> Result<usize, ReadFailed> {
+        self.source.read(buf)
+    }
+
+    fn seed(&self) -> Seed {
+        Seed::FIXED
+    }
+}
+
+/// A problem of two items and two others, with colours.
+const TEXT: &[u8] = b"a b | x y\na x:red\nb y:green x:red\n";
+
+const KNOWN: Known = Known {
+    numbers: [4, 2, 2],
+    names: &[(b"a", 1), (b"b", 2), (b"x", 3), (b"y", 4)],
+    colours: &[(b"red", 1), (b"green", 2)],
+    options: &[(1, &[(1, 0), (3, 1)]), (2, &[(2, 0), (4, 2), (3, 1)])],
+};
+
+/// Whether it is read to its end by this seed, through a source that has the fixed one.
+fn is_read_by(alloc: Global, seed: Seed) -> bool {
+    let around = Around {
+        source: SliceSource::with_seed(TEXT, Seed::new(9)),
+    };
+    let is_fixed = around.seed() == Seed::FIXED;
+    let mut source = Seeded::new(around, seed);
+    let is_read = source.seed() == seed && gives(alloc, &mut source, seed, &KNOWN);
+    let mut left = source.into_source();
+    is_fixed && is_read && left.read(&mut [0; 10]) == Ok(0)
+}
+
+#[test]
+fn each_seed_reads_the_same(rt: HostRuntime) -> Result<(), Fail> {
+    assert!(rt; is_read_by(rt.alloc(), Seed::FIXED) && is_read_by(rt.alloc(), random_seed(&rt)));
+    for keys in &[
+        0,
+        1,
+        12_345,
+        0x0123_4567_89ab_cdef_fedc_ba98_7654_3210,
+        u128::MAX,
+    ] {
+        if Seed::new(*keys) == Seed::FIXED || !is_read_by(rt.alloc(), Seed::new(*keys)) {
+            return Err(Fail::new(format_args!("keys {keys}")));
+        }
+    }
+    Ok(())
+}
+
+/// What is read of two lines.
+const LINES: Known = Known {
+    numbers: [2, 1, 0],
+    names: &[(b"a", 1), (b"b", 2)],
+    colours: &[],
+    options: &[(1, &[(2, 0), (1, 0)])],
+};
+
+#[test]
+fn lines_by_a_seed(rt: HostRuntime) {
+    let seed = Seed::new(7);
+    let mut reader = Reader::with_seed(rt.alloc(), Kind::Plain, seed);
+    let taken = reader.line(b"a b").is_ok() && reader.line(b"b a").is_ok();
+    let kept = match reader.finish() {
+        Ok(read) => is_known(&read.problem, seed, &LINES),
+        Err(_) => false,
+    };
+    assert!(rt; taken && kept);
+}
