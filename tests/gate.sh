@@ -1,10 +1,10 @@
 #!/bin/sh
 # gate.sh [--page PAGE]: `rt ci`, with its output and its status, on all processors. With --page, if it passes, the
 # page's row for as many processors gets the kit, the number of mutants, and the minutes (elapsed, of a processor).
-# `rt ci` gives most proofs one job, and each library needs the one below it. So these are proved before by runs of their
-# own, in which most get two jobs, and what stands on each beside the next one, with less priority, on a copy without
-# mutants, for which a run would wait. `rt ci` takes what they kept, and tries the mutants. With CI=true the kit refuses a
-# run of some crates, and `rt ci` is alone.
+# `rt ci` gives most proofs one job, and tries mutants last. Each library needs the one below it, so these are proved
+# before by runs of their own, in which most get two jobs, on a copy without mutants, for which a run would wait. Beside
+# the next library come, with less priority, the mutant of the last one and what else stands on it. `rt ci` takes what
+# they kept. With CI=true the kit refuses a run of some crates, and `rt ci` is alone.
 cd "$(dirname "$0")/.." || exit 2
 folder=$(mktemp -d) || exit 2
 ahead= whole=
@@ -18,22 +18,29 @@ if [ "${CI-}" != true ]; then
     mkdir "$folder/tree"
     tar -c --exclude='crates/*/must-fail' --exclude='crates/*/mutants.edits' --exclude='crates/*/out' crates crates.txt HANDLES |
         tar -x -C "$folder/tree"
-    (cd "$folder/tree" && unset RT_JOBS && exec setsid sh -ec '
-        beside() { nice rt ci "$@" & }
-        beside natural
-        rt ci xc_dance
-        beside reading_tests dance_tests
-        rt ci xc_search
-        rt ci xc_count &
-        beside search_tests
-        rt ci xc_list
-        beside listing_tests
-        beside count_tests xc_c
-        rt ci xc_tools
-        beside dlx1 dlx2 dlx3 dlxcheck dlx_span dlx_join dlx_count
-        beside example_counts first_cover names_of_covers
-        rt ci tool_tests
-        wait') >"$folder/log" 2>&1 </dev/null &
+    (unset RT_JOBS && exec setsid sh -ec '
+        library() { (cd "$0" && RT_JOBS=${2-} rt ci "$1"); }
+        beside() { (cd "$0" && RT_JOBS=1 exec nice rt ci "$@") & }
+        mutants() { RT_JOBS=1 nice rt ci "$@" & }
+        mutants natural
+        library xc_input
+        mutants xc_input
+        library xc_dance
+        mutants xc_dance
+        library xc_search
+        mutants xc_search
+        library xc_count 1 &
+        library xc_list
+        mutants xc_list
+        beside xc_c
+        library xc_tools
+        mutants xc_tools
+        mutants xc_count
+        beside dlx1 dlx2 dlx3 dlxcheck dlx_span dlx_join
+        beside dlx_count names_of_covers
+        mutants xc_c xc_count_run
+        library library_tests
+        wait' "$folder/tree") >"$folder/log" 2>&1 </dev/null &
     ahead=$!
     wait $ahead
 fi
