@@ -34,6 +34,7 @@ run: dlx1 ## build dlx1 and solve examples/seven.dlx
 test: bin ## the merge gate: proofs, mutants, tests, programs
 	@sh tests/gate.sh
 	@sh tests/statuses.sh
+	@python3 tests/runs.py
 	@python3 tests/streams.py
 	@python3 tests/hostile/collisions.py
 	@$(MAKE) -s --no-print-directory bin

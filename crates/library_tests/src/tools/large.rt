@@ -1,5 +1,5 @@
 //! Large problems and listings, with ample memory: no run gives up.
-use crate::tools::told::{BY_PAGE, PLAIN, are_covers, reports, told_by};
+use crate::tools::told::{BY_PAGE, PLAIN, Tool, reports, told_by};
 use std::alloc::Global;
 use std::test::Fail;
 
@@ -23,6 +23,22 @@ fn two_thousand_levels(rt: HostRuntime) -> Result<(), Fail> {
     Ok(())
 }
 
+/// Whether the judge finds nothing but covers in a listing.
+fn are_covers(alloc: Global, text: &[u8], listing: &[u8]) -> bool {
+    let judge = Tool::Judge(listing);
+    match told_by(
+        alloc,
+        &judge,
+        b"PROBLEM,1",
+        text,
+        &BY_PAGE,
+        [1_000_000, 100],
+    ) {
+        Some(told) => told.status == Some(0),
+        None => false,
+    }
+}
+
 /// Whether all twenty thousand options of one item are listed, and found to be covers.
 fn are_listed(alloc: Global, text: &[u8]) -> bool {
     let Some(solved) = told_by(alloc, &PLAIN, b"m1", text, &BY_PAGE, [1_000_000, 100]) else {
@@ -32,7 +48,7 @@ fn are_listed(alloc: Global, text: &[u8]) -> bool {
     solved.err.bytes() == b"Altogether 20000 solutions.\n".as_slice()
         && listing.len() > 500_000
         && listing.ends_with(b"20000:\n A (20000 of 20000)\n")
-        && are_covers(alloc, &PLAIN, text, listing, 1_000_000)
+        && are_covers(alloc, text, listing)
 }
 
 #[test]

@@ -1,7 +1,6 @@
 //! What whole runs report.
 use bstr::ByteSlice;
 use std::alloc::{AllocError, Global};
-use std::test::Fail;
 use xc_input::{Feed, Kind};
 use xc_list::{Sink, Tray};
 use xc_tools::{join_spans, judge, solve, solve_span};
@@ -166,60 +165,4 @@ pub fn reports(
         out,
         err,
     )
-}
-
-/// Whether the judge, whose verdicts take up at most so many bytes, finds nothing but covers in what `solve` listed.
-pub fn are_covers(alloc: Global, solved: &Tool, text: &[u8], listing: &[u8], room: usize) -> bool {
-    let words: &[u8] = match solved {
-        Tool::Solve(Kind::Plain) => b"PROBLEM,1",
-        Tool::Solve(Kind::Colours) => b"PROBLEM,2",
-        _ => b"PROBLEM,3",
-    };
-    let judge = Tool::Judge(listing);
-    match told_by(alloc, &judge, words, text, &BY_PAGE, [room, room]) {
-        Some(told) => told.status == Some(0),
-        None => false,
-    }
-}
-
-/// What a row of a table runs: `solve` by the number of a kind, or a program by its name.
-fn tool_of<'a>(name: &[u8], listing: &'a [u8]) -> Tool<'a> {
-    match name {
-        b"1" => PLAIN,
-        b"2" => Tool::Solve(Kind::Colours),
-        b"3" => Tool::Solve(Kind::Bounds),
-        b"judge" => Tool::Judge(listing),
-        b"span" => Tool::Span,
-        _ => Tool::Join,
-    }
-}
-
-/// Whether a row's run reports what the row says. If it is to be judged, its output has to be nothing but covers.
-fn is_so(alloc: Global, row: &[u8], judged: bool) -> Option<bool> {
-    let (name, row) = row.split_once_str(b"&")?;
-    let (words, row) = row.split_once_str(b"&")?;
-    let (text, row) = row.split_once_str(b"&")?;
-    let (status, row) = row.split_once_str(b"&")?;
-    let (out, row) = row.split_once_str(b"&")?;
-    let (err, listing) = row.split_once_str(b"&").unwrap_or((row, b""));
-    let tool = tool_of(name, listing);
-    let status = status.first()?.wrapping_sub(b'0');
-    Some(
-        reports(alloc, &tool, words, text, status, out, err)
-            && (!judged || are_covers(alloc, &tool, text, out, 1000)),
-    )
-}
-
-/// Whether the runs of a table report so. A table is one text, since a constant with many references is slow to prove:
-/// each row ends in `@`, and `&` is between its tool, its words, its text, the status, the output, the messages and,
-/// for the judge, the listing.
-pub fn report_so(alloc: Global, table: &[u8], judged: bool) -> Result<(), Fail> {
-    let mut number = 0u32;
-    for row in table.split_str(b"@") {
-        number = number.saturating_add(1);
-        if !row.is_empty() && is_so(alloc, row, judged) != Some(true) {
-            return Err(Fail::new(format_args!("row {number}")));
-        }
-    }
-    Ok(())
 }

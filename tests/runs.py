@@ -1,0 +1,417 @@
+#!/usr/bin/env python3
+"""runs.py [FOLDER]: what the programs answer, by status, output and messages, to worked problems, listings and texts of
+spans, and to what each refuses.
+
+What the solvers list, `dlxcheck` finds to be covers; a problem and a listing are cut at each byte. FOLDER holds the
+programs; without it they are taken from where the gate leaves them. Prints what is wrong, and nothing else; the status
+is then 1.
+"""
+import os
+import subprocess
+import sys
+import tempfile
+from collections.abc import Iterator
+from typing import NamedTuple
+
+TOP = os.path.dirname(os.path.dirname(os.path.abspath(__file__)))
+FOLDER = sys.argv[1] if len(sys.argv) > 1 else None
+
+SEVEN = "a b c d e f g\nc e\na d g\nb c f\na d f\nb g\nd e g\n"
+SEVEN_LISTING = "1:\n a d f (2 of 2)\n b g (1 of 1)\n c e (1 of 1)\n"
+THREE = "A\nA\nA\nA\n"
+THREE_LISTING = "1:\n A (1 of 3)\n2:\n A (2 of 3)\n3:\n A (3 of 3)\n"
+COLOURED = "p q r | x y\np q x y:A\np r x:A y\np x:B\nq x:A\nr y:B\n"
+COLOURED_LISTING = "1:\n q x:A (2 of 2)\n p r x:A y (1 of 1)\n"
+TWICE = "1:2|A B\nA\nA B\nB\n"
+ALONE = "0:2|A\nA\nA\n"
+NULL = "0:1|null 0:2|A\nnull A\nA\n"
+
+
+class Answer(NamedTuple):
+    status: int
+    output: str
+    messages: str
+
+
+def run(words: list[str], text: str) -> Answer:
+    """What a program answers to arguments and standard input. A text stands for its bytes in latin-1."""
+    crate = words[0].replace("-", "_")
+    program = f"{FOLDER}/{words[0]}" if FOLDER else f"{TOP}/crates/{crate}/out/{crate}"
+    ended = subprocess.run([program, *words[1:]], input=text.encode("latin-1"), capture_output=True, timeout=60)
+    return Answer(ended.returncode, ended.stdout.decode("latin-1"), ended.stderr.decode("latin-1"))
+
+
+def judge(words: list[str], problem: str, listing: str) -> Answer:
+    """The same of `dlxcheck`, for which the problem is a file, with the arguments after it."""
+    with tempfile.NamedTemporaryFile() as file:
+        file.write(problem.encode("latin-1"))
+        file.flush()
+        return run(["dlxcheck", file.name, *words], listing)
+
+
+def differs(what: str, found: Answer, wanted: Answer) -> Iterator[str]:
+    if found != wanted:
+        yield f"{what}: {found}, not {wanted}"
+
+
+# ---- the solvers
+
+# A command, the problem, its listing, and how many solutions are counted.
+SOLVED = [
+    ("dlx1 m1", SEVEN, SEVEN_LISTING, "1 solution"),
+    ("dlx1 m2", THREE, "2:\n A (2 of 3)\n", "3 solutions"),
+    ("dlx1 m1 t2", THREE, "1:\n A (1 of 3)\n2:\n A (2 of 3)\n", "2 solutions (limit)"),
+    ("dlx1 m1 t3", THREE, THREE_LISTING, "3 solutions (limit)"),
+    ("dlx1", THREE, "", "3 solutions"),
+    ("dlx1 m1", "A B\nA\n", "", "0 solutions"),
+    ("dlx1 m1", "ABCDEFGHI\n", "", "0 solutions"),
+    ("dlx1 m1", "\xc3\xa9\n\xc3\xa9\n", "1:\n \xc3\xa9 (1 of 1)\n", "1 solution"),
+    (
+        "dlx1 m1",
+        "A B | x y\nA x\nA y\nB x\nB y\nB\n",
+        "1:\n A x (1 of 2)\n B y (1 of 2)\n2:\n A x (1 of 2)\n B (2 of 2)\n"
+        "3:\n A y (2 of 2)\n B x (1 of 2)\n4:\n A y (2 of 2)\n B (2 of 2)\n",
+        "4 solutions",
+    ),
+    ("dlx2 m1", COLOURED, COLOURED_LISTING, "1 solution"),
+    ("dlx2 m1", "A B |x\nA x:1\nB x:1\nB x:2\nB x\n", "1:\n A x:1 (1 of 1)\n B x:1 (1 of 1)\n", "1 solution"),
+    ("dlx2 m1", "A B | x\nA x:|\nB x:|\nB x::\n", "1:\n A x:| (1 of 1)\n B x:| (1 of 1)\n", "1 solution"),
+    (
+        "dlx2 m1",
+        "A B | x\nA x:red\nB x:green\nB x:red\n",
+        "1:\n A x:red (1 of 1)\n B x:red (1 of 1)\n",
+        "1 solution",
+    ),
+    ("dlx2 m1", "A | x\nA x:12345678\n", "1:\n A x:12345678 (1 of 1)\n", "1 solution"),
+    (
+        "dlx3 m1",
+        TWICE,
+        "1:\n A (1 of 2)\n A B (1 of 2)\n2:\n A (1 of 2)\n null A (2 of 2)\n B (1 of 1)\n"
+        "3:\n A B (2 of 2)\n null A (1 of 1)\n",
+        "3 solutions",
+    ),
+    (
+        "dlx3 m1",
+        ALONE,
+        "1:\n A (1 of 3)\n A (1 of 2)\n2:\n A (1 of 3)\n null A (2 of 2)\n"
+        "3:\n A (2 of 3)\n null A (1 of 1)\n4:\n null A (3 of 3)\n",
+        "4 solutions",
+    ),
+    ("dlx3 m1", "0:1|A\n", "1:\n null A (1 of 1)\n", "1 solution"),
+    ("dlx3 m1", "999999999|A\nA\n", "", "0 solutions"),
+    ("dlx3 m1", "2|A\nA\nA\n", "1:\n A (1 of 1)\n A (1 of 1)\n", "1 solution"),
+    (
+        "dlx3 m1",
+        "2|A 0:1|B | x\nA B\nA x:1\nA x:2\nB\n",
+        "1:\n A B (1 of 2)\n A x:1 (1 of 2)\n2:\n A B (1 of 2)\n A x:2 (2 of 2)\n",
+        "2 solutions",
+    ),
+    (
+        "dlx3 m1",
+        "0:2|A B\nA B\nA\n",
+        "1:\n B A (1 of 1)\n A (1 of 2)\n2:\n B A (1 of 1)\n null A (2 of 2)\n",
+        "2 solutions",
+    ),
+    ("dlx3 m1", "2|A 2|B\nA B\nB A\n", "1:\n A B (1 of 1)\n A B (1 of 1)\n", "1 solution"),
+]
+
+# A command, and what is wrong with its arguments.
+BAD_WORDS = [
+    ("dlx1 t0", "Word 1: limit must be at least 1."),
+    ("dlx1 t0 t5", "Word 1: limit must be at least 1."),
+    ("dlx1 v1", "Word 1: unknown."),
+    ("dlx1 m", "Word 1: bad number."),
+    ("dlx1 m1 m18446744073709551616", "Word 2: bad number."),
+]
+
+# A program, a text, and its first fault.
+FAULTY = [
+    ("dlx1", "", "Line 1: no items."),
+    ("dlx1", "| hi\n", "Line 2: no items."),
+    ("dlx1", "A A", "Line 1: name repeated."),
+    ("dlx1", "A | | x", "Line 1: second bar."),
+    ("dlx1", "B|x A\n", "Line 1: bad byte in name."),
+    ("dlx1", "1234567890" * 3 + "123", "Line 1: name too long."),
+    ("dlx1", "| a\0b\nA\n", "Line 1: NUL byte."),
+    ("dlx1", "A B\nA A \0\n", "Line 2: NUL byte."),
+    ("dlx1", "A\nB", "Line 2: unknown item."),
+    ("dlx1", "A B\nA ABCDEFGHIJ Q A\n", "Line 2: unknown item."),
+    ("dlx1", "A B\nA B A\n", "Line 2: item repeated in option."),
+    ("dlx1", "A | x\nx x", "Line 2: item repeated in option."),
+    ("dlx1", "A | x\nA x:1", "Line 2: colour not allowed here."),
+    ("dlx2", "A | x\nA:1", "Line 2: colour on a primary item."),
+    ("dlx2", "A | x\nA x:", "Line 2: bad colour."),
+    ("dlx2", "A | x\nA x:123456789", "Line 2: bad colour."),
+    ("dlx2", "A | x\nA A:1", "Line 2: item repeated in option."),
+    ("dlx2", "A\n:", "Line 2: empty name."),
+    ("dlx3", "B|x A\n", "Line 1: bad bound."),
+    ("dlx3", "9999999999|a", "Line 1: bad bound."),
+    ("dlx3", "2:1|A", "Line 1: bound order."),
+    ("dlx3", "0|A", "Line 1: bound order."),
+    ("dlx3", "A |0|x", "Line 1: bound order."),
+    ("dlx3", "A |1|x", "Line 1: bound on a secondary item."),
+    ("dlx3", "2|", "Line 1: empty name."),
+    ("dlx3", "1|2|A", "Line 1: bad byte in name."),
+    ("dlx3", "A:b", "Line 1: bad byte in name."),
+]
+
+# A text whose last option repeats an item. What it is, cut after so many bytes or more, up to the next row.
+REPEATED = "A B\nA B A\n"
+CUT = [
+    (0, Answer(2, "", "Line 1: no items.\n")),
+    (1, Answer(0, "", "Altogether 0 solutions.\n")),
+    (7, Answer(0, "1:\n A B (1 of 1)\n", "Altogether 1 solution.\n")),
+    (9, Answer(2, "", "Line 2: item repeated in option.\n")),
+]
+
+
+def at_cut(cuts: list[tuple[int, Answer]], length: int) -> Answer:
+    return [answer for start, answer in cuts if start <= length][-1]
+
+
+def solvers() -> Iterator[str]:
+    for command, problem, listing, count in SOLVED:
+        wanted = Answer(0, listing, f"Altogether {count}.\n")
+        yield from differs(f"{command} of {problem!r}", run(command.split(), problem), wanted)
+        kind = command[len("dlx")]
+        if not listing.startswith("1:"):
+            continue
+        covers = "".join(f"{line} cover\n" for line in listing.splitlines() if line.endswith(":"))
+        yield from differs(f"the listing of {problem!r}", judge([kind], problem, listing), Answer(0, covers, ""))
+    ignored = Answer(0, "1:\n A x (1 of 1)\n", "Option ignored (no primary items): line 4\nAltogether 1 solution.\n")
+    yield from differs("an option without primary items", run(["dlx1", "m1"], "| test\r\n\r\nA | x\r\nx\r\nA x"), ignored)
+    for command, message in BAD_WORDS:
+        yield from differs(command, run(command.split(), ""), Answer(1, "", f"{message}\n"))
+    yield from differs("dlx1 ''", run(["dlx1", ""], ""), Answer(1, "", "Word 1: unknown.\n"))
+    for program, text, message in FAULTY:
+        yield from differs(f"{program} of {text!r}", run([program, "m1"], text), Answer(2, "", f"{message}\n"))
+    for length in range(len(REPEATED) + 1):
+        text = REPEATED[:length]
+        yield from differs(f"dlx1 of {text!r}", run(["dlx1", "m1"], text), at_cut(CUT, length))
+
+
+# ---- the judge
+
+# The arguments after the problem, the problem, a listing, and the status with the verdicts.
+JUDGED = [
+    ("2", COLOURED, "1:\n q x:A (1 of 1)\n p x:B (1 of 1)\n r y:B (1 of 1)\n", 5, "1: not a cover\n"),
+    ("3", "2|A\nA\nA\n", "1:\n A (1 of 1)\n A (1 of 1)\n A (1 of 1)\n", 5, "1: not a cover\n"),
+    ("3", "2|A\nA\nA\n", "", 0, ""),
+    ("3", "2|A\nA\nA\n", "7:", 5, "7: not a cover\n"),
+    ("3", "2|A\nA\nA\n", "18446744073709551615:\n", 5, "18446744073709551615: not a cover\n"),
+    ("", "2|A\nA\nA\n", "1:\n", 5, "1: not a cover\n"),
+    ("1", THREE, "1:\n A (1 of 3)\n1:\n A (9 of 0)\n", 0, "1: cover\n1: cover\n"),
+    ("3", ALONE, "007:\n", 0, "7: cover\n"),
+    ("3", ALONE, "4:\n null A (3 of 3)", 0, "4: cover\n"),
+    ("3", "2|A 2|B\nA B\nB A\n", "1:\n A B (1 of 1)\n B A (1 of 1)\n", 0, "1: cover\n"),
+    ("3", "2|A 2|B\nA B\nB A\n", "1:\n A B (1 of 1)\n A B (1 of 1)\n A B (1 of 1)\n", 5, "1: not a cover\n"),
+]
+
+# A listing of COLOURED, and what is wrong with it.
+BAD_LISTINGS = [
+    ("x", "line 1: bad line"),
+    ("x\n", "line 1: bad line"),
+    (" p x:B (1 of 1)\n", "line 1: bad line"),
+    ("000000000000000000001:\n", "line 1: bad line"),
+    ("18446744073709551616:\n", "line 1: bad line"),
+    (":\n", "line 1: bad line"),
+    ("1: \n", "line 1: bad line"),
+    ("1:\r\n", "line 1: bad line"),
+    ("1:\n\n", "line 2: bad line"),
+    ("1:\n p  (1 of 1)\n", "line 2: bad line"),
+    ("1:\n (1 of 1)\n", "line 2: bad line"),
+    ("1:\n p x:B (12345678901 of 1)\n", "line 2: bad line"),
+    ("1:\n p x:B (1 of 1) \n", "line 2: bad line"),
+    ("1:\n p x:B (1 off 1)\n", "line 2: bad line"),
+    ("1:\n p\tx:B (1 of 1)\n", "line 2: bad line"),
+    ("1:\n q r (1 of 1)\n", "line 2: unknown option"),
+    ("1:\n p x:B x:B (1 of 1)\n", "line 2: unknown option"),
+    ("1:\n p x: (1 of 1)\n", "line 2: unknown option"),
+    ("1:\n p x (1 of 1)\n", "line 2: unknown option"),
+    ("1:\n null x (1 of 1)\n", "line 2: unknown option"),
+    ("1:\n p x:B (1 of 1)\n q x:B (1 of 1)\n", "line 3: unknown option"),
+]
+
+# The listing of COLOURED, cut in the same way.
+CUT_LISTING = [
+    (0, Answer(0, "", "")),
+    (1, Answer(2, "", "Listing line 1: bad line.\n")),
+    (2, Answer(5, "1: not a cover\n", "")),
+    (4, Answer(2, "", "Listing line 2: bad line.\n")),
+    (18, Answer(5, "1: not a cover\n", "")),
+    (20, Answer(2, "", "Listing line 3: bad line.\n")),
+    (38, Answer(0, "1: cover\n", "")),
+]
+
+
+def judges() -> Iterator[str]:
+    for words, problem, listing, status, verdicts in JUDGED:
+        found = judge(words.split(), problem, listing)
+        yield from differs(f"the judge of {listing!r}", found, Answer(status, verdicts, ""))
+    for listing, message in BAD_LISTINGS:
+        found = judge(["2"], COLOURED, listing)
+        yield from differs(f"the judge of {listing!r}", found, Answer(2, "", f"Listing {message}.\n"))
+    for length in range(len(COLOURED_LISTING) + 1):
+        listing = COLOURED_LISTING[:length]
+        yield from differs(f"the judge of {listing!r}", judge(["2"], COLOURED, listing), at_cut(CUT_LISTING, length))
+    yield from differs("the judge of a fault", judge(["1"], "A\nB\n", "x"), Answer(2, "", "Line 2: unknown item.\n"))
+    usage = Answer(1, "", "Usage: dlxcheck PROBLEM [1|2|3]\n")
+    yield from differs("dlxcheck", run(["dlxcheck"], ""), usage)
+    for more in (["4"], [""], ["1", "1"]):
+        yield from differs(f"dlxcheck PROBLEM {more}", judge(more, "A\nA\n", ""), usage)
+    # A line that begins with the name `null` may stand for no option as well: of these members one isn't a cover.
+    listing = run(["dlx3", "m1"], NULL).output
+    verdicts = "1: cover\n2: not a cover\n3: cover\n4: cover\n"
+    yield from differs("the judge of an item named null", judge(["3"], NULL, listing), Answer(5, verdicts, ""))
+
+
+# ---- spans
+
+# The arguments of `dlx-span`, the problem, and the text of the span.
+SPANS = [
+    (
+        "1 m1 0 - -",
+        SEVEN,
+        f"from - problem 5f4feb9a050fe0f5\n{SEVEN_LISTING}"
+        "from - until - solutions 1 steps 5 problem 5f4feb9a050fe0f5\n",
+    ),
+    ("1 m0 3 - 2.1", SEVEN, "from - until 2 of 2 solutions 0 steps 3 problem 5f4feb9a050fe0f5\n"),
+    ("2 m0 0 2 -", THREE, "from 2 until - solutions 2 steps 1 problem 12589a6a85a80440\n"),
+    (
+        "3 m1 0 2.1 3",
+        TWICE,
+        "from 2.1 problem 18dfe1040992a59e\n1:\n A B (2 of 2)\n null A (1 of 1)\n"
+        "from 2.1 until 3 solutions 1 steps 0 problem 18dfe1040992a59e\n",
+    ),
+]
+
+BAD_SPANS = ["", "1 m1 0 -", "4 m1 0 - -", "1 1 0 - -", "1 m1 t9 - -", "1 m1 0 2 1.9"]
+
+
+def spans() -> Iterator[str]:
+    for words, problem, text in SPANS:
+        yield from differs(f"dlx-span {words}", run(["dlx-span", *words.split()], problem), Answer(0, text, ""))
+    usage = Answer(1, "", "Usage: dlx-span 1|2|3 m0|m1 STEPS FROM UNTIL\n")
+    for words in BAD_SPANS:
+        yield from differs(f"dlx-span {words}", run(["dlx-span", *words.split()], SEVEN), usage)
+
+
+# ---- joins
+
+PROBLEM = "problem 0123456789abcdef"
+OTHER = "problem 0123456789abcdee"
+START = f"from - {PROBLEM}\n"
+FIRST = "1:\n A (1 of 3)\n"
+
+
+def record(until: str, solutions: int = 1, problem: str = PROBLEM) -> str:
+    """The last line of a span from the start."""
+    return f"from - until {until} solutions {solutions} steps 1 {problem}\n"
+
+
+# Three equal options in two spans; the search of the first stopped.
+LISTED = (
+    f"{START}{FIRST}{record('2 of 3')}from 2 {PROBLEM}\n1:\n A (2 of 3)\n2:\n A (3 of 3)\n"
+    f"from 2 until - solutions 2 steps 2 {PROBLEM}\n"
+)
+MOST = 2**64 - 1
+
+# The word of `dlx-join`, the texts of spans, the listing, and how many solutions are counted.
+JOINED = [
+    ("m1", LISTED, THREE_LISTING, "3 solutions"),
+    ("m0", f"{record('2 of 3')}from 2 until - solutions 2 steps 2 {PROBLEM}\n", "", "3 solutions"),
+    ("m1", f"{START}{record('-', 0)}", "", "0 solutions"),
+    (
+        "m0",
+        f"{record('3.1.7 of 8.9.9', MOST)}from 3.1.7 until - solutions 1 steps 1 {PROBLEM}\n",
+        "",
+        f"{MOST} solutions (limit)",
+    ),
+]
+
+# The word, texts that don't fit together, what is listed before, the line, and what is wrong there.
+GAPS = [
+    ("m1", "", "", 1, "gap from - until -"),
+    ("m1", f"from 2 {PROBLEM}\n", "", 1, "gap from - until 2"),
+    ("m1", f"{START}{FIRST}{record('2')}", FIRST, 5, "gap from 2 until -"),
+    ("m1", f"{START}{FIRST}{record('2')}from 3 {PROBLEM}\n", FIRST, 5, "gap from 2 until 3"),
+    ("m1", f"{START}{record('2', 0)}{START}", "", 3, "gap from 2 until -"),
+    ("m1", f"{START}{record('-', 0)}{START}", "", 3, "gap from - until -"),
+    (
+        "m0",
+        f"{record('2')}from 2 until - solutions 1 steps 1 {OTHER}\n",
+        "",
+        2,
+        "another problem than in standard input: line 1",
+    ),
+    (
+        "m1",
+        f"{START}{FIRST}{record('2')}from 3 {OTHER}\n",
+        FIRST,
+        5,
+        "another problem than in standard input: line 1",
+    ),
+]
+
+# What is no text of a span, what is listed before, and the line.
+NO_SPANS = [
+    (record("-", 0), "", 1),
+    ("1:\n", "", 1),
+    ("from -", "", 1),
+    ("from -\n", "", 1),
+    (f"from - {PROBLEM}\r\n", "", 1),
+    ("from - problem 0123456789ABCDEF\n", "", 1),
+    (f"from - {PROBLEM[:-1]}\n", "", 1),
+    (f"from 3..1 {PROBLEM}\n", "", 1),
+    (f"from 3-1 {PROBLEM}\n", "", 1),
+    (f"from 03 {PROBLEM}\n", "", 1),
+    (f"from 18446744073709551616 {PROBLEM}\n", "", 1),
+    (START, "", 2),
+    (f"{START} A (1 of 3)\n", "", 2),
+    (f"{START}2:\n", "", 2),
+    (f"{START}1:\r\n", "", 2),
+    (f"{START}from 1 until 2 solutions 0 steps 1 {PROBLEM}\n", "", 2),
+    (f"{START}1:\n A (1 of 3)\r\n", "1:\n", 3),
+    (f"{START}1:\n garbage \x01 (x\n", "1:\n", 3),
+    (f"{START}{FIRST}1:\n", FIRST, 4),
+    (f"{START}{FIRST}{record('2', 2)}", FIRST, 4),
+    (f"{START}{FIRST}{record('2', problem=OTHER)}", FIRST, 4),
+    (f"{START}{FIRST}{record('2 of')}", FIRST, 4),
+    (f"{START}{FIRST}{record('1')}", FIRST, 4),
+    (f"{START}{FIRST}{record('0.9')}", FIRST, 4),
+    (f"{START}{FIRST}from - until 2 solutions 1 steps {PROBLEM}\n", FIRST, 4),
+    (f"{START}{FIRST}from - until 2 solutions 1 steps 01 {PROBLEM}\n", FIRST, 4),
+    (f"{START}{FIRST}from - until 2 solutions 1 steps 1 {PROBLEM} \n", FIRST, 4),
+    (f"{START}{FIRST}from - until 2 solutions 1 steps 1\n", FIRST, 4),
+    (f"{START}{FIRST}2:\n", f"{FIRST}2:\n", 5),
+    (f"{START}{FIRST}2:\n A (0 of 3)\n", f"{FIRST}2:\n", 5),
+    (f"{START}{FIRST}2:\n A B\n", f"{FIRST}2:\n", 5),
+    (f"{START}{FIRST}2:\n{record('2', 2)}", f"{FIRST}2:\n", 5),
+    (f"{START}{FIRST}2:\n A (1 of 3)\n3:\n", f"{FIRST}2:\n A (1 of 3)\n", 6),
+    (f"{START}{FIRST}2:\n A (2 of 3)\n3:\n A (1 of 3)\n", f"{FIRST}2:\n A (2 of 3)\n3:\n", 7),
+]
+
+
+def joins() -> Iterator[str]:
+    for word, text, listing, count in JOINED:
+        found = run(["dlx-join", word], text)
+        yield from differs(f"dlx-join {word} of {text!r}", found, Answer(0, listing, f"Altogether {count}.\n"))
+    for word, text, listing, line, message in GAPS:
+        wanted = Answer(5, listing, f"standard input: line {line}: {message}.\n")
+        yield from differs(f"dlx-join {word} of {text!r}", run(["dlx-join", word], text), wanted)
+    for text, listing, line in NO_SPANS:
+        wanted = Answer(2, listing, f"standard input: line {line}: not the text of a span.\n")
+        yield from differs(f"dlx-join m1 of {text!r}", run(["dlx-join", "m1"], text), wanted)
+    usage = Answer(1, "", "Usage: dlx-join m0|m1 [FILE..]\n")
+    for command in (["dlx-join"], ["dlx-join", "m2"]):
+        yield from differs(" ".join(command), run(command, LISTED), usage)
+
+
+def main() -> int:
+    wrong = [line for part in (solvers, judges, spans, joins) for line in part()]
+    print("\n".join(wrong), end="\n" * bool(wrong))
+    return bool(wrong)
+
+
+if __name__ == "__main__":
+    sys.exit(main())
