@@ -3,8 +3,8 @@
 # page's row for as many processors gets the kit, the number of mutants, and the minutes (elapsed, of a processor).
 # `rt ci` gives most proofs one job, and tries mutants last. Each library needs the one below it, so these are proved
 # before by runs of their own, in which most get two jobs, on a copy without mutants, for which a run would wait. Beside
-# the next library come, with less priority, the mutant of the last one and what else stands on it. `rt ci` takes what
-# they kept. With CI=true the kit refuses a run of some crates, and `rt ci` is alone.
+# the next library come, with less priority, the mutant of the last one, in a copy with no other, and what else stands on
+# it. `rt ci` takes what they kept. With CI=true the kit refuses a run of some crates, and `rt ci` is alone.
 cd "$(dirname "$0")/.." || exit 2
 folder=$(mktemp -d) || exit 2
 ahead= whole=
@@ -21,24 +21,28 @@ if [ "${CI-}" != true ]; then
     (unset RT_JOBS && exec setsid sh -ec '
         library() { (cd "$0" && RT_JOBS=${2-} rt ci "$1"); }
         beside() { (cd "$0" && RT_JOBS=1 exec nice rt ci "$@") & }
-        mutants() { RT_JOBS=1 nice rt ci "$@" & }
-        mutants natural
+        mutant() {
+            cp -r "$0" "$0-$1" && cp -r "crates/$1/must-fail" "$0-$1/crates/$1"
+            (cd "$0-$1" && RT_JOBS=1 exec nice rt ci "$1") &
+        }
+        mutant natural
         library xc_input
-        mutants xc_input
+        mutant xc_input
         library xc_dance
-        mutants xc_dance
+        mutant xc_dance
         library xc_search
-        mutants xc_search
+        mutant xc_search
         library xc_count 1 &
         library xc_list
-        mutants xc_list
+        mutant xc_list
         beside xc_c
         library xc_tools
-        mutants xc_tools
-        mutants xc_count
+        mutant xc_tools
+        mutant xc_count
         beside dlx1 dlx2 dlx3 dlxcheck dlx_span dlx_join
         beside dlx_count names_of_covers
-        mutants xc_c xc_count_run
+        mutant xc_c
+        mutant xc_count_run
         library library_tests
         wait' "$folder/tree") >"$folder/log" 2>&1 </dev/null &
     ahead=$!
