@@ -1,6 +1,6 @@
 #!/usr/bin/env python3
 """runs.py [FOLDER]: what the programs answer, by status, output and messages, to worked problems, listings and texts of
-spans, and to what each refuses.
+spans, to what each refuses, and to large problems.
 
 What the solvers list, `dlxcheck` finds to be covers; a problem and a listing are cut at each byte. FOLDER holds the
 programs; without it they are taken from where the gate leaves them. Prints what is wrong, and nothing else; the status
@@ -33,11 +33,15 @@ class Answer(NamedTuple):
     messages: str
 
 
+def path(program: str) -> str:
+    crate = program.replace("-", "_")
+    return f"{FOLDER}/{program}" if FOLDER else f"{TOP}/crates/{crate}/out/{crate}"
+
+
 def run(words: list[str], text: str) -> Answer:
     """What a program answers to arguments and standard input. A text stands for its bytes in latin-1."""
-    crate = words[0].replace("-", "_")
-    program = f"{FOLDER}/{words[0]}" if FOLDER else f"{TOP}/crates/{crate}/out/{crate}"
-    ended = subprocess.run([program, *words[1:]], input=text.encode("latin-1"), capture_output=True, timeout=60)
+    command = [path(words[0]), *words[1:]]
+    ended = subprocess.run(command, input=text.encode("latin-1"), capture_output=True, timeout=60)
     return Answer(ended.returncode, ended.stdout.decode("latin-1"), ended.stderr.decode("latin-1"))
 
 
@@ -153,6 +157,23 @@ FAULTY = [
     ("dlx3", "2|", "Line 1: empty name."),
     ("dlx3", "1|2|A", "Line 1: bad byte in name."),
     ("dlx3", "A:b", "Line 1: bad byte in name."),
+    ("dlx1", "\n| a\0b\nA A", "Line 2: NUL byte."),
+    ("dlx1", "A || x", "Line 1: second bar."),
+    ("dlx1", "A\n\n\tA |B", "Line 3: bad byte in name."),
+    ("dlx1", "A | x\nx\ny", "Line 3: unknown item."),
+    ("dlx1", "A\n" + "1234567890" * 3 + "123", "Line 2: name too long."),
+    ("dlx2", "A | x\nA:", "Line 2: colour on a primary item."),
+    ("dlx2", "A\n:A", "Line 2: empty name."),
+    ("dlx3", "2||A", "Line 1: bad byte in name."),
+    ("dlx3", "1:2", "Line 1: bad byte in name."),
+    ("dlx3", "2|A\nA\nA 2|A", "Line 3: bad byte in name."),
+    ("dlx3", "A||x", "Line 1: bad bound."),
+    ("dlx3", "x|", "Line 1: bad bound."),
+    ("dlx3", "1:|A", "Line 1: bad bound."),
+    ("dlx3", ":1|A", "Line 1: bad bound."),
+    ("dlx3", "1:2:3|A", "Line 1: bad bound."),
+    ("dlx1", " ".join(map(str, range(100_001))), "Line 1: too many items."),
+    ("dlx1", "a b c d e f g h i j\n" + "a b c d e f g h i j\n" * 1_000_000 + "a", "Line 1000002: too many uses."),
 ]
 
 # A text whose last option repeats an item. What it is, cut after so many bytes or more, up to the next row.
@@ -184,10 +205,24 @@ def solvers() -> Iterator[str]:
         yield from differs(command, run(command.split(), ""), Answer(1, "", f"{message}\n"))
     yield from differs("dlx1 ''", run(["dlx1", ""], ""), Answer(1, "", "Word 1: unknown.\n"))
     for program, text, message in FAULTY:
-        yield from differs(f"{program} of {text!r}", run([program, "m1"], text), Answer(2, "", f"{message}\n"))
+        yield from differs(f"{program} of {text[:50]!r}", run([program, "m1"], text), Answer(2, "", f"{message}\n"))
     for length in range(len(REPEATED) + 1):
         text = REPEATED[:length]
         yield from differs(f"dlx1 of {text!r}", run(["dlx1", "m1"], text), at_cut(CUT, length))
+    yield from large()
+
+
+def large() -> Iterator[str]:
+    """As many levels, and as many solutions, as the tables have room for."""
+    items = "\n".join(map(str, range(2000)))
+    deep = run(["dlx1"], f"{items.replace(chr(10), ' ')}\n{items}\n")
+    yield from differs("2,000 items, each alone", deep, Answer(0, "", "Altogether 1 solution.\n"))
+    many, problem = 20_000, "A\n" * 20_001
+    listing = "".join(f"{n}:\n A ({n} of {many})\n" for n in range(1, many + 1))
+    if run(["dlx1", "m1"], problem) != Answer(0, listing, f"Altogether {many} solutions.\n"):
+        yield "20,000 equal options aren't listed"
+    if judge(["1"], problem, listing) != Answer(0, "".join(f"{n}: cover\n" for n in range(1, many + 1)), ""):
+        yield "20,000 covers aren't judged so"
 
 
 # ---- the judge
@@ -392,6 +427,30 @@ NO_SPANS = [
 ]
 
 
+# The bytes of a file's name, and how a message writes them.
+NAMES = [
+    (b"1 ~.span", "1 ~.span"),
+    (b"\x1b]0;x\x07", "\\x1b]0;x\\x07"),
+    (b"a\nb", "a\\x0ab"),
+    (b"\x7f\xc2\x9b1m", "\\x7f\\xc2\\x9b1m"),
+    (b"\x1f ~", "\\x1f ~"),
+    (b"\\x1b", "\\x5cx1b"),
+]
+
+
+def names() -> Iterator[str]:
+    """Where the text in a file isn't one of the first span."""
+    program = os.path.abspath(path("dlx-join"))
+    with tempfile.TemporaryDirectory() as folder:
+        for name, shown in NAMES:
+            with open(os.path.join(folder.encode(), name), "w") as file:
+                file.write(f"from 2 until - solutions 1 steps 1 {PROBLEM}\n")
+            ended = subprocess.run([program, "m0", name], cwd=folder, capture_output=True, timeout=60)
+            wanted = f"{shown}: line 1: gap from - until 2.\n".encode()
+            if (ended.returncode, ended.stderr) != (5, wanted):
+                yield f"dlx-join m0 {name!r}: {ended.returncode}, {ended.stderr!r}, not {wanted!r}"
+
+
 def joins() -> Iterator[str]:
     for word, text, listing, count in JOINED:
         found = run(["dlx-join", word], text)
@@ -402,13 +461,30 @@ def joins() -> Iterator[str]:
     for text, listing, line in NO_SPANS:
         wanted = Answer(2, listing, f"standard input: line {line}: not the text of a span.\n")
         yield from differs(f"dlx-join m1 of {text!r}", run(["dlx-join", "m1"], text), wanted)
+    yield from names()
     usage = Answer(1, "", "Usage: dlx-join m0|m1 [FILE..]\n")
     for command in (["dlx-join"], ["dlx-join", "m2"]):
         yield from differs(" ".join(command), run(command, LISTED), usage)
 
 
+# ---- counts
+
+
+def counts() -> Iterator[str]:
+    """A number of 134 bits, its last solution, and one more."""
+    items, many = [f"i{n}" for n in range(31)], 20**31
+    problem = " ".join(items) + "\n" + "".join(f"{item}\n" * 20 for item in items)
+    last = f"{many}:\n" + "".join(f" {item} (20 of 20)\n" for item in items)
+    for word, wanted in (
+        ("", Answer(0, "", f"Altogether {many} solutions.\n")),
+        (f"n{many}", Answer(0, last, "")),
+        (f"n{many + 1}", Answer(5, "", f"There are fewer than {many + 1} solutions.\n")),
+    ):
+        yield from differs(f"dlx-count 1 {word}", run(["dlx-count", "1", *word.split()], problem), wanted)
+
+
 def main() -> int:
-    wrong = [line for part in (solvers, judges, spans, joins) for line in part()]
+    wrong = [line for part in (solvers, judges, spans, joins, counts) for line in part()]
     print("\n".join(wrong), end="\n" * bool(wrong))
     return bool(wrong)
 

@@ -1,5 +1,4 @@
 //! Numbers of any size, how many solutions problems have, and solutions by their numbers.
 
-mod large;
 mod numbers;
 mod problems;

@@ -15,4 +15,3 @@ mod full;
 mod inverse;
 mod same;
 mod tables;
-mod vectors_of_links;

@@ -59,14 +59,6 @@ fn is_wanted<W: Wanted>(alloc: Global, kind: Kind, text: &[u8], wanted: &W) -> b
     }
 }
 
-/// Whether it is so of a plain text that was made.
-pub fn is_made<W: Wanted>(alloc: Global, text: Result<Vec<u8>, AllocError>, wanted: &W) -> bool {
-    match text {
-        Ok(text) => is_wanted(alloc, Kind::Plain, &text, wanted),
-        Err(_) => false,
-    }
-}
-
 /// The first row of a table whose problem isn't as wanted: the kind of each, its text, and what is wanted of it.
 pub fn wrong_row<W: Wanted>(alloc: Global, rows: &[(Kind, &[u8], W)]) -> Option<usize> {
     for (row, (kind, text, wanted)) in rows.iter().enumerate() {

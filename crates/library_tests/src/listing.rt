@@ -4,9 +4,7 @@
 mod covers;
 mod digests;
 mod equal_values;
-mod failing_writes;
-mod made;
-mod moves;
+mod own_sink;
 mod runs;
 mod spans;
 mod texts;

@@ -4,9 +4,7 @@
 mod callers;
 
 // What is read, and what is refused.
-mod failing_reads;
 mod faults;
-mod limits;
 mod lines;
 mod problems;
 

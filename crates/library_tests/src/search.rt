@@ -2,8 +2,8 @@
 
 mod closing;
 mod equal_values;
-mod large;
 mod made;
+mod moves;
 mod searching;
 mod spanning;
 mod visiting;

@@ -9,7 +9,7 @@ use xc_search::{Choice, Search, Step};
 
 /// Room for the states of each problem here, for a few, and for none: then a search counts beside the sweep until that
 /// gives up, and alone.
-pub const ROOMS: [usize; 3] = [1_000_000, 500, 0];
+const ROOMS: [usize; 3] = [1_000_000, 500, 0];
 
 /// Four items in pairs.
 const PAIRS: &[u8] = b"a b c d\na b\na c\na d\nb c\nb d\nc d\n";
@@ -45,7 +45,7 @@ const COVERS: [(Kind, &[u8], Covers); 12] = [
 ];
 
 /// Whether a number was counted, in decimal.
-pub fn is_counted(alloc: Global, covers: Result<Natural, Memory>, wanted: &[u8]) -> bool {
+fn is_counted(alloc: Global, covers: Result<Natural, Memory>, wanted: &[u8]) -> bool {
     let Ok(covers) = covers else {
         return false;
     };
@@ -123,7 +123,7 @@ fn options_are_counted(rt: HostRuntime) {
 }
 
 /// So many solutions are found by their numbers, from the first on, and they are all.
-pub struct Solutions(pub u64, pub bool);
+struct Solutions(u64, bool);
 
 const FEW: [(Kind, &[u8], Solutions); 9] = [
     (Kind::Plain, SEVEN, Solutions(1, true)),

@@ -7,7 +7,7 @@ use xc_dance::{Field, Links};
 use xc_input::Kind;
 
 /// The fields, each with its first place.
-pub const FIELDS: [(Field, u32); 8] = [
+const FIELDS: [(Field, u32); 8] = [
     (Field::Llink, 0),
     (Field::Rlink, 0),
     (Field::Bound, 1),
@@ -19,7 +19,7 @@ pub const FIELDS: [(Field, u32); 8] = [
 ];
 
 /// The places of all cells of the tests' tables, and some that no table has.
-pub const PLACES: u32 = 40;
+const PLACES: u32 = 40;
 
 /// A text, and for each field all cells of the tables before any move.
 struct Tables {

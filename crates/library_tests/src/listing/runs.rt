@@ -3,10 +3,22 @@ use crate::fixtures::{
     ALONE, ALONE_LISTING, COLOURED, COLOURED_LISTING, SEVEN, SEVEN_LISTING, THREE_ALIKE,
     THREE_LISTING, TWICE, TWICE_LISTING, Wanted, wrong_row,
 };
-use crate::listing::made::{Run, gives};
 use std::alloc::Global;
+use xc_dance::Lists;
 use xc_input::{Kind, Problem};
-use xc_list::{End, Sink, VecSink, run, write_all};
+use xc_list::{End, Sink, Tray, VecSink, Words, run, run_over, write_all};
+
+/// A run with this spacing and limit lists this, and ends so.
+struct Run<'a>(u64, u64, &'a [u8], End);
+
+impl Run<'_> {
+    fn words(&self) -> Words {
+        Words {
+            spacing: self.0,
+            limit: self.1,
+        }
+    }
+}
 
 /// Lines that stay from one solution to the next, and some that are written anew after others, in solutions of four,
 /// of three and of two choices.
@@ -157,11 +169,24 @@ fn by_itself(alloc: Global, problem: &Problem, wanted: &Run) -> bool {
     listed && more && bytes.ends_with(b"more")
 }
 
+/// Whether one over live lists does, into a tray that takes a byte at a time.
+fn over_lists(alloc: Global, problem: &Problem, wanted: &Run, tray: &mut Tray) -> bool {
+    let Ok(lists) = Lists::for_search(alloc, problem) else {
+        return false;
+    };
+    let (lists, end) = run_over(alloc, lists, problem, wanted.words(), tray);
+    drop(lists);
+    end == Ok(wanted.3) && tray.bytes() == wanted.2
+}
+
 impl Wanted for Run<'_> {
     fn is_so(&self, alloc: Global, problem: &Problem) -> bool {
-        by_itself(alloc, problem, self)
-            && gives(alloc, problem, self, 1, 1000, false)
-            && gives(alloc, problem, self, 1000, 1000, false)
+        let Ok(mut tray) = Tray::new(alloc, 1, 1000, false) else {
+            return false;
+        };
+        let given = over_lists(alloc, problem, self, &mut tray);
+        drop(tray);
+        given && by_itself(alloc, problem, self)
     }
 }
 

@@ -1,8 +1,9 @@
 //! Spans of listings, and the words that mean them.
 use crate::fixtures::{THREE_ALIKE, TWICE, Wanted, gathered, wrong_row};
 use std::alloc::Global;
+use xc_dance::Lists;
 use xc_input::{Kind, Problem};
-use xc_list::{SpanFault, SpanWords, Tray, VecSink, list_span};
+use xc_list::{SpanWords, VecSink, list_span, list_span_over};
 
 /// Words, and what is written of the span that they mean. The digests of the problems are in `digests.rt`.
 struct Span(&'static [&'static [u8]], &'static [u8]);
@@ -93,7 +94,7 @@ fn asked(alloc: Global, words: &[&[u8]]) -> Option<Option<SpanWords>> {
     SpanWords::read(alloc, &all).ok()
 }
 
-/// Whether a span is written so into a sink that takes it.
+/// Whether a span is written so.
 fn is_written(alloc: Global, problem: &Problem, words: &SpanWords, wanted: &[u8]) -> bool {
     let mut sink = VecSink::new(alloc);
     let went = list_span(alloc, problem, words, &mut sink);
@@ -102,31 +103,31 @@ fn is_written(alloc: Global, problem: &Problem, words: &SpanWords, wanted: &[u8]
     written
 }
 
-/// Whether it breaks off in a sink that takes no more than these bytes.
-fn is_cut(alloc: Global, problem: &Problem, words: &SpanWords, begun: &[u8]) -> bool {
-    let Ok(mut tray) = Tray::new(alloc, 5, begun.len(), false) else {
+/// Whether it is over live lists.
+fn is_written_over_lists(
+    alloc: Global,
+    problem: &Problem,
+    words: &SpanWords,
+    wanted: &[u8],
+) -> bool {
+    let Ok(lists) = Lists::for_search(alloc, problem) else {
         return false;
     };
-    let failed = list_span(alloc, problem, words, &mut tray).err();
-    let cut = failed == Some(SpanFault::WriteFailed) && tray.bytes() == begun;
-    drop(tray);
-    cut
-}
-
-/// Whether a span is written so, and each beginning of it into a sink that takes no more.
-fn is_listed(alloc: Global, problem: &Problem, words: &SpanWords, wanted: &[u8]) -> bool {
-    for room in 0..wanted.len() {
-        if !is_cut(alloc, problem, words, &wanted[..room]) {
-            return false;
-        }
-    }
-    is_written(alloc, problem, words, wanted)
+    let mut sink = VecSink::new(alloc);
+    let (lists, went) = list_span_over(alloc, lists, problem, words, &mut sink);
+    let written = went.is_ok() && sink.bytes() == wanted;
+    drop(lists);
+    drop(sink);
+    written
 }
 
 impl Wanted for Span {
     fn is_so(&self, alloc: Global, problem: &Problem) -> bool {
         match asked(alloc, self.0) {
-            Some(Some(words)) => is_listed(alloc, problem, &words, self.1),
+            Some(Some(words)) => {
+                is_written(alloc, problem, &words, self.1)
+                    && is_written_over_lists(alloc, problem, &words, self.1)
+            },
             _ => false,
         }
     }

@@ -52,7 +52,10 @@ struct Halts;
 
 impl Wanted for Halts {
     fn is_so(&self, alloc: Global, problem: &Problem) -> bool {
-        let Some(mut span) = span(alloc, problem, &[], None) else {
+        let Ok(lists) = Lists::for_search(alloc, problem) else {
+            return false;
+        };
+        let Some(mut span) = Span::new(alloc, lists, problem, &[], None).ok() else {
             return false;
         };
         let through = goes_through(alloc, &mut span);
@@ -63,94 +66,4 @@ impl Wanted for Halts {
 #[test]
 fn rows_with_their_branches(rt: HostRuntime) {
     assert_eq!(rt; wrong_row(rt.alloc(), &[(Kind::Plain, SEVEN, Halts)]), None);
-}
-
-/// A search of the span between these rows.
-fn span<'a>(
-    alloc: Global,
-    problem: &'a Problem,
-    from: &[u32],
-    until: Option<&'a [u32]>,
-) -> Option<Span<'a, Lists>> {
-    let lists = Lists::for_search(alloc, problem).ok()?;
-    Span::new(alloc, lists, problem, from, until).ok()
-}
-
-/// Two choices for `a` and `b`, and three for `c` and `d` below each: the last choices, which are counted at once below
-/// the second of the two.
-const PAIRS: &[u8] = b"a b c d | v w x y z\na b v\na b w\nc d x\nc d y\nc d z\n";
-
-/// Rows, and how many members the span between them has. Most spans end amid the members of a last choice.
-struct Counted(&'static [u32], &'static [u32], u64);
-
-const COUNTED: [(Kind, &[u8], Counted); 12] = [
-    (Kind::Plain, PAIRS, Counted(&[], &[9], 6)),
-    (Kind::Plain, PAIRS, Counted(&[], &[1, 2], 1)),
-    (Kind::Plain, PAIRS, Counted(&[], &[1, 3, 0], 3)),
-    (Kind::Plain, PAIRS, Counted(&[], &[2], 3)),
-    (Kind::Plain, PAIRS, Counted(&[], &[2, 0], 3)),
-    (Kind::Plain, PAIRS, Counted(&[], &[2, 1], 3)),
-    (Kind::Plain, PAIRS, Counted(&[], &[2, 2], 4)),
-    (Kind::Plain, PAIRS, Counted(&[], &[2, 1, 7], 4)),
-    (Kind::Plain, PAIRS, Counted(&[], &[2, 3], 5)),
-    (Kind::Plain, PAIRS, Counted(&[], &[2, 7], 6)),
-    (Kind::Plain, PAIRS, Counted(&[1, 2], &[2, 3], 4)),
-    (Kind::Plain, PAIRS, Counted(&[2, 2], &[2, 3], 1)),
-];
-
-/// Searches from a row by so many steps, and puts in its place the row that the search is at then.
-fn go_on(
-    alloc: Global,
-    problem: &Problem,
-    row: &mut Vec<u32>,
-    until: &[u32],
-    steps: u64,
-) -> Option<Went> {
-    let mut span = span(alloc, problem, row, Some(until))?;
-    let went = span.go_on(u64::MAX, steps);
-    let reached = span.row(alloc);
-    drop(span);
-    row.clear();
-    for number in reached.ok()?.iter() {
-        row.push(number.k).ok()?;
-    }
-    Some(went)
-}
-
-/// How many members come between a row and another, by searches that each begin where the one before halted.
-fn members(
-    alloc: Global,
-    problem: &Problem,
-    row: &mut Vec<u32>,
-    until: &[u32],
-    steps: u64,
-) -> Option<u64> {
-    let mut found: u64 = 0;
-    for _ in 0..100 {
-        let went = go_on(alloc, problem, row, until, steps)?;
-        found = found.saturating_add(went.members);
-        if went.halt == Halt::End {
-            return Some(found);
-        }
-    }
-    None
-}
-
-impl Wanted for Counted {
-    fn is_so(&self, alloc: Global, problem: &Problem) -> bool {
-        for steps in [1, 2, 3, 4, u64::MAX] {
-            let Ok(mut row) = self.0.to_vec(alloc) else {
-                return false;
-            };
-            if members(alloc, problem, &mut row, self.1, steps) != Some(self.2) {
-                return false;
-            }
-        }
-        true
-    }
-}
-
-#[test]
-fn a_search_anew_at_each_row(rt: HostRuntime) {
-    assert_eq!(rt; wrong_row(rt.alloc(), &COUNTED), None);
 }

@@ -37,7 +37,7 @@ fn join_of_missing(rt: &HostRuntime, words: &[Vec<u8>], told: &mut Told) -> Opti
 
 /// What one of them reports.
 fn told_of_missing(rt: &HostRuntime, words: &[u8]) -> Option<Told> {
-    let mut told = Told::new(rt.alloc(), 100, [100, 100])?;
+    let mut told = Told::new(rt.alloc(), 100)?;
     if let Ok(words) = words_of(rt.alloc(), words) {
         told.status = if words.len() == 1 {
             Some(judge_of_missing(rt, &words, &mut told))

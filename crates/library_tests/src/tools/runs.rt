@@ -1,8 +1,16 @@
 //! A run of each tool, by steps of one byte and of many. `tests/runs.py` has many more, by the programs.
 use crate::fixtures::{COLOURED, COLOURED_LISTING, SEVEN, SEVEN_LISTING, THREE_LISTING};
-use crate::tools::joins::LISTED;
-use crate::tools::told::{PLAIN, Tool, reports};
+use crate::tools::told::{Told, Tool, told_by};
 use std::test::Fail;
+use xc_input::Kind;
+
+const PLAIN: Tool = Tool::Solve(Kind::Plain);
+
+/// Three equal options in two spans; the search of the first stopped.
+const LISTED: &[u8] = b"from - problem 0123456789abcdef\n1:\n A (1 of 3)\n\
+    from - until 2 of 3 solutions 1 steps 1 problem 0123456789abcdef\n\
+    from 2 problem 0123456789abcdef\n1:\n A (2 of 3)\n2:\n A (3 of 3)\n\
+    from 2 until - solutions 2 steps 2 problem 0123456789abcdef\n";
 
 const SPAN: &[u8] = b"from - until 2 of 2 solutions 0 steps 3 problem 5f4feb9a050fe0f5\n";
 
@@ -46,8 +54,11 @@ const RUNS: [(Tool, &[u8], &[u8], u8, &[u8], &[u8]); 5] = [
 #[test]
 fn each_tool_reports_so(rt: HostRuntime) -> Result<(), Fail> {
     for (row, (tool, words, text, status, out, err)) in RUNS.iter().enumerate() {
-        if !reports(rt.alloc(), tool, words, text, *status, out, err) {
-            return Err(Fail::new(format_args!("row {row}")));
+        for step in [1, 4096] {
+            let told = told_by(rt.alloc(), tool, words, text, step);
+            if !Told::was(told, *status, out, err) {
+                return Err(Fail::new(format_args!("row {row}, by {step}")));
+            }
         }
     }
     Ok(())

@@ -82,7 +82,7 @@ fn names_of_one_hash(rt: HostRuntime) {
     assert!(rt; gives(rt.alloc(), &mut source, Seed::FIXED, &APART));
 }
 
-/// A source around another, which passes its reads on and has the fixed seed.
+/// A source of a caller's own, around another, which passes its reads on and has the fixed seed.
 #[derive(Drop)]
 struct Around<'a> {
     source: SliceSource<'a>,
@@ -125,13 +125,7 @@ fn is_read_by(alloc: Global, seed: Seed) -> bool {
 #[test]
 fn each_seed_reads_the_same(rt: HostRuntime) -> Result<(), Fail> {
     assert!(rt; is_read_by(rt.alloc(), Seed::FIXED) && is_read_by(rt.alloc(), random_seed(&rt)));
-    for keys in &[
-        0,
-        1,
-        12_345,
-        0x0123_4567_89ab_cdef_fedc_ba98_7654_3210,
-        u128::MAX,
-    ] {
+    for keys in &[0, 12_345, u128::MAX] {
         if Seed::new(*keys) == Seed::FIXED || !is_read_by(rt.alloc(), Seed::new(*keys)) {
             return Err(Fail::new(format_args!("keys {keys}")));
         }

@@ -2,7 +2,7 @@
 use std::alloc::Global;
 use std::io::Write;
 use std::test::Fail;
-use xc_list::{Sink, SinkFault, write_all};
+use xc_list::{Sink, write_all};
 use xc_tools::{Direct, Outgoing};
 
 /// Takes at most 3000 bytes at a call, and counts its flushes.
@@ -62,50 +62,5 @@ fn short_writes_of_a_long_text(rt: HostRuntime) -> Result<(), Fail> {
     // More than twice what a sink holds back; no 65,536 bytes are like the next.
     let text = b" A (1 of 3)\n".repeat(rt.alloc(), 12_000)?;
     assert!(rt; is_passed(rt.alloc(), &text, true) && is_passed(rt.alloc(), &text, false));
-    Ok(())
-}
-
-/// Writes lines of ten bytes and the beginning of one.
-fn write_lines<S: Sink>(sink: &mut S, lines: u32) -> Result<(), SinkFault> {
-    for _ in 0..lines {
-        write_all(sink, b" A (1 of ")?;
-        write_all(sink, b"\n")?;
-    }
-    write_all(sink, b" A (")
-}
-
-/// Writes them to a sink that holds back, without a flush.
-fn hold(alloc: Global, by_line: bool, lines: u32, writer: &mut Narrow) -> Option<()> {
-    write_lines(&mut Outgoing::new(alloc, writer, by_line).ok()?, lines).ok()
-}
-
-/// How many bytes of them are held back, at most so many.
-fn is_held_back(alloc: Global, by_line: bool, lines: u32, most: usize) -> bool {
-    let mut writer = Narrow::new(alloc);
-    hold(alloc, by_line, lines, &mut writer).is_some()
-        && writer.bytes.len() <= 10 * lines as usize
-        && 10 * lines as usize - writer.bytes.len() <= most
-}
-
-/// How many lines are written, and of how many bytes a stream that is no terminal gets nothing yet.
-const HELD: [(u32, usize); 6] = [
-    (0, 0),
-    (1, 10),
-    (2, 12),
-    (10, 21),
-    (1000, 1120),
-    (200_000, 65_536),
-];
-
-#[test]
-fn lines_appear_when_they_end(rt: HostRuntime) -> Result<(), Fail> {
-    // For a terminal all of them; else most, in few calls.
-    for (row, (lines, most)) in HELD.iter().enumerate() {
-        if !is_held_back(rt.alloc(), true, *lines, 0)
-            || !is_held_back(rt.alloc(), false, *lines, *most)
-        {
-            return Err(Fail::new(format_args!("row {row}")));
-        }
-    }
     Ok(())
 }
