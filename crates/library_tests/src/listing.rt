@@ -1,5 +1,4 @@
-//! Runs and what they list, how they end and which moves they make; digests, texts and spans; and the test of a set of
-//! options.
+//! Runs, what they list and how they end; digests, texts and spans; and the test of a set of options.
 
 mod covers;
 mod digests;

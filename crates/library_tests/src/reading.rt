@@ -1,4 +1,4 @@
-//! Tests of reading: of problems, of each fault of a text, of failing reads and of lack of memory.
+//! Tests of reading: of lines, of problems, of a text with a fault and of lack of memory.
 
 // What is there for callers.
 mod callers;

@@ -1,4 +1,4 @@
-//! Searches, walks over solutions, and searches of spans.
+//! Searches and the moves that they make, walks over solutions, and searches of spans.
 
 mod closing;
 mod equal_values;
