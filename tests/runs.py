@@ -213,7 +213,7 @@ def solvers() -> Iterator[str]:
 
 
 def large() -> Iterator[str]:
-    """As many levels, and as many solutions, as the tables have room for."""
+    """Two thousand levels, and twenty thousand solutions."""
     items = "\n".join(map(str, range(2000)))
     deep = run(["dlx1"], f"{items.replace(chr(10), ' ')}\n{items}\n")
     yield from differs("2,000 items, each alone", deep, Answer(0, "", "Altogether 1 solution.\n"))
