@@ -1,9 +1,10 @@
 #!/usr/bin/env python3
 """streams.py [FOLDER]: what the programs do with their standard streams, which no contract can say.
 
-Each message is one write; a solution is seen before the search ends; a run that has what it was asked for ends, one
-whose write fails too, and a span without a bound doesn't; a closed stream is reported; `dlx-join` names lines that are far down and rows that are long. FOLDER holds the programs;
-without it they are taken from where the gate leaves them. Prints what is wrong, and nothing else; the status is then 1.
+Each message is one write, and a read asks for all that its buffer holds; a solution is seen before the search ends; a
+run that has what it was asked for ends, one whose write fails too, and a span without a bound doesn't; a closed stream
+is reported; `dlx-join` names lines that are far down and rows that are long. FOLDER holds the programs; without it they
+are taken from where the gate leaves them. Prints what is wrong, and nothing else; the status is then 1.
 """
 import os
 import select
@@ -72,6 +73,23 @@ def each_message_is_one_write() -> Iterator[str]:
             packets = list(iter(lambda: ours.recv(1 << 20), b""))
         if len(packets) != count or packets != b"".join(packets).splitlines(keepends=True):
             yield f"{' '.join(words)}: the writes {[packet[:60] for packet in packets]}"
+
+
+# ---- a read asks for all that its buffer holds
+
+OPTIONS = 32_766
+
+
+def a_read_is_as_large_as_its_buffer() -> Iterator[str]:
+    """Standard input is a socket that loses what a read leaves of a packet. The buffer has two bytes more than it."""
+    ours, theirs = socket.socketpair(socket.AF_UNIX, socket.SOCK_SEQPACKET)
+    with theirs:
+        with ours:
+            ours.send(b"A\n" * (OPTIONS + 1))
+        done = subprocess.run(command(["dlx1"]), stdin=theirs, capture_output=True, timeout=HANG)
+    told = done.stderr.decode().strip()
+    if told != f"Altogether {OPTIONS} solutions.":
+        yield f"dlx1 of one packet: {told}, not {OPTIONS} solutions"
 
 
 # ---- solutions are seen before the search ends
@@ -255,6 +273,7 @@ def places_in_texts() -> Iterator[str]:
 def main() -> int:
     parts: list[Iterable[str]] = [
         each_message_is_one_write(),
+        a_read_is_as_large_as_its_buffer(),
         solutions_are_seen_at_once(),
         short_runs_of_long_searches(),
         failed_writes_of_long_searches(),
