@@ -35,11 +35,11 @@ use Rattle.xc_input.specs.inner.Builders.{Judged, entry_of, IsItemTable}
 use Rattle.xc_input.specs.inner.Stored.{key_names}
 use Rattle.xc_input.specs.Named.{IsName}
 use Rattle.xc_input.specs.Text.{AreBounds, IsBare, IsBounded, IsEntry}
-use Rattle.xc_input.specs.declared.faulty.FaultyToken.{FaultyToken}
+use Rattle.xc_input.specs.declared.at_fault.FaultyToken.{FaultyToken}
 use Rattle.xc_input.specs.FaultyTokens.{IsAtFault, IsFaulty, Tells}
 use Rattle.xc_input.specs.FirstFault.{content, content_checks, line_checks, line_number}
 use Rattle.xc_input.specs.Laws.{TokensAgree}
-use Rattle.xc_input.specs.declared.item_line.ItemLine.{ItemLine}
+use Rattle.xc_input.specs.declared.written.ItemLine.{ItemLine}
 use Rattle.xc_input.proofs.ListLemmas.{by_bool}
 use denote.Enum.Bare.{sameb}
 -- by the name that other modules have for it

@@ -41,7 +41,7 @@ use Rattle.xc_input.specs.declared.fault.InputError.{InputError}
 use Rattle.xc_input.specs.declared.fault.InputError.TheVariants.{Fault, Device, Memory}
 use Rattle.xc_input.specs.declared.line_error.LineError.{LineError}
 use Rattle.xc_input.specs.declared.line_error.LineError.TheVariants.{Fault as Bad, Memory as NoMemory}
-use Rattle.xc_input.specs.declared.builder.ProblemBuilder.{ProblemBuilder}
+use Rattle.xc_input.specs.declared.stage.ProblemBuilder.{ProblemBuilder}
 use Rattle.xc_input.specs.inner.Builders.{Judged, IsBuilder, stage_of_builder, error_at, entry_of, IsReadable, named_by}
 use Rattle.xc_input.specs.inner.Builders.{sheet_of_builder}
 use Rattle.xc_input.specs.Readings.{IsStateOf, Reading}
@@ -57,7 +57,7 @@ use Rattle.xc_input.specs.inner.Stored.{IsOptional}
 use Rattle.xc_input.specs.Limits.{greatest_bound}
 use Rattle.xc_input.specs.Lines.{lines_of}
 use Rattle.xc_input.specs.LinesRead.{IsLine, Advanced, Came, LastOf, LinesRead, error_of}
-use Rattle.xc_input.specs.declared.reader.Read.{Read}
+use Rattle.xc_input.specs.declared.outcome.Read.{Read}
 use Rattle.xc_input.specs.Pieces.{SourceState, Gave, GaveAll, GaveFaultless, IsOpen, IsWhole, IsPart}
 use Rattle.xc_input.specs.Calls.{Rose}
 use Rattle.xc_input.specs.declared.line_reader.Unread.{Unread}

@@ -33,12 +33,12 @@ use Rattle.xc_input.specs.declared.fault.FaultKind.{FaultKind}
 use Rattle.xc_input.specs.declared.fault.FaultKind.TheVariants.{UnknownItem, RepeatedInOption, ColourOnPrimary}
 use Rattle.xc_input.specs.declared.fault.FaultKind.TheVariants.{BadColour, ColourNotHere, TooManyUses}
 use Rattle.xc_input.specs.Named.{IsName}
-use Rattle.xc_input.specs.declared.tokens.Token.{Token}
+use Rattle.xc_input.specs.declared.written.Token.{Token}
 use Rattle.xc_input.specs.inner.CutTokens.{IsCutToken}
 use Rattle.xc_input.specs.Limits.{most_items, most_uses}
-use Rattle.xc_input.specs.declared.builder.ProblemBuilder.{ProblemBuilder}
-use Rattle.xc_input.specs.declared.tables.Tables.{Tables}
-use Rattle.xc_input.specs.declared.item_line.ItemLine.{ItemLine}
+use Rattle.xc_input.specs.declared.stage.ProblemBuilder.{ProblemBuilder}
+use Rattle.xc_input.specs.declared.stage.Tables.{Tables}
+use Rattle.xc_input.specs.declared.written.ItemLine.{ItemLine}
 use Rattle.xc_input.specs.declared.seed.Seed.{Seed}
 use Rattle.xc_input.specs.inner.Stored.{key_names, pieces}
 use Rattle.xc_input.proofs.FaultLemmas.{BAR, no-place, first-back, map-snoc, good-name, COLON}

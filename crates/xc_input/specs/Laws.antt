@@ -9,7 +9,7 @@ use Rattle.xc_input.specs.declared.problem.Item.{Item}
 use Rattle.xc_input.specs.ItemBounds.{bounds_of}
 use Rattle.xc_input.specs.Lines.{lines_of}
 use Rattle.xc_input.specs.Named.{Named, IsSound}
-use Rattle.xc_input.specs.declared.faulty.FaultyToken.{FaultyToken}
+use Rattle.xc_input.specs.declared.at_fault.FaultyToken.{FaultyToken}
 use Rattle.xc_input.specs.FaultyTokens.{IsFaultyToken}
 use Rattle.xc_input.specs.FirstFault.{line_number, content, line_fault, first_fault}
 use Rattle.xc_input.specs.Text.{StandsFor}

@@ -13,26 +13,18 @@ ghost use Rattle.xc_input.specs.inner.Builders.{Judged, IsBuilder};
 ghost use Rattle.xc_input.specs.inner.Builders.{stage_of_builder, sheet_of_builder, named_by, IsReadable};
 ghost use Rattle.indexmap.specs.IndexSet.{hasher_of};
 
-use crate::item_line::{ItemLine, item_line};
+use crate::item_line::item_line;
 use crate::limits::MOST_USES;
 use crate::line_error::LineError;
+use crate::option_line::option_line;
+use crate::outcome::Read;
 use crate::problem::{Item, Problem, Use};
-use crate::reader::Read;
 use crate::seed::Seed;
-use crate::tables::Tables;
+use crate::stage::{ProblemBuilder, Tables};
 use crate::tokens::{has_byte, is_skipped_line};
+use crate::written::ItemLine;
 use crate::{FaultKind, Kind};
 use std::alloc::Global;
-
-/// The state after the lines so far.
-#[derive(Drop)]
-pub struct ProblemBuilder {
-    pub started: bool,
-    pub items: Vec<Item>,
-    pub tables: Tables,
-    pub starts: Vec<u32>,
-    pub ignored: Vec<u64>,
-}
 
 impl ProblemBuilder {
     /// Nothing is read yet.
@@ -103,71 +95,76 @@ impl ProblemBuilder {
             return Ok(());
         }
         if self.started {
-            self.take_option(alloc, kind, count, line)
+            take_option(self, alloc, kind, count, line)
         } else {
-            self.take_items(alloc, kind, line)
+            take_items(self, alloc, kind, line)
         }
     }
+}
 
-    /// Takes the item line.
-    #[inline(never)]
-    fn take_items(&mut self, alloc: Global, kind: Kind, line: &[u8]) -> Result<(), LineError>
-        requires sound { IsBuilder self.old }
-        requires unstarted { self.old.started ≡ false }
-        ensures judged { Judged (first (row_checks kind no_row (parts line.now))) result }
-        ensures taken { OnOk result
-            (IsBuilder self.new × (stage_of_builder self.new ≡ record {
-              started = true;
-              sheet = with_row (sheet_of_builder self.old) (row_with_parts kind no_row (parts line.now));
-              ignored = self.old.ignored.items;
-            })) }
-        ensures seed { hasher_of self.new.tables.names ≡ hasher_of self.old.tables.names }
-        ensures colour_seed { hasher_of self.new.tables.colours ≡ hasher_of self.old.tables.colours }
-    {
-        let row = item_line(alloc, *self.tables.names.hasher(), kind, line)?;
-        let starts = vec![in alloc; 0]?;
-        let ItemLine { names, items, bar } = row;
-        let primary = bar.unwrap_or(items.len() as u32);
-        self.tables = Tables::new(alloc, names, primary)?;
-        self.items = items;
-        self.starts = starts;
-        self.started = true;
-        Ok(())
-    }
+/// Takes the item line.
+#[inline(never)]
+fn take_items(
+    builder: &mut ProblemBuilder,
+    alloc: Global,
+    kind: Kind,
+    line: &[u8],
+) -> Result<(), LineError>
+    requires sound { IsBuilder builder.old }
+    requires unstarted { builder.old.started ≡ false }
+    ensures judged { Judged (first (row_checks kind no_row (parts line.now))) result }
+    ensures taken { OnOk result
+        (IsBuilder builder.new × (stage_of_builder builder.new ≡ record {
+          started = true;
+          sheet = with_row (sheet_of_builder builder.old) (row_with_parts kind no_row (parts line.now));
+          ignored = builder.old.ignored.items;
+        })) }
+    ensures seed { hasher_of builder.new.tables.names ≡ hasher_of builder.old.tables.names }
+    ensures colour_seed { hasher_of builder.new.tables.colours ≡ hasher_of builder.old.tables.colours }
+{
+    let row = item_line(alloc, *builder.tables.names.hasher(), kind, line)?;
+    let starts = vec![in alloc; 0]?;
+    let ItemLine { names, items, bar } = row;
+    let primary = bar.unwrap_or(items.len() as u32);
+    builder.tables = Tables::new(alloc, names, primary)?;
+    builder.items = items;
+    builder.starts = starts;
+    builder.started = true;
+    Ok(())
+}
 
-    /// Takes an option line.
-    fn take_option(
-        &mut self,
-        alloc: Global,
-        kind: Kind,
-        count: u64,
-        line: &[u8],
-    ) -> Result<(), LineError>
-        requires sound { IsBuilder self.old }
-        requires started { self.old.started ≡ true }
-        ensures judged { Judged (first (staged_content_checks kind (stage_of_builder self.old) line.now)) result }
-        ensures taken { OnOk result
-            (IsBuilder self.new × (stage_of_builder self.new ≡ with_option count (stage_of_builder self.old)
-            (written_by (sheet_of_builder self.old) line.now))) }
-        ensures seed { hasher_of self.new.tables.names ≡ hasher_of self.old.tables.names }
-        ensures colour_seed { hasher_of self.new.tables.colours ≡ hasher_of self.old.tables.colours }
-    {
-        let start = self.tables.uses.len();
-        let met = self.tables.colours.len();
-        self.tables.option_line(alloc, kind, line)?;
-        if !has_primary_use(&self.tables.uses[start..], self.tables.primary) {
-            self.tables.uses.truncate(start);
-            // Colours are numbered by first use over the options that are kept.
-            self.tables.colours.truncate(met);
-            self.ignored.push(count)?;
-            return Ok(());
-        }
-        if self.tables.uses.len() > MOST_USES {
-            return Err(LineError::Fault(FaultKind::TooManyUses));
-        }
-        self.starts.push(self.tables.uses.len() as u32)?;
-        Ok(())
+/// Takes an option line.
+fn take_option(
+    builder: &mut ProblemBuilder,
+    alloc: Global,
+    kind: Kind,
+    count: u64,
+    line: &[u8],
+) -> Result<(), LineError>
+    requires sound { IsBuilder builder.old }
+    requires started { builder.old.started ≡ true }
+    ensures judged { Judged (first (staged_content_checks kind (stage_of_builder builder.old) line.now)) result }
+    ensures taken { OnOk result
+        (IsBuilder builder.new × (stage_of_builder builder.new ≡ with_option count (stage_of_builder builder.old)
+        (written_by (sheet_of_builder builder.old) line.now))) }
+    ensures seed { hasher_of builder.new.tables.names ≡ hasher_of builder.old.tables.names }
+    ensures colour_seed { hasher_of builder.new.tables.colours ≡ hasher_of builder.old.tables.colours }
+{
+    let start = builder.tables.uses.len();
+    let met = builder.tables.colours.len();
+    option_line(&mut builder.tables, alloc, kind, line)?;
+    if !has_primary_use(&builder.tables.uses[start..], builder.tables.primary) {
+        builder.tables.uses.truncate(start);
+        // Colours are numbered by first use over the options that are kept.
+        builder.tables.colours.truncate(met);
+        builder.ignored.push(count)?;
+        return Ok(());
     }
+    if builder.tables.uses.len() > MOST_USES {
+        return Err(LineError::Fault(FaultKind::TooManyUses));
+    }
+    builder.starts.push(builder.tables.uses.len() as u32)?;
+    Ok(())
 }
 
 /// Whether a use is of a primary item.

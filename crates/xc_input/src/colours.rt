@@ -12,9 +12,9 @@ ghost use Rattle.xc_input.specs.inner.Builders.{Judged, AreDistinct};
 ghost use Rattle.xc_input.specs.inner.Stored.{key_names};
 ghost use Rattle.indexmap.specs.IndexSet.{hasher_of};
 
-use crate::guess::ColourGuesses;
 use crate::line_error::LineError;
 use crate::names::{NameSet, add_name, place_of};
+use crate::stage::ColourGuesses;
 use std::alloc::Global;
 
 /// The place of a colour, if it is the one that was guessed. Most have one byte, by which they are guessed. No colour

@@ -16,29 +16,17 @@ ghost use Rattle.xc_input.specs.inner.CutTokens.{StandsBefore};
 ghost use Rattle.xc_input.specs.inner.Builders.{AreNames, AreMarks, IsItemTable, row_of_line};
 ghost use Rattle.xc_input.specs.inner.Stored.{key_names};
 
-use crate::item_line::{ItemLine, item_line};
+use crate::at_fault::FaultyToken;
+use crate::item_line::item_line;
 use crate::line_error::LineError;
 use crate::names::NameSet;
 use crate::option_line::use_of;
 use crate::seed::Seed;
 use crate::tables::no_marks;
 use crate::tokens::{has_byte, is_skipped_line, looked_up, next_part, next_word};
+use crate::written::ItemLine;
 use crate::{FaultKind, Kind};
 use std::alloc::{AllocError, Global};
-
-/// A token that is at fault. Its line is `before`, `token` and `behind`, one after another: the token alone would not
-/// show its place, since the same bytes may be in a line twice.
-#[derive(Clone, Copy, Debug, PartialEq, Eq)]
-pub struct FaultyToken<'a> {
-    /// What is before the token, so that the token's place in the line is this length.
-    pub before: &'a [u8],
-    /// The token: an item with its bounds, a bar, or a use with its colour.
-    pub token: &'a [u8],
-    /// What is after it.
-    pub behind: &'a [u8],
-    /// What is wrong with it.
-    pub kind: FaultKind,
-}
 
 /// The first token of a line that is at fault: of an option line after the line of these `items`, or
 /// of the item line where there is none yet. `None` where no token is at fault: the line may have no

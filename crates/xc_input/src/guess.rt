@@ -17,14 +17,8 @@ ghost use Rattle.xc_input.specs.inner.Stored.{word_number, IsWordOf, AreWords, k
 
 use crate::limits::{LONGEST_NAME, MOST_ITEMS, MOST_USES};
 use crate::names::NameSet;
+use crate::stage::{ColourGuesses, Guesses};
 use std::alloc::{AllocError, Global};
-
-/// A place of a name for each number of a table, and the number of each short name.
-#[derive(Drop)]
-pub struct Guesses {
-    pub places: Vec<u32>,
-    pub words: Vec<u64>,
-}
 
 impl Guesses {
     /// For no names.
@@ -76,12 +70,6 @@ impl Guesses {
     {
         place_at(&self.places, number)
     }
-}
-
-/// A place of a colour for each number of a table.
-#[derive(Drop)]
-pub struct ColourGuesses {
-    places: Vec<u32>,
 }
 
 impl ColourGuesses {

@@ -18,16 +18,9 @@ use crate::names::{NameSet, add_name, no_names, place_of};
 use crate::problem::{Bounds, Item};
 use crate::seed::Seed;
 use crate::tokens::{cut_at, next_part};
+use crate::written::ItemLine;
 use crate::{FaultKind, Kind};
 use std::alloc::Global;
-
-/// The items of a line, and how many are before its bar.
-#[derive(Drop)]
-pub struct ItemLine {
-    pub names: NameSet,
-    pub items: Vec<Item>,
-    pub bar: Option<u32>,
-}
 
 /// The first fault of a name by itself.
 pub fn name_fault(name: &[u8]) -> Option<FaultKind>
@@ -155,34 +148,34 @@ impl ItemLine {
             self.bar = Some(self.items.len() as u32);
             return Ok(());
         }
-        self.add_item(alloc, kind, part)
+        add_item(self, alloc, kind, part)
     }
+}
 
-    /// Takes a token that is no bar.
-    fn add_item(&mut self, alloc: Global, kind: Kind, token: &[u8]) -> Result<(), LineError>
-        requires table { IsItemTable self.old }
-        requires solid { list_any is_space token.now ≡ false }
-        ensures judged { Judged (first
-            (item_checks kind (names_of (map entry_of self.old.items.items)) (is_some self.old.bar) token.now)) result }
-        ensures added { OnOk result
-            (IsItemTable self.new × (map entry_of self.new.items.items ≡ map entry_of self.old.items.items ++ entry kind
-            (is_some self.old.bar) token.now ∷ []) × (self.new.bar ≡ self.old.bar)) }
-        ensures seed { hasher_of self.new.names ≡ hasher_of self.old.names }
-    {
-        let token = split_token(kind, self.bar.is_some(), token)?;
-        let ItemToken { name, low, high } = token;
-        if let Some(fault) = name_fault(name) {
-            return Err(LineError::Fault(fault));
-        }
-        if place_of(&self.names, name).is_some() {
-            return Err(LineError::Fault(FaultKind::RepeatedName));
-        }
-        if self.items.len() >= MOST_ITEMS {
-            return Err(LineError::Fault(FaultKind::TooManyItems));
-        }
-        add_name(alloc, &mut self.names, name)?;
-        push_item(alloc, &mut self.items, name, low, high)
+/// Takes a token that is no bar.
+fn add_item(line: &mut ItemLine, alloc: Global, kind: Kind, token: &[u8]) -> Result<(), LineError>
+    requires table { IsItemTable line.old }
+    requires solid { list_any is_space token.now ≡ false }
+    ensures judged { Judged (first
+        (item_checks kind (names_of (map entry_of line.old.items.items)) (is_some line.old.bar) token.now)) result }
+    ensures added { OnOk result
+        (IsItemTable line.new × (map entry_of line.new.items.items ≡ map entry_of line.old.items.items ++ entry kind
+        (is_some line.old.bar) token.now ∷ []) × (line.new.bar ≡ line.old.bar)) }
+    ensures seed { hasher_of line.new.names ≡ hasher_of line.old.names }
+{
+    let token = split_token(kind, line.bar.is_some(), token)?;
+    let ItemToken { name, low, high } = token;
+    if let Some(fault) = name_fault(name) {
+        return Err(LineError::Fault(fault));
     }
+    if place_of(&line.names, name).is_some() {
+        return Err(LineError::Fault(FaultKind::RepeatedName));
+    }
+    if line.items.len() >= MOST_ITEMS {
+        return Err(LineError::Fault(FaultKind::TooManyItems));
+    }
+    add_name(alloc, &mut line.names, name)?;
+    push_item(alloc, &mut line.items, name, low, high)
 }
 
 /// Adds an item.

@@ -1,7 +1,7 @@
 //! What holds of every text.
 
 ghost use Rattle.std.specs.Prelude.{◌↔◌, IsTrue};
-ghost use Rattle.xc_input.specs.declared.faulty.FaultyToken.{FaultyToken};
+ghost use Rattle.xc_input.specs.declared.at_fault.FaultyToken.{FaultyToken};
 ghost use Rattle.xc_input.specs.declared.problem.Item.{Item};
 ghost use Rattle.xc_input.specs.Laws.{FaultlessStand, StandForOne, StandAlso, TokensAgree};
 ghost use Rattle.xc_input.specs.Laws.{HaveTexts, DecidesEquality, IsEqualClone, IsSameItem, IsSameToken};

@@ -14,6 +14,7 @@
 //! ```
 #![tactic(auto)]
 
+mod at_fault;
 mod builder;
 mod colours;
 mod digits;
@@ -31,6 +32,7 @@ mod names;
 mod noted;
 mod option_line;
 mod options;
+mod outcome;
 mod problem;
 mod read;
 mod reader;
@@ -38,21 +40,25 @@ mod seed;
 mod seeded;
 mod slice_source;
 mod source;
+mod stage;
 mod tables;
 mod tokens;
 mod use_places;
 pub mod worked;
+mod written;
 
+pub use at_fault::FaultyToken;
 pub use fault::{FaultKind, InputError};
-pub use faulty::{FaultyToken, faulty_token};
+pub use faulty::faulty_token;
 pub use given::Given;
 pub use kind::Kind;
 pub use line_reader::{LineReader, Unread};
 pub use noted::Noted;
 pub use options::Options;
+pub use outcome::Read;
 pub use problem::{Bounds, Item, Problem, Use};
 pub use read::read_problem;
-pub use reader::{Read, Reader};
+pub use reader::Reader;
 pub use seed::{FoldingHasher, Seed};
 pub use seeded::Seeded;
 pub use slice_source::SliceSource;

@@ -21,17 +21,11 @@ use crate::item_line::name_fault;
 use crate::limits::LONGEST_COLOUR;
 use crate::line_error::LineError;
 use crate::problem::Use;
-use crate::tables::Tables;
-use crate::tokens::{Token, next_token};
+use crate::stage::Tables;
+use crate::tokens::next_token;
+use crate::written::{Token, WrittenUse};
 use crate::{FaultKind, Kind};
 use std::alloc::Global;
-
-/// A use as the line writes it: its item, and its colour, empty for none.
-#[derive(Clone, Copy)]
-pub struct WrittenUse<'a> {
-    pub item: u32,
-    pub colour: &'a [u8],
-}
 
 /// Whether a token has a colour where none may have one.
 fn is_not_here(kind: Kind, token: &Token) -> bool
@@ -100,35 +94,6 @@ pub fn use_of<'a>(
 }
 
 impl Tables {
-    /// Adds the uses of an option line, or returns its first fault. No item is marked before it, nor after it.
-    pub fn option_line(&mut self, alloc: Global, kind: Kind, line: &[u8]) -> Result<(), LineError>
-        requires sound { AreTables self.old }
-        requires few_uses { length self.old.uses.items ≤ most_uses }
-        ensures judged { Judged (first
-            (staged_option_checks (context kind (key_names self.old.names.keys) self.old.primary) [] (tokens line.now)))
-            result }
-        ensures sound { OnOk result (AreTables self.new) }
-        ensures uses { OnOk result
-            (self.new.uses.items ≡ self.old.uses.items ++ numbered (key_names self.old.colours.keys)
-            (map (written (key_names self.old.names.keys)) (tokens line.now))) }
-        ensures colours { OnOk result
-            (key_names self.new.colours.keys ≡ with_uses (key_names self.old.colours.keys)
-            (map (written (key_names self.old.names.keys)) (tokens line.now))) }
-        ensures same { AreSameItems self.old self.new }
-        ensures colour_seed { hasher_of self.new.colours ≡ hasher_of self.old.colours }
-    {
-        let start = self.uses.len();
-        let mut rest = line;
-        while let Some((token, others)) = next_token(&self.names, &self.guesses, rest) {
-            let written = use_of(kind, self.primary, &self.marks, token)?;
-            self.marks[written.item as usize - 1] = true;
-            self.add_use(alloc, written)?;
-            rest = others;
-        }
-        clear(&mut self.marks, &self.uses[start..]);
-        Ok(())
-    }
-
     /// Adds a use, with its colour by number: a new one where the colour wasn't met yet.
     fn add_use(&mut self, alloc: Global, written: WrittenUse) -> Result<(), LineError>
         requires few { length (key_names self.old.colours.keys) ≤ most_uses + most_items }
@@ -154,6 +119,40 @@ impl Tables {
         self.uses.push(Use { item, colour })?;
         Ok(())
     }
+}
+
+/// Adds the uses of an option line, or returns its first fault. No item is marked before it, nor after it.
+pub fn option_line(
+    tables: &mut Tables,
+    alloc: Global,
+    kind: Kind,
+    line: &[u8],
+) -> Result<(), LineError>
+    requires sound { AreTables tables.old }
+    requires few_uses { length tables.old.uses.items ≤ most_uses }
+    ensures judged { Judged (first
+        (staged_option_checks (context kind (key_names tables.old.names.keys) tables.old.primary) [] (tokens line.now)))
+        result }
+    ensures sound { OnOk result (AreTables tables.new) }
+    ensures uses { OnOk result
+        (tables.new.uses.items ≡ tables.old.uses.items ++ numbered (key_names tables.old.colours.keys)
+        (map (written (key_names tables.old.names.keys)) (tokens line.now))) }
+    ensures colours { OnOk result
+        (key_names tables.new.colours.keys ≡ with_uses (key_names tables.old.colours.keys)
+        (map (written (key_names tables.old.names.keys)) (tokens line.now))) }
+    ensures same { AreSameItems tables.old tables.new }
+    ensures colour_seed { hasher_of tables.new.colours ≡ hasher_of tables.old.colours }
+{
+    let start = tables.uses.len();
+    let mut rest = line;
+    while let Some((token, others)) = next_token(&tables.names, &tables.guesses, rest) {
+        let written = use_of(kind, tables.primary, &tables.marks, token)?;
+        tables.marks[written.item as usize - 1] = true;
+        tables.add_use(alloc, written)?;
+        rest = others;
+    }
+    clear(&mut tables.marks, &tables.uses[start..]);
+    Ok(())
 }
 
 /// Takes the marks of the items of these uses away.

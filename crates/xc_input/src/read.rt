@@ -9,7 +9,8 @@ ghost use Rattle.xc_input.specs.LinesRead.{IsLine};
 ghost use Rattle.xc_input.specs.Pieces.{GaveAll, IsWhole, IsPart};
 
 use crate::line_reader::LineReader;
-use crate::reader::{Read, Reader};
+use crate::outcome::Read;
+use crate::reader::Reader;
 use crate::source::Source;
 use crate::{InputError, Kind};
 use std::alloc::Global;

@@ -11,22 +11,16 @@ ghost use Rattle.xc_input.specs.Words.{has};
 ghost use Rattle.xc_input.specs.Tokens.{is_skipped};
 ghost use Rattle.xc_input.specs.Text.{StandsFor};
 
-use crate::builder::ProblemBuilder;
 use crate::given::Given;
 use crate::line_error::LineError;
+use crate::outcome::Read;
 use crate::problem::Problem;
 use crate::seed::Seed;
+use crate::stage::ProblemBuilder;
 use crate::{FaultKind, InputError, Kind};
 use std::alloc::Global;
 use std::fmt;
 use std::marker::Model;
-
-/// A problem, and the numbers of the lines that were ignored.
-#[derive(Debug, Drop)]
-pub struct Read {
-    pub problem: Problem,
-    pub ignored: Vec<u64>,
-}
 
 /// Reads a problem, line by line.
 #[derive(Drop)]

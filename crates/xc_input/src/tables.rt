@@ -6,23 +6,10 @@ ghost use Rattle.xc_input.specs.inner.Builders.{AreNames, AreMarks, AreTables};
 ghost use Rattle.xc_input.specs.inner.Stored.{key_names};
 ghost use Rattle.indexmap.specs.IndexSet.{hasher_of};
 
-use crate::guess::{ColourGuesses, Guesses};
 use crate::names::{NameSet, no_names};
-use crate::problem::Use;
 use crate::seed::Seed;
+use crate::stage::{ColourGuesses, Guesses, Tables};
 use std::alloc::{AllocError, Global};
-
-/// What option lines are read by, and the uses so far. A mark for each item says whether the line has it yet.
-#[derive(Drop)]
-pub struct Tables {
-    pub names: NameSet,
-    pub guesses: Guesses,
-    pub primary: u32,
-    pub marks: Vec<bool>,
-    pub colours: NameSet,
-    pub colour_guesses: ColourGuesses,
-    pub uses: Vec<Use>,
-}
 
 impl Tables {
     /// Those of no items.

@@ -15,8 +15,10 @@ ghost use Rattle.xc_input.specs.Limits.{most_uses};
 ghost use Rattle.xc_input.specs.inner.Builders.{AreNames, Judged};
 ghost use Rattle.xc_input.specs.inner.Stored.{AreWords, key_names};
 
-use crate::guess::{Guesses, long_word, short_word};
+use crate::guess::{long_word, short_word};
 use crate::names::{NameSet, place_of};
+use crate::stage::Guesses;
+use crate::written::Token;
 use bstr::ByteSlice;
 
 /// Whether a byte is white space.
@@ -94,15 +96,6 @@ fn behind_name<'a>(names: &NameSet, at: usize, n: usize, text: &'a [u8]) -> Opti
         return None;
     }
     text.strip_prefix(name)
-}
-
-/// A token of an option line, cut at its first colon: its name, the place of the name if it has one,
-/// and the colour after the colon if there is one.
-#[derive(Clone, Copy)]
-pub struct Token<'a> {
-    pub name: &'a [u8],
-    pub place: Option<usize>,
-    pub colour: Option<&'a [u8]>,
 }
 
 /// A token that begins with the name of a place, and what is left after it: none where what is there

@@ -6,12 +6,12 @@ use Rattle.xc_input.specs.declared.problem.Item.{Item}
 use Rattle.xc_input.specs.declared.fault.FaultKind.{FaultKind}
 use Rattle.xc_input.specs.declared.fault.InputError.{InputError}
 use Rattle.xc_input.specs.declared.fault.InputError.TheVariants.{Fault as BadLine, Memory as NoMemory}
-use Rattle.xc_input.specs.declared.item_line.ItemLine.{ItemLine}
+use Rattle.xc_input.specs.declared.written.ItemLine.{ItemLine}
 use Rattle.xc_input.specs.declared.line_error.LineError.{LineError}
 use Rattle.xc_input.specs.declared.line_error.LineError.TheVariants.{Fault, Memory}
-use Rattle.xc_input.specs.declared.option_line.WrittenUse.{WrittenUse}
-use Rattle.xc_input.specs.declared.builder.ProblemBuilder.{ProblemBuilder}
-use Rattle.xc_input.specs.declared.tables.Tables.{Tables}
+use Rattle.xc_input.specs.declared.written.WrittenUse.{WrittenUse}
+use Rattle.xc_input.specs.declared.stage.ProblemBuilder.{ProblemBuilder}
+use Rattle.xc_input.specs.declared.stage.Tables.{Tables}
 use Rattle.xc_input.specs.Named.{Named, IsName, IsSound}
 use Rattle.xc_input.specs.Tokens.{is_space}
 use Rattle.xc_input.specs.inner.Stored.{pieces, AreWords, named_from, IsOptional, AreOptionStarts, key_names}

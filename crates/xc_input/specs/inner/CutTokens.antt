@@ -2,7 +2,7 @@
 use Prim.Native.Char.{code}
 use Rattle.std.specs.Prelude.{◌≡◌, ℕ, List, [], ◌∷◌, ◌++◌, true, if◌then◌else◌, ◌<◌, false, length, drop, MatchOption}
 use Rattle.xc_input.specs.Tokens.{is_space, tokens}
-use Rattle.xc_input.specs.declared.tokens.Token.{Token}
+use Rattle.xc_input.specs.declared.written.Token.{Token}
 use Rattle.xc_input.specs.Words.{has, before, after, place}
 use Rattle.xc_input.specs.Faults.{bound_texts}
 

@@ -7,7 +7,7 @@ use Rattle.xc_input.specs.Words.{has}
 use Rattle.xc_input.specs.declared.kind.Kind.{Kind}
 use Rattle.xc_input.specs.declared.fault.InputError.{InputError}
 use Rattle.xc_input.specs.declared.fault.InputError.TheVariants.{Memory}
-use Rattle.xc_input.specs.declared.reader.Read.{Read}
+use Rattle.xc_input.specs.declared.outcome.Read.{Read}
 use Rattle.xc_input.specs.Named.{Named}
 use Rattle.xc_input.specs.Text.{StandsFor}
 use Rattle.xc_input.specs.FirstFault.{line_fault, first_fault}

@@ -1,5 +1,5 @@
 use Rattle.std.proofs.Common.{arith}
-use Rattle.xc_input.specs.declared.faulty.FaultyToken.{FaultyToken}
+use Rattle.xc_input.specs.declared.at_fault.FaultyToken.{FaultyToken}
 use Rattle.std.proofs.lemmas.List.{length-map}
 use Rattle.std.proofs.Common.{unwrap_or, sym, ap, ◌∙◌, subst}
 use Rattle.xc_input.specs.Tokens.{tokens, parts}

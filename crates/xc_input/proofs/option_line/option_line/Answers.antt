@@ -9,7 +9,7 @@ use Rattle.xc_input.specs.inner.Stages.{context, staged_token_checks, staged_opt
 use Rattle.xc_input.specs.inner.Builders.{items_of}
 use Rattle.xc_input.specs.inner.Stored.{key_names}
 use Rattle.xc_input.proofs.FaultLemmas.{stopped}
-use Rattle.xc_input.proofs.tables.Tables.option_line.Goals as goal
+use Rattle.xc_input.proofs.option_line.option_line.Goals as goal
 
 pub loop-token-init : goal.loop-token-init
 loop-token-init c = grind (arith, length-map, unmarked-few, append-nil)
@@ -19,7 +19,7 @@ returns-in_err-written-clause-judged c =
     let i = c.loop-token.invariant in
     let b = i.behind in
     let lent = c.deref.ensures.value in
-    let known = context c.args.kind (key_names c.loop-token.self.names.keys) c.loop-token.self.primary in
+    let known = context c.args.kind (key_names c.loop-token.tables.names.keys) c.loop-token.tables.primary in
     rw (← i.same.names, ← i.same.primary) (stopped (staged_token_checks known (items_of b.us) c.in-Some.ensures.0)
     (staged_option_checks known (items_of b.us ++ (written known.names c.in-Some.ensures.0).item ∷ [])
     (tokens c.in-Some.others.now)) c.from_residual.result (Fault c.in_err-written.field-0.0) c.from_residual.ensures.1
@@ -36,7 +36,7 @@ loop-token-preserved c =
     let b = i.behind in
     let lent = c.deref.ensures.value in
     let is =
-    c.in_ok-written.ensures.judged (key_names c.loop-token.self.names.keys) c.in-Some.ensures.0 (items_of b.us)
+    c.in_ok-written.ensures.judged (key_names c.loop-token.tables.names.keys) c.in-Some.ensures.0 (items_of b.us)
     i.named.named (rw lent b.count) c.in-Some.ensures.3 (rw lent b.marked) in
     let more = c.in_ok-add_use.ensures in
     record {
