@@ -20,7 +20,7 @@ use Rattle.xc_dance.specs.inner.Walks.{CanHide, hidden, unhidden}
 use Rattle.xc_dance.specs.declared.dance.Move.{Move}
 use Rattle.xc_dance.specs.declared.dance.Move.TheVariants.{Cover}
 use Rattle.xc_dance.specs.Moves.{listed_numbers, listed}
-use Rattle.xc_dance.specs.declared.links.cells.nodes.TheConstants.{SPACER, MARK}
+use Rattle.xc_dance.specs.declared.links.cells.marks.TheConstants.{SPACER, MARK}
 use Rattle.xc_dance.proofs.MoveLemmas.{rises_listed, numbers, length-listed, holds_use, holders}
 pub use Rattle.xc_dance.specs.inner.Lists.{Rises}
 pub use Rattle.xc_dance.proofs.MoveLemmas.{Rises-weaker, Rises-filter}

@@ -29,7 +29,7 @@ use Rattle.xc_dance.specs.Moves.{without, other_colours, listed_numbers}
 use Rattle.xc_dance.specs.inner.Lists.{numbers_of, rooms_of, list_at, less, IsPutBack, lose_from, has_use, IsListOf}
 use Rattle.xc_dance.specs.inner.Lists.{AreListsFrom, lose, keeps_colour, AreLists, lists_after, enlisted_from, enlisted}
 use Rattle.xc_dance.specs.inner.Lists.{lists_before, restored, still_taken, lists_at_marks, AreFalling}
-use Rattle.xc_dance.specs.declared.lists.undo_log.Removed.{Removed}
+use Rattle.xc_dance.specs.declared.lists.removed.Removed.{Removed}
 pub use Rattle.xc_dance.specs.inner.Lists.{Rises}
 
 -- ======== Lemmas on lists that rise, on the lists after moves, and on items purified.

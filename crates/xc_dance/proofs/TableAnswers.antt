@@ -19,7 +19,7 @@ use Rattle.xc_dance.specs.inner.Tables.{color_in, line_of, items_after, rlink_at
 use Rattle.xc_dance.specs.Linked.{Linked, dancing_of}
 use Rattle.xc_dance.specs.Fields.{used, layout, spacer_place, own, first_above, ring_of, is_in, below_of, link_place}
 use Rattle.xc_dance.specs.Commits.{CanStand, IsUseAt, after_use, after_uses, IsListedAt, option_at}
-use Rattle.xc_dance.specs.declared.links.cells.nodes.TheConstants.{SPACER}
+use Rattle.xc_dance.specs.declared.links.cells.marks.TheConstants.{SPACER}
 use Rattle.xc_dance.specs.Cost.{HasWritten}
 use Rattle.xc_dance.specs.declared.dance.Move.TheVariants.{Purify, Spend, Cover}
 use Rattle.xc_dance.specs.Moves.{purified, spends, AreLegal, listed, next_above, open_items, listed_numbers}

@@ -20,7 +20,7 @@ use Rattle.xc_dance.specs.inner.Tables.{nodes_after, span_of, spans_of}
 use Rattle.xc_dance.specs.inner.Walks.{followed, IsSpacer, places, hidden, unhidden, CanHide, CanUnhide, hide_cost}
 use Rattle.xc_dance.specs.inner.Walks.{costs, CanAll, CanFollow, before_use, behind_use, IsFitted, left_node, back_node}
 use Rattle.xc_dance.specs.inner.Walks.{IsPlain, HasUnmarked, IsUnmarked}
-use Rattle.xc_dance.specs.declared.links.cells.nodes.TheConstants.{SPACER, MARK}
+use Rattle.xc_dance.specs.declared.links.cells.marks.TheConstants.{SPACER, MARK}
 use Rattle.xc_dance.specs.Fields.{Node, layout, link_place, is_in, unused, own, used, is_marked}
 use Rattle.xc_dance.specs.inner.Lists.{keeps_colour}
 use Rattle.xc_dance.specs.declared.dance.Move.{Move}

@@ -25,10 +25,10 @@ use Rattle.xc_dance.specs.inner.Tables.{color_in, fixed_up, fixed_down, llink_at
 use Rattle.xc_dance.specs.inner.Tables.{blank, entered, IsFit, DifferByItem, HoldsItem, Placed, IsLaid, Nodes}
 use Rattle.xc_dance.specs.inner.Tables.{nodes_from, line_of, up_of, down_of, nodes_after, slot_of, color_read, top_read}
 use Rattle.xc_dance.specs.inner.Tables.{items_after, Items, Span, taken_nodes}
-use Rattle.xc_dance.specs.declared.links.rows.Row.{Row}
+use Rattle.xc_dance.specs.declared.links.row.Row.{Row}
 use Rattle.xc_dance.specs.Fields.{Node, unused, own, spacer, layout, spacer_place, last_below, first_above, first_of}
 use Rattle.xc_dance.specs.Fields.{last_of, ring_of, used, nodes_of, is_in, link_place, field_of, top_of, color_of}
-use Rattle.xc_dance.specs.declared.links.cells.nodes.TheConstants.{SPACER}
+use Rattle.xc_dance.specs.declared.links.cells.marks.TheConstants.{SPACER}
 use Rattle.xc_dance.specs.inner.Lists.{Rises}
 use Rattle.xc_dance.specs.Moves.{listed_numbers, listed}
 use Rattle.xc_dance.specs.declared.dance.Move.{Move}

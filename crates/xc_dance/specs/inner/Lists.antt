@@ -7,12 +7,12 @@ use Rattle.std.specs.List.{insert, list_any, range_with_len}
 use Rattle.std.specs.Global.{Vec}
 use Rattle.xc_input.specs.declared.problem.Use.{Use}
 use Rattle.xc_input.specs.Problem.{Puzzle, item_count, uses_of, colour_in, primary_count, high_at}
-use Rattle.xc_dance.specs.declared.lists.undo_log.Removed.{Removed}
+use Rattle.xc_dance.specs.declared.lists.removed.Removed.{Removed}
 use Rattle.xc_dance.specs.declared.dance.Move.{Move}
 use Rattle.xc_dance.specs.Moves.{is_open, is_other_colour, listed_numbers, spends}
 use Rattle.xc_dance.specs.declared.dance.Move.TheVariants.{Cover, Purify, Tweak, Spend}
-use Rattle.xc_dance.specs.declared.lists.item_states.ItemState.{ItemState}
-use Rattle.xc_dance.specs.declared.lists.item_states.ItemState.TheVariants.{Open, Covered, Purified}
+use Rattle.xc_dance.specs.declared.lists.state.ItemState.{ItemState}
+use Rattle.xc_dance.specs.declared.lists.state.ItemState.TheVariants.{Open, Covered, Purified}
 
 -- ======== Numbers that rise.
 

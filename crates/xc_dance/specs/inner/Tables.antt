@@ -13,12 +13,12 @@ use Rattle.xc_dance.specs.declared.dance.Move.{Move}
 use Rattle.xc_dance.specs.Moves.{listed, purified, listed_numbers, spends}
 use Rattle.xc_dance.specs.Fields.{Node, unused, own, spacer, used, layout, spacer_place, link_place, above, below_of}
 use Rattle.xc_dance.specs.Fields.{is_marked, first_of, last_of, ring_of, left_neighbour, right_of}
-use Rattle.xc_dance.specs.declared.links.cells.nodes.TheConstants.{MARK, SPACER}
-use Rattle.xc_dance.specs.declared.links.rows.Row.{Row}
+use Rattle.xc_dance.specs.declared.links.cells.marks.TheConstants.{MARK, SPACER}
+use Rattle.xc_dance.specs.declared.links.row.Row.{Row}
 use Rattle.xc_dance.specs.declared.dance.Move.TheVariants.{Cover, Purify, Tweak, Spend}
-use Rattle.xc_dance.specs.declared.links.cells.lent.Cells.{Cells}
-use Rattle.xc_dance.specs.declared.links.cells.lent.CellsMut.{CellsMut}
-use Rattle.xc_dance.specs.declared.links.cells.lent.LinksMut.{LinksMut}
+use Rattle.xc_dance.specs.declared.links.cells.borrows.Cells.{Cells}
+use Rattle.xc_dance.specs.declared.links.cells.borrows.CellsMut.{CellsMut}
+use Rattle.xc_dance.specs.declared.links.cells.borrows.LinksMut.{LinksMut}
 pub use Rattle.xc_dance.specs.Fields.{taken_nodes}
 
 -- ======== Where the nodes of an option are.

@@ -8,7 +8,7 @@ use Rattle.xc_input.specs.declared.problem.Use.{Use}
 use Rattle.xc_input.specs.Problem.{Puzzle, colour_in, uses_of, high_at}
 use Rattle.xc_dance.specs.inner.Tables.{Nodes, Span, fixed_up, fixed_down, Items, left_ring, back_in_ring, with_bound}
 use Rattle.xc_dance.specs.inner.Tables.{is_off, IsLaid, IsFit}
-use Rattle.xc_dance.specs.declared.links.cells.nodes.TheConstants.{MARK, SPACER}
+use Rattle.xc_dance.specs.declared.links.cells.marks.TheConstants.{MARK, SPACER}
 use Rattle.xc_dance.specs.Fields.{spacer, layout, link_place}
 use Rattle.xc_dance.specs.declared.dance.Move.{Move}
 use Rattle.xc_dance.specs.declared.dance.Move.TheVariants.{Cover, Purify, Tweak, Spend}

@@ -6,19 +6,22 @@
 //! second tally; and a list of the writes in order, which would have to be one value beside three columns that are lent
 //! apart. The count is for contracts alone and takes nothing at run time.
 
+mod borrows;
 mod cell;
 mod column;
 mod items;
 mod lent;
 mod link_column;
+mod marks;
 mod nodes;
 
+pub(crate) use borrows::{Cells, CellsMut, LinksMut};
 use cell::Cell;
 pub(crate) use column::Column;
 pub(crate) use items::Items;
-pub(crate) use lent::{Cells, CellsMut, LinksMut};
 pub(crate) use link_column::LinkColumn;
-pub(crate) use nodes::{MARK, Nodes, SPACER};
+pub(crate) use marks::{MARK, SPACER};
+pub(crate) use nodes::Nodes;
 
 /// The two links of a node side by side: whoever reads one reads the other.
 #[derive(PartialEq, Drop)]

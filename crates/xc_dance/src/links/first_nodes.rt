@@ -8,7 +8,8 @@ ghost use Rattle.xc_dance.specs.Fields.{spacer_place};
 
 use crate::links::cells::{Nodes, SPACER};
 use crate::links::node_counts::node_count;
-use crate::links::rows::{Row, Rows};
+use crate::links::row::Row;
+use crate::links::rows::Rows;
 use std::alloc::{AllocError, Global};
 use xc_input::Problem;
 

@@ -2,17 +2,9 @@
 ghost use Rattle.std.specs.Prelude.{◌≡◌, ◌<◌, length, IfOk};
 
 use crate::links::cells::{Column, LinkColumn, Nodes};
+use crate::links::row::Row;
 use std::alloc::{AllocError, Global};
 use std::marker::Model;
-
-/// What is in the cells of a node.
-#[derive(Clone, Copy, Drop)]
-pub(crate) struct Row {
-    pub(crate) top: u32,
-    pub(crate) ulink: u32,
-    pub(crate) dlink: u32,
-    pub(crate) color: u32,
-}
 
 /// Nodes that are laid one after another. There is room for all of them.
 #[derive(Drop)]

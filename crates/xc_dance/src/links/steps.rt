@@ -12,7 +12,7 @@ ghost use Rattle.xc_dance.specs.inner.Walks.{HasSize, NamesPlaces, unlinked, rel
 ghost use Rattle.xc_dance.specs.inner.Walks.{CanHide, CanHideAll, places, unhidden, CanUnhide, CanUnhideAll};
 ghost use Rattle.xc_dance.specs.inner.Walks.{unhide_costs, others_of, hidden_node, unhidden_node, CanHideNode};
 ghost use Rattle.xc_dance.specs.inner.Walks.{CanUnhideNode, AreUnmarked, IsUnmarked};
-ghost use Rattle.xc_dance.specs.declared.links.cells.nodes.TheConstants.{MARK};
+ghost use Rattle.xc_dance.specs.declared.links.cells.marks.TheConstants.{MARK};
 
 use crate::links::cells::{Cells, CellsMut, LinksMut, MARK, SPACER};
 use crate::links::spans::Spans;

@@ -1,17 +1,10 @@
-//! What the moves on the trail make of the items.
+//! The states and bounds of the items before any move.
 ghost use Rattle.std.specs.Prelude.{IfOk, []};
 ghost use Rattle.xc_dance.specs.inner.Lists.{AreStates, AreLeft};
 
+use crate::lists::state::ItemState;
 use crate::lists::table::Table;
 use std::alloc::{AllocError, Global};
-
-/// What the newest Cover or Purify of an item made of it.
-#[derive(Clone, Copy)]
-pub(crate) enum ItemState {
-    Open,
-    Covered,
-    Purified,
-}
 
 /// Every item is open.
 pub(crate) fn open_states(alloc: Global, table: &Table) -> Result<Vec<ItemState>, AllocError>

@@ -4,7 +4,8 @@ ghost use Rattle.xc_input.specs.Problem.{IsItem, IsPrimary, IsWithinLimits, high
 ghost use Rattle.xc_dance.specs.Moves.{IsLegal, is_open, purified, spends, next_above, open_items};
 
 use crate::Move;
-use crate::lists::item_states::{ItemState, open_states, whole_bounds};
+use crate::lists::item_states::{open_states, whole_bounds};
+use crate::lists::state::ItemState;
 use crate::lists::table::Table;
 use crate::tally::Tally;
 use std::alloc::{AllocError, Global};

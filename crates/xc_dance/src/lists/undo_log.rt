@@ -4,16 +4,9 @@ ghost use Rattle.std.specs.Prelude.{vec_capacity, IfOk, IfSome, IsNone, MatchOpt
 ghost use Rattle.xc_dance.specs.inner.Lists.{Rises, numbers_of, rooms_of, list_at, less, put_back, restored};
 ghost use Rattle.xc_dance.specs.inner.Lists.{still_taken, HasRoom, IsPutBack, Fits};
 
+use crate::lists::removed::Removed;
 use std::alloc::{AllocError, Global};
 use std::marker::Model;
-
-/// A number that was taken out of a list, and the place where it was.
-#[derive(Clone, Copy)]
-struct Removed {
-    place: usize,
-    list: u32,
-    number: u32,
-}
 
 /// Lists of option numbers, which are named by their places from 0 on. They lose numbers, and can
 /// go back to how they were at each mark.

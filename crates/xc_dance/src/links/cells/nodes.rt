@@ -23,12 +23,6 @@ use crate::links::tweaks::{bring_back, hide_unless, unhide_unless};
 use std::alloc::{AllocError, Global};
 use std::marker::Model;
 
-/// The colour of a marked node.
-pub(crate) const MARK: u32 = 0xffff_ffff;
-
-/// The least TOP of a spacer: this and its number. TOP of every other node is below it.
-pub(crate) const SPACER: u32 = 0x8000_0000;
-
 /// The nodes, of sixteen bytes each: four cells of 32 bits, so that more of them stay near the processor. Their links
 /// lie in pairs, since each step reads both; TOP and COLOR lie apart, since a walk down a list reads neither. Contracts
 /// see four columns.

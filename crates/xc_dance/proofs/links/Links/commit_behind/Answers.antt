@@ -8,7 +8,7 @@ use Rattle.xc_dance.proofs.TableAnswers.{along_first, Behind, behind_at, IsNext,
 use Rattle.xc_dance.proofs.TableAnswers.{one_more}
 use Rattle.xc_dance.proofs.links.Links.commit_behind.Goals as goal
 use Rattle.xc_dance.proofs.links.Links.commit_behind.Goals.{After-self, After-self-in-loop-self}
-use Rattle.xc_dance.specs.declared.links.cells.nodes.TheConstants.{SPACER}
+use Rattle.xc_dance.specs.declared.links.cells.marks.TheConstants.{SPACER}
 
 fitted : (c : After-self) → IsFitted c.args.self.now.puzzle (spans_of c.args.self.now.puzzle)
 fitted c = subst (λ (s : Linked). IsFitted s.puzzle (spans_of s.puzzle)) c.self.view_is c.self.invariant.fitted

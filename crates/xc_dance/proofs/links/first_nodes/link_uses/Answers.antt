@@ -12,7 +12,7 @@ use Rattle.xc_dance.proofs.PlaceLemmas.{is_at}
 use Rattle.xc_dance.proofs.links.first_nodes.link_uses.Goals as goal
 use Rattle.xc_dance.proofs.links.first_nodes.link_uses.Goals.{Then-top-lt-SPACER, then-top-lt-SPACER}
 use Rattle.xc_dance.proofs.links.first_nodes.link_uses.Goals.{else-top-lt-SPACER}
-use Rattle.xc_dance.specs.declared.links.cells.nodes.TheConstants.{SPACER}
+use Rattle.xc_dance.specs.declared.links.cells.marks.TheConstants.{SPACER}
 
 abbrev so_far : Puzzle → ℕ → Nodes
 so_far p q = nodes_from p (lines_of (take q (layout p))) (color_in p [])

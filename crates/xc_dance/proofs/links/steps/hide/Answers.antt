@@ -5,7 +5,7 @@ use Rattle.xc_dance.proofs.WalkLemmas.{places_none, places_more, CanAll-append, 
 use Rattle.xc_dance.proofs.WalkLemmas.{tells, hide_walk, Met, met}
 use Rattle.xc_dance.proofs.links.steps.hide.Goals as goal
 use Rattle.xc_dance.proofs.links.steps.hide.Goals.{After-get_at}
-use Rattle.xc_dance.specs.declared.links.cells.nodes.TheConstants.{SPACER}
+use Rattle.xc_dance.specs.declared.links.cells.marks.TheConstants.{SPACER}
 
 -- the walk up to the spacer
 up : {spans : List Span} {t : Nodes} {p : ℕ} → CanHideNode spans t p

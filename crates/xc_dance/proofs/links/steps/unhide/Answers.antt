@@ -6,7 +6,7 @@ use Rattle.xc_dance.proofs.WalkLemmas.{places_none, reverse-places, CanAll-appen
 use Rattle.xc_dance.proofs.WalkLemmas.{tells, unhide_walk, Met, met}
 use Rattle.xc_dance.proofs.links.steps.unhide.Goals as goal
 use Rattle.xc_dance.proofs.links.steps.unhide.Goals.{After-get_at, After-down_at}
-use Rattle.xc_dance.specs.declared.links.cells.nodes.TheConstants.{SPACER}
+use Rattle.xc_dance.specs.declared.links.cells.marks.TheConstants.{SPACER}
 
 both : (p first end : ℕ) → reverse (other_nodes p first end) ≡ reverse (places first p) ++ reverse (places (p + 1) end)
 both p first end = reverse-append (places (p + 1) end) (places first p)

@@ -1,5 +1,5 @@
 use Rattle.std.proofs.Common.{◌≡◌, replicate}
-use Rattle.xc_dance.specs.declared.lists.item_states.ItemState.TheVariants.{Open}
+use Rattle.xc_dance.specs.declared.lists.state.ItemState.TheVariants.{Open}
 use Rattle.xc_dance.proofs.lists.item_states.open_states.Given as goal
 
 abbrev pub invariant-loop : goal.invariant-loop

@@ -7,8 +7,8 @@ use Rattle.xc_dance.specs.declared.dance.Move.{Move}
 use Rattle.xc_dance.specs.Moves.{AreLegal}
 use Rattle.xc_dance.specs.inner.Lists.{AreStates, AreLeft}
 use Rattle.xc_dance.proofs.lists.trail.Trail.pop.Goals as goal
-use Rattle.xc_dance.specs.declared.lists.item_states.ItemState.TheVariants.{Open}
-use Rattle.xc_dance.specs.declared.lists.item_states.ItemState.{ItemState}
+use Rattle.xc_dance.specs.declared.lists.state.ItemState.TheVariants.{Open}
+use Rattle.xc_dance.specs.declared.lists.state.ItemState.{ItemState}
 
 -- what held with the move that goes as the newest one
 record Before (p : Puzzle) (m : Move) (t : List Move) (items : List ItemState) (bounds : List ℕ) : Type 0 where
