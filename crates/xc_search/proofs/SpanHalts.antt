@@ -12,10 +12,10 @@ use Rattle.xc_dance.specs.Dancing.{Dancing, moves_made}
 use Rattle.xc_dance.specs.declared.dance.Move.{Move}
 use Rattle.xc_search.specs.declared.choice.Choice.{Choice}
 use Rattle.xc_search.specs.declared.level.Level.{Level}
-use Rattle.xc_search.specs.declared.levels.Stop.{Stop}
-use Rattle.xc_search.specs.declared.span.Halt.{Halt}
-use Rattle.xc_search.specs.declared.span.Halt.TheVariants.{Member, End, Steps}
-use Rattle.xc_search.specs.declared.span.Went.{Went}
+use Rattle.xc_search.specs.declared.ran.Stop.{Stop}
+use Rattle.xc_search.specs.declared.went.Halt.{Halt}
+use Rattle.xc_search.specs.declared.went.Halt.TheVariants.{Member, End, Steps}
+use Rattle.xc_search.specs.declared.went.Went.{Went}
 use Rattle.xc_search.specs.Outlook.{shown_after}
 use Rattle.xc_search.specs.Listing.{whole, Branch, branches_of, listing}
 use Rattle.xc_search.specs.Spans.{precedes, is_before, between, row_of}
@@ -43,7 +43,7 @@ use Rattle.xc_search.proofs.MoveLemmas.{oldest_all}
 use Rattle.xc_search.proofs.LoopSteps.{returned, begun_coming, Opens, deepens, enters_next, with_level, with_begun}
 use Rattle.xc_search.proofs.LoopSteps.{back_before, members_all, ext_whole, ext_after_branch, oldest-oldest}
 use Rattle.xc_search.proofs.LoopSteps.{stands_behind, some_work}
-use Rattle.xc_search.specs.declared.levels.Stop.TheVariants as stops
+use Rattle.xc_search.specs.declared.ran.Stop.TheVariants as stops
 
 -- ======== How far a search of a span went on, by where it halted.
 

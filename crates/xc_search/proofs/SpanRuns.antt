@@ -21,8 +21,8 @@ use Rattle.xc_search.specs.inner.Ahead.{IsSolved, AreLed, numbers}
 use Rattle.xc_search.specs.inner.Spanning.{row_at, row_from, Halts, EndsSpan, BeginsBranch, Ends, PassesOver, Stands}
 use Rattle.xc_search.specs.inner.Spanning.{RunsTo, RanTo, IsSeenBy, IsRest, Settles}
 use Rattle.xc_search.specs.Room.{room_for}
-use Rattle.xc_search.specs.declared.levels.Stop.{Stop}
-use Rattle.xc_search.specs.declared.levels.Stop.TheVariants.{Member, Steps, Row, Nothing}
+use Rattle.xc_search.specs.declared.ran.Stop.{Stop}
+use Rattle.xc_search.specs.declared.ran.Stop.TheVariants.{Member, Steps, Row, Nothing}
 use Rattle.xc_search.proofs.ResidualLemmas.{choice_is_branch_item}
 use Rattle.xc_search.proofs.ListingLemmas.{listing_at}
 use Rattle.xc_search.proofs.LoopSteps.{solution}

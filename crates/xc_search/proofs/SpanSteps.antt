@@ -28,8 +28,8 @@ use Rattle.xc_search.specs.inner.Spanning.{IsRest, LeavesOut, PassesOver, row_at
 use Rattle.xc_search.specs.inner.Spanning.{Stands, BeginsBranch, Ends, EndsSpan, Settles}
 use Rattle.xc_search.specs.inner.Ahead.{AreLed, AreLedBy, AreLater, numbers, IsStuck, IsBranchItem, KeepsToItems}
 use Rattle.xc_search.specs.inner.Ahead.{EntersBranch, IsDone, branched}
-use Rattle.xc_search.specs.declared.levels.Stop.{Stop}
-use Rattle.xc_search.specs.declared.levels.Stop.TheVariants.{Nothing}
+use Rattle.xc_search.specs.declared.ran.Stop.{Stop}
+use Rattle.xc_search.specs.declared.ran.Stop.TheVariants.{Nothing}
 use Rattle.xc_search.specs.Cover.{members}
 use Rattle.xc_search.specs.declared.level.Begun.{Begun}
 use Rattle.xc_search.specs.Residuals.{wanted_at, choice_after}

@@ -1,8 +1,8 @@
 -- What a call of `Span::go_on` comes to.
 use Rattle.std.specs.Prelude.{ℕ, ◌+◌, ◌<◌, ◌≤◌, ◌≡◌, ◌⊎◌, true, false, [], ◌++◌, length, None, IfSome, IsSome}
 use Rattle.std.specs.Prelude.{IsSomeAnd}
-use Rattle.xc_search.specs.declared.span.Halt.TheVariants.{Member, End, Steps}
-use Rattle.xc_search.specs.declared.span.Went.{Went}
+use Rattle.xc_search.specs.declared.went.Halt.TheVariants.{Member, End, Steps}
+use Rattle.xc_search.specs.declared.went.Went.{Went}
 use Rattle.xc_search.specs.Outlook.{shown_after}
 use Rattle.xc_search.specs.Listing.{whole}
 use Rattle.xc_search.specs.Spans.{precedes, is_before, between}

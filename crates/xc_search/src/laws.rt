@@ -15,7 +15,8 @@ ghost use Rattle.xc_search.specs.Nodes.{IsRowOf, RowsGoOn, row_count};
 use crate::choice::Choice;
 use crate::marks::Mark;
 use crate::search::Step;
-use crate::span::{Halt, RowNumber, Went};
+use crate::span::RowNumber;
+use crate::went::{Halt, Went};
 
 /// The listing is one level over itself.
 #[tactic(auto, using(crate::proofs::ListingLemmas::listing_unrolled))]

@@ -30,6 +30,7 @@ ghost use Rattle.xc_search.specs.Residuals.{choice_after};
 
 use crate::level::{Begun, Level, begin_level};
 use crate::position::Position;
+use crate::ran::{Ran, Stop};
 use crate::rows::{Place, place_of};
 use crate::stack::Stack;
 use xc_dance::Dance;
@@ -321,27 +322,6 @@ pub struct Task<'u> {
     /// The branch that it enters first where it begins a level: those before it are left out.
     pub first: u32,
     pub over: u64,
-    pub steps: u64,
-}
-
-/// Where a run halted.
-#[derive(Clone, Copy)]
-pub enum Stop {
-    /// At a member.
-    Member,
-    /// Between two branches, since it has no more steps.
-    Steps,
-    /// At a branch whose row doesn't come before `until`.
-    Row,
-    /// All levels ended.
-    Nothing,
-}
-
-/// What a run came to: of the members that it was to pass over, and of its steps, so many are left.
-#[derive(Clone, Copy)]
-pub struct Ran {
-    pub stop: Stop,
-    pub more: u64,
     pub steps: u64,
 }
 

@@ -13,49 +13,17 @@ ghost use Rattle.xc_dance.specs.Dancing.{moves_made};
 use crate::choice::Choice;
 use crate::counts::most_levels;
 use crate::level::Level;
-use crate::levels::{Stop, unwind};
+use crate::levels::unwind;
 use crate::position::Position;
+use crate::ran::Stop;
 use crate::rows::is_before;
 use crate::spanning::{State, go_over, reach};
 use crate::stack::Stack;
+use crate::went::{Halt, Went};
 use std::alloc::{AllocError, Global};
 use std::marker::Model;
 use xc_dance::{Dance, Memory};
 use xc_input::Problem;
-
-/// Where a search of a span halted.
-#[derive(Clone, Copy, Debug, PartialEq, Eq)]
-pub enum Halt {
-    /// It went on by as many members as it was to, and is at the last of them.
-    Member,
-    /// No member of the span is left.
-    End,
-    /// It ran out of steps, and is between two branches.
-    Steps,
-}
-
-/// How far a search of a span went on.
-#[derive(Clone, Copy, Debug, PartialEq, Eq)]
-pub struct Went {
-    pub halt: Halt,
-    /// By how many members.
-    pub members: u64,
-    /// How many branches it began.
-    pub steps: u64,
-}
-
-impl Went {
-    /// It halted there, after so many members and steps.
-    fn at(halt: Halt, members: u64, steps: u64) -> Went
-        ensures { result ≡ record { halt = halt; members = members; steps = steps } }
-    {
-        Went {
-            halt,
-            members,
-            steps,
-        }
-    }
-}
 
 /// A number of a row: branch `k` of the `n` branches of its level.
 #[derive(Clone, Copy, Debug, PartialEq, Eq, Hash)]

@@ -19,8 +19,9 @@ ghost use Rattle.xc_search.specs.Residuals.{choice_after, wanted_after};
 ghost use Rattle.xc_search.specs.inner.Ahead.{AreLed, AreLedBy};
 ghost use Rattle.xc_search.specs.inner.Spanning.{CanGoTo, CanRun, Reaches, Runs, RanTo, Settles};
 
-use crate::levels::{Ran, Stop, Task, resume, run};
+use crate::levels::{Task, resume, run};
 use crate::position::Position;
+use crate::ran::{Ran, Stop};
 use crate::rows::is_before;
 use crate::stack::Stack;
 use core::mem::replace_with;

@@ -23,9 +23,10 @@ ghost use Rattle.xc_search.specs.inner.Levels.{most_levels, coming, choices_of, 
 use crate::choice::Choice;
 use crate::counts::most_levels;
 use crate::level::Level;
-use crate::levels::{Stop, Task, run, unwind};
+use crate::levels::{Task, run, unwind};
 use crate::marks::{Mark, Marks};
 use crate::position::Position;
+use crate::ran::Stop;
 use crate::stack::Stack;
 use core::mem::replace_with;
 use std::alloc::Global;

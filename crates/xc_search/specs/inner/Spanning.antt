@@ -4,9 +4,9 @@ use Rattle.std.specs.Prelude.{◌≤◌, ◌⊎◌, ◌^◌, filter, not}
 use Rattle.std.specs.List.{AllByRecursion}
 use Rattle.xc_search.specs.declared.choice.Choice.{Choice}
 use Rattle.xc_search.specs.declared.level.Level.{Level}
-use Rattle.xc_search.specs.declared.levels.Ran.{Ran}
-use Rattle.xc_search.specs.declared.levels.Stop.{Stop}
-use Rattle.xc_search.specs.declared.levels.Stop.TheVariants.{Member, Steps, Row, Nothing}
+use Rattle.xc_search.specs.declared.ran.Ran.{Ran}
+use Rattle.xc_search.specs.declared.ran.Stop.{Stop}
+use Rattle.xc_search.specs.declared.ran.Stop.TheVariants.{Member, Steps, Row, Nothing}
 use Rattle.xc_input.specs.Problem.{Puzzle}
 use Rattle.xc_dance.specs.Dancing.{Dancing, moves_made}
 use Rattle.xc_search.specs.Room.{room_for}

@@ -3,7 +3,7 @@ use Rattle.std.proofs.lemmas.List.{length-reverse}
 use Rattle.std.proofs.Common.{ℕ, ◌≡◌, ◌+◌, ◌<◌, ◌⊎◌, Some, None, true, false, length, take, get_or}
 use Rattle.std.proofs.Common.{refl, sym, ap, ◌∙◌, arith}
 use Rattle.xc_search.specs.Spans.{precedes}
-use Rattle.xc_search.specs.declared.levels.Stop.TheVariants.{Member, Steps, Row}
+use Rattle.xc_search.specs.declared.ran.Stop.TheVariants.{Member, Steps, Row}
 use Rattle.xc_search.specs.inner.Spanning.{RunsTo, Stands}
 use Rattle.xc_search.proofs.SpanSteps.{reaches_on, reaches_there, reaches_none, starts_reaching, led_nowhere}
 use Rattle.xc_search.proofs.SpanSteps.{numbers_row}

@@ -1,5 +1,5 @@
 use Rattle.std.proofs.Common.{[], refl, arith}
-use Rattle.xc_search.specs.declared.span.Halt.TheVariants.{Member, Steps}
+use Rattle.xc_search.specs.declared.went.Halt.TheVariants.{Member, Steps}
 use Rattle.xc_search.proofs.SpanHalts.{at_its_end, stayed}
 use Rattle.xc_search.proofs.span.Span.go_on.Goals as goal
 
