@@ -44,12 +44,12 @@ use Rattle.xc_list.specs.inner.Classes.{IsOfClass, IsCoverOfClasses, is_colour_m
 use Rattle.xc_list.specs.inner.Classes.{is_held_within}
 use Rattle.xc_list.specs.Output.{rotated_at, use_word}
 use Rattle.xc_list.specs.Listed.{is_body, is_known, is_none, Solution, fault_in_lines, solutions_of}
-use Rattle.xc_list.specs.declared.checker.seen_lines.SeenLine.{SeenLine}
+use Rattle.xc_list.specs.declared.judged_line.SeenLine.{SeenLine}
 use Rattle.xc_list.specs.inner.Listings.{IsFoundIn, IsNotedIn, IsClassOfLine, IsRightly, Listing, before_listing}
 use Rattle.xc_list.specs.inner.Listings.{ReadLine, Header, Body, Other, read, listing_of}
-use Rattle.xc_list.specs.declared.checker.Verdict.{Verdict}
-use Rattle.xc_list.specs.declared.checker.ListingFault.{ListingFault}
-use Rattle.xc_list.specs.declared.checker.ListingFault.TheVariants.{BadLine, UnknownOption}
+use Rattle.xc_list.specs.declared.verdict.Verdict.{Verdict}
+use Rattle.xc_list.specs.declared.verdict.ListingFault.{ListingFault}
+use Rattle.xc_list.specs.declared.verdict.ListingFault.TheVariants.{BadLine, UnknownOption}
 use Rattle.xc_list.specs.inner.Checking.{Progress, AreChosen, with_later, Closes, Takes}
 use Rattle.xc_list.proofs.ClassLemmas.{class-turned, turned-alike, uses-same, All-turned, body-is, is-body}
 use Rattle.xc_list.proofs.ClassLemmas.{same_uses_by_words, any-in, in-any, option-differs, option-known, counted}

@@ -41,7 +41,7 @@ use Rattle.xc_search.specs.inner.Levels.{take_branch}
 use Rattle.xc_search.proofs.ListingLemmas.{in-nones, by_branches, listing_at, with_bounds, numbered_at, uses_known}
 use Rattle.xc_search.proofs.ListingLemmas.{in-level, branch_item-in, nones, item-spend_one, goes_on}
 use Rattle.xc_search.proofs.Completeness.{each_member_covers}
-use Rattle.xc_list.specs.declared.page.TheConstants.{PADDING}
+use Rattle.xc_list.specs.declared.places.TheConstants.{PADDING}
 use Rattle.xc_list.specs.inner.Writing.{use_text, AreLaid, ArePadded, first_item, uses_text, colour_text}
 use Rattle.xc_list.specs.Output.{from_item, bytes_at, use_word, body_text, choice_text, member_text, is_printed, output}
 use Rattle.xc_list.specs.ListingLines.{words_in, before_last, header_number, is_word, is_ending, body_of_words}
@@ -51,9 +51,9 @@ use Rattle.xc_list.specs.inner.Listings.{Header, Body, read, Listing, listing_of
 use Rattle.xc_list.specs.Listed.{stands_for, is_known, is_none, Solution, IsVerdictOn, AreVerdicts, IsListingFault}
 use Rattle.xc_list.specs.Listed.{fault_in_lines, solutions_of, IsListedCover}
 use Rattle.xc_list.specs.Known.{IsKnownChoice}
-use Rattle.xc_list.specs.declared.checker.Verdict.{Verdict}
-use Rattle.xc_list.specs.declared.checker.ListingFault.{ListingFault}
-use Rattle.xc_list.specs.declared.checker.ListingFault.TheVariants.{Memory}
+use Rattle.xc_list.specs.declared.verdict.Verdict.{Verdict}
+use Rattle.xc_list.specs.declared.verdict.ListingFault.{ListingFault}
+use Rattle.xc_list.specs.declared.verdict.ListingFault.TheVariants.{Memory}
 use Rattle.xc_list.proofs.ClassLemmas.{numbered_some, place_held, All-turned, is-body, any-in, at_bytes, plain-word}
 use Rattle.xc_list.proofs.ClassLemmas.{uses-in}
 use Rattle.xc_list.proofs.CheckLemmas.{before_three, known-as, listed_solutions, lines-cons}

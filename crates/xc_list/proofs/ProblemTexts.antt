@@ -22,8 +22,8 @@ use Rattle.xc_search.specs.Marks.{marked}
 use Rattle.xc_list.specs.Digests.{problem_numbers, length_first, digest_after}
 use Rattle.xc_list.specs.inner.Writing.{bounds_numbers, bytes_numbers, use_number, uses_numbers, digest_multiplier}
 use Rattle.xc_list.specs.inner.Writing.{digest_start, AreEnds, AreKept, MatchMark, lines_end, line_text}
-use Rattle.xc_list.specs.declared.page.TheConstants.{LINES, ROOM}
-use Rattle.xc_list.specs.declared.page.Line.{Line}
+use Rattle.xc_list.specs.declared.places.TheConstants.{LINES, ROOM}
+use Rattle.xc_list.specs.declared.places.Line.{Line}
 use Rattle.xc_list.specs.Output.{choice_text}
 use Rattle.xc_list.proofs.OutputLemmas.{options_left}
 use Rattle.xc_list.proofs.Writing.{take_next, one_more}

@@ -20,9 +20,9 @@ use Rattle.xc_dance.proofs.PlaceLemmas.{take_more-get}
 use Rattle.xc_search.specs.Listing.{whole}
 use Rattle.xc_search.specs.InSpan.{InSpan, branches_along, left_of, reached, row_or_end}
 use Rattle.xc_search.specs.declared.choice.Choice.{Choice}
-use Rattle.xc_search.specs.declared.span.Halt.{Halt}
-use Rattle.xc_search.specs.declared.span.Went.{Went}
-use Rattle.xc_search.specs.declared.span.Halt.TheVariants.{Member, End, Steps}
+use Rattle.xc_search.specs.declared.went.Halt.{Halt}
+use Rattle.xc_search.specs.declared.went.Went.{Went}
+use Rattle.xc_search.specs.declared.went.Halt.TheVariants.{Member, End, Steps}
 use Rattle.xc_search.specs.Outlook.{shown_after, Outlook, MakesFew}
 use Rattle.xc_search.specs.Spans.{precedes, between}
 use Rattle.xc_search.specs.Going.{WentOnBy}

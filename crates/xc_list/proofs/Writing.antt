@@ -52,8 +52,8 @@ use Rattle.xc_list.specs.SpanWords.{row_numbers, row_word}
 use Rattle.xc_list.specs.declared.words.Words.{Words}
 use Rattle.xc_list.specs.declared.words.WordFault.{WordFault}
 use Rattle.xc_list.specs.Runs.{StoppedAt, IsRun}
-use Rattle.xc_list.specs.declared.runs.End.TheVariants.{Done}
-use Rattle.xc_list.specs.declared.page.TheConstants.{ROOM}
+use Rattle.xc_list.specs.declared.ends.End.TheVariants.{Done}
+use Rattle.xc_list.specs.declared.places.TheConstants.{ROOM}
 use Rattle.xc_list.specs.SearchedSpans.{AreSmall}
 use Rattle.xc_list.specs.Digests.{problem_numbers, digest_after, digest_of}
 use lib.Lanes.{put_chunk, chunk}

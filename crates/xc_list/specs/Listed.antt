@@ -12,9 +12,9 @@ use Rattle.xc_input.specs.Named.{Named}
 use Rattle.xc_search.specs.Cover.{IsCover}
 use Rattle.xc_list.specs.Output.{rotated_at, use_word}
 use Rattle.xc_list.specs.ListingLines.{header_number, body_of}
-use Rattle.xc_list.specs.declared.checker.Verdict.{Verdict}
-use Rattle.xc_list.specs.declared.checker.ListingFault.{ListingFault}
-use Rattle.xc_list.specs.declared.checker.ListingFault.TheVariants.{BadLine, UnknownOption, Memory}
+use Rattle.xc_list.specs.declared.verdict.Verdict.{Verdict}
+use Rattle.xc_list.specs.declared.verdict.ListingFault.{ListingFault}
+use Rattle.xc_list.specs.declared.verdict.ListingFault.TheVariants.{BadLine, UnknownOption, Memory}
 
 -- whether the words of uses are, in some rotation, those of a body in this order
 abbrev pub is_body : Named → List (List ℕ) → List Use → Bool

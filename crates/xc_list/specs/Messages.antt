@@ -1,9 +1,9 @@
 -- The messages beside a listing.
 use Rattle.std.specs.Prelude.{ℕ, List, ◌++◌, decimal, codes, ◌==◌, if◌then◌else◌}
-use Rattle.xc_list.specs.declared.runs.End.{End}
+use Rattle.xc_list.specs.declared.ends.End.{End}
 use Rattle.xc_list.specs.declared.words.WordFault.{WordFault}
 use Rattle.xc_list.specs.declared.words.WordFault.TheVariants.{Unknown, BadNumber, ZeroLimit}
-use Rattle.xc_list.specs.declared.runs.End.TheVariants.{Done, Limit, WriteFailed}
+use Rattle.xc_list.specs.declared.ends.End.TheVariants.{Done, Limit, WriteFailed}
 
 -- how many solutions there are, and a tail
 abbrev pub total_text : ℕ → List ℕ → List ℕ

@@ -11,8 +11,8 @@ use Rattle.xc_search.specs.Listing.{whole}
 use Rattle.xc_search.specs.Room.{room_for}
 use Rattle.xc_input.specs.Named.{Named}
 use Rattle.xc_list.specs.Output.{member_text, is_printed, output}
-use Rattle.xc_list.specs.declared.runs.End.{End}
-use Rattle.xc_list.specs.declared.runs.End.TheVariants.{Done, Limit, WriteFailed}
+use Rattle.xc_list.specs.declared.ends.End.{End}
+use Rattle.xc_list.specs.declared.ends.End.TheVariants.{Done, Limit, WriteFailed}
 
 -- The sink took the texts of the members that are printed before this one, and broke off in this one's.
 pub record StoppedAt (a : Named) (spacing limit t : ℕ) (old new : SinkState) : Type 0 where

@@ -7,14 +7,14 @@ use Rattle.xc_search.specs.Listing.{whole}
 use Rattle.xc_search.specs.Room.{room_for}
 use Rattle.xc_search.specs.Spans.{precedes, between}
 use Rattle.xc_search.specs.InSpan.{branches_along}
-use Rattle.xc_search.specs.declared.span.Went.{Went}
-use Rattle.xc_search.specs.declared.span.Halt.TheVariants.{Member, End, Steps}
+use Rattle.xc_search.specs.declared.went.Went.{Went}
+use Rattle.xc_search.specs.declared.went.Halt.TheVariants.{Member, End, Steps}
 use Rattle.xc_list.specs.SpanTexts.{end_at}
 use Rattle.xc_list.specs.SearchedSpans.{SearchedSpan, IsSpan, text_of}
 use Rattle.xc_list.specs.SpanWords.{AskedSpan, is_span}
 use Rattle.xc_list.specs.Texts.{Seen, SinkState, Took, BrokeOff}
-use Rattle.xc_list.specs.declared.spans.SpanFault.{SpanFault}
-use Rattle.xc_list.specs.declared.spans.SpanFault.TheVariants.{Memory, WriteFailed}
+use Rattle.xc_list.specs.declared.ends.SpanFault.{SpanFault}
+use Rattle.xc_list.specs.declared.ends.SpanFault.TheVariants.{Memory, WriteFailed}
 
 -- how many steps a run takes at most; 0 means no bound but the counter's
 abbrev pub most_steps : ℕ → ℕ

@@ -5,7 +5,7 @@ use Rattle.std.specs.List.{slice_split}
 use Rattle.std.specs.Str.{byte, bytes_eq}
 use Rattle.xc_search.specs.Spans.{precedes}
 use Rattle.xc_list.specs.Settings.{long_number}
-use Rattle.xc_list.specs.declared.span_words.SpanWords.{SpanWords}
+use Rattle.xc_list.specs.declared.asked.SpanWords.{SpanWords}
 
 -- What a run is to do: whether solutions are listed, or else counted alone; how many steps it takes at most, with 0
 -- for no bound; the row at which the span begins; and the one before which it ends, with the empty row for the

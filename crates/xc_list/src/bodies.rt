@@ -13,9 +13,10 @@ ghost use Rattle.xc_input.specs.Named.{IsKnownUse};
 ghost use Rattle.xc_list.specs.Texts.{Writes};
 ghost use Rattle.xc_list.specs.Output.{from_item};
 ghost use Rattle.xc_list.specs.inner.Writing.{use_text, AreLaid, ArePadded, first_item, uses_text};
-ghost use Rattle.xc_list.specs.declared.page.TheConstants.{PADDING, ROOM};
+ghost use Rattle.xc_list.specs.declared.places.TheConstants.{PADDING, ROOM};
 
-use crate::page::{PADDING, ROOM, put_part};
+use crate::page::put_part;
+use crate::places::{PADDING, ROOM};
 use crate::sink::{Sink, Tray};
 use crate::uses::{colour_of, name_of, uses_at, write_option, write_uses};
 use crate::write::{SinkFault, write_all};

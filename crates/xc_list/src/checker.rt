@@ -13,7 +13,7 @@ ghost use Rattle.xc_list.specs.inner.Classes.{IsClassOfBody};
 ghost use Rattle.xc_list.specs.Listed.{fault_in_lines, AreVerdicts, IsListingFault};
 ghost use Rattle.xc_list.specs.inner.Checking.{IsProgress, AreAllTaken, Closes, Takes, Refuses};
 ghost use Rattle.xc_list.specs.Output.{output};
-ghost use Rattle.xc_list.specs.declared.checker.ListingFault.TheVariants.{Memory};
+ghost use Rattle.xc_list.specs.declared.verdict.ListingFault.TheVariants.{Memory};
 
 mod counts;
 mod cover_counter;
@@ -23,49 +23,19 @@ mod rotation;
 mod seen_lines;
 
 use crate::checker::cover_counter::CoverCounter;
-use crate::checker::listing_lines::{ListingLine, cut_line, read_line};
+use crate::checker::listing_lines::{cut_line, read_line};
 use crate::checker::option_index::OptionIndex;
 use crate::checker::seen_lines::SeenLines;
+use crate::judged_line::ListingLine;
+use crate::verdict::{ListingFault, Verdict};
 pub use listing_lines::branch_number;
 use std::alloc::{AllocError, Global};
 use std::marker::Model;
-use thiserror::Error;
 use xc_input::Problem;
 
 /// How many choice lines are noted at most: lines that were chosen for it can make the notes of no use, and
 /// they take no more memory then.
 const MOST_PLACES: usize = 65536;
-
-/// The verdict on a listed solution.
-#[derive(Clone, Copy, Debug, PartialEq, Eq)]
-pub struct Verdict {
-    /// The number of its header.
-    pub number: u64,
-    /// Whether it is a cover.
-    pub cover: bool,
-}
-
-/// Why a listing gets no verdicts. Lines are counted from 1.
-#[derive(Clone, Copy, Debug, PartialEq, Eq, Error)]
-pub enum ListingFault {
-    /// A line that is neither a header nor a choice line, or a choice line before the first header.
-    #[error("listing line {0}: bad line")]
-    BadLine(u64),
-    /// A choice line whose body is neither that of an option nor `null` and a primary item's name.
-    #[error("listing line {0}: unknown option")]
-    UnknownOption(u64),
-    /// Memory is out.
-    #[error("out of memory")]
-    Memory,
-}
-
-impl From<AllocError> for ListingFault {
-    ghost from_gives = { λ _ e. e ≡ Memory };
-
-    fn from(_: AllocError) -> ListingFault {
-        ListingFault::Memory
-    }
-}
 
 /// A listing judged up to some line.
 #[derive(Drop)]

@@ -10,13 +10,12 @@ ghost use Rattle.xc_list.specs.Settings.{read_words};
 ghost use Rattle.xc_list.specs.SpanTexts.{row_text};
 ghost use Rattle.xc_list.specs.SpanWords.{row_word};
 ghost use Rattle.xc_list.specs.Worked.{seven, three_alike, colours};
-ghost use Rattle.xc_list.specs.declared.runs.End.TheVariants.{Done, Limit};
+ghost use Rattle.xc_list.specs.declared.ends.End.TheVariants.{Done, Limit};
 ghost use Rattle.xc_list.specs.declared.words.WordFault.TheVariants.{Unknown, BadNumber, ZeroLimit};
 
-use crate::checker::{ListingFault, Verdict};
-use crate::runs::End;
+use crate::ends::{End, SpanFault};
 use crate::sink::WriteFailed;
-use crate::spans::SpanFault;
+use crate::verdict::{ListingFault, Verdict};
 use crate::words::{WordFault, Words};
 use crate::write::SinkFault;
 

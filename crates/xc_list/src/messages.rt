@@ -4,8 +4,8 @@ ghost use Rattle.std.specs.Prelude.{if◌then◌else◌};
 ghost use Rattle.xc_list.specs.Texts.{Writes};
 ghost use Rattle.xc_list.specs.Messages.{total_text, summary_text, warning_text, word_fault_text};
 
+use crate::ends::End;
 use crate::line::write_line;
-use crate::runs::End;
 use crate::sink::Sink;
 use crate::words::WordFault;
 use crate::write::SinkFault;

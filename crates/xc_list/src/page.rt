@@ -6,33 +6,16 @@ ghost use Rattle.std.specs.Prelude.{◌≡◌, ◌+◌, ◌<◌, ◌≤◌, [], 
 ghost use Rattle.std.specs.Prelude.{IfSome, true};
 ghost use Rattle.xc_input.specs.Named.{Named};
 ghost use Rattle.xc_list.specs.inner.Writing.{AreKept, held_text};
-ghost use Rattle.xc_list.specs.declared.page.TheConstants.{LINES, PADDING, ROOM};
+ghost use Rattle.xc_list.specs.declared.places.TheConstants.{LINES, PADDING, ROOM};
 
+use crate::places::{Held, LINES, Line, PADDING, ROOM};
 use itoa::write_digits;
 use std::marker::Model;
 use std::simd::Simd;
 use xc_search::Mark;
 
-/// How many bytes a page has.
-pub const ROOM: usize = 4096;
-
-/// Where lines start, after the header.
-pub const LINES: usize = 22;
-
-/// How many bytes a short text is copied by, and how many there are after the laid out texts, so that it can be.
-pub const PADDING: usize = 16;
-
 /// How many lines of a solution a page keeps at most.
 const KEPT: usize = 64;
-
-/// A line on a page.
-#[derive(Clone, Copy)]
-pub struct Line {
-    /// The mark of its choice.
-    pub mark: Mark,
-    /// Where it ends.
-    pub end: usize,
-}
 
 /// The lines on a page, one after another.
 #[derive(Drop)]
@@ -43,7 +26,7 @@ pub struct Kept {
 
 impl Model for Kept {
     ghost use Rattle.std.specs.Prelude.{◌≡◌, ◌≤◌, List, length, take};
-    ghost use Rattle.xc_list.specs.declared.page.Line.{Line};
+    ghost use Rattle.xc_list.specs.declared.places.Line.{Line};
     ghost use Rattle.xc_list.specs.declared.page.TheConstants.{KEPT};
 
     ghost Value = { List Line };
@@ -125,13 +108,6 @@ impl Page {
             kept: Kept::new(),
         }
     }
-}
-
-/// Where the text on a page starts, and where it ends.
-#[derive(Clone, Copy)]
-pub struct Held {
-    pub from: usize,
-    pub to: usize,
 }
 
 /// Puts a part of a text on a page. A short one is copied by one load and one store of `PADDING` bytes; the bytes

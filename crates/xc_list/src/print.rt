@@ -19,11 +19,12 @@ ghost use Rattle.xc_list.specs.Output.{bytes_at, body_text, choice_text, member_
 ghost use Rattle.xc_list.specs.inner.Writing.{branch_text, IsPut, held_text, AreKept, MatchMark, lines_end};
 ghost use Rattle.xc_search.specs.Marks.{marked, IsMark};
 ghost use Rattle.xc_list.specs.Known.{IsKnownChoice};
-ghost use Rattle.xc_list.specs.declared.page.TheConstants.{LINES, PADDING, ROOM};
+ghost use Rattle.xc_list.specs.declared.places.TheConstants.{LINES, PADDING, ROOM};
 
 use crate::bodies::{Bodies, LaidOut};
 use crate::choices::Choices;
-use crate::page::{Held, Kept, LINES, Line, Page, put_bytes, put_header};
+use crate::page::{Kept, Page, put_bytes, put_header};
+use crate::places::{Held, LINES, Line};
 use crate::sink::Sink;
 use crate::uses::write_name;
 use crate::write::{SinkFault, write_all, write_number, write_two_numbers};

@@ -13,11 +13,12 @@ ghost use Rattle.xc_dance.specs.Dancing.{moves_made};
 ghost use Rattle.xc_dance.specs.Linked.{dancing_of};
 ghost use Rattle.xc_list.specs.Output.{is_printed};
 ghost use Rattle.xc_list.specs.Known.{IsKnownChoice};
-ghost use Rattle.xc_list.specs.Runs.{IsRun, AnswersRun, RunMakesFew, solutions_found};
+ghost use Rattle.xc_list.specs.Runs.{IsRun, AnswersRun, RunMakesFew};
 ghost use Rattle.xc_list.specs.inner.Writing.{printed_text, WentTo, AreKept};
 ghost use Rattle.xc_dance.specs.Same.{IsSame};
 
 use crate::bodies::Bodies;
+use crate::ends::End;
 use crate::page::Page;
 use crate::print::write_by_page;
 use crate::sink::Sink;
@@ -27,28 +28,6 @@ use std::alloc::Global;
 use xc_dance::{Dance, Links, Memory};
 use xc_input::Problem;
 use xc_search::{Walk, most_moves};
-
-/// How a run ended, and at how many solutions.
-#[derive(Clone, Copy, Debug, PartialEq, Eq)]
-pub enum End {
-    /// There are no more.
-    Done(u64),
-    /// The limit was met.
-    Limit(u64),
-    /// The text of this solution was not taken whole.
-    WriteFailed(u64),
-}
-
-impl End {
-    /// How many solutions the run had found when it ended.
-    pub fn solutions(self) -> u64
-        ensures { result ≡ solutions_found self }
-    {
-        match self {
-            End::Done(found) | End::Limit(found) | End::WriteFailed(found) => found,
-        }
-    }
-}
 
 /// Whether the solution with this number is printed.
 fn is_printed(spacing: u64, number: u64) -> bool

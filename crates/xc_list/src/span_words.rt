@@ -7,22 +7,9 @@ ghost use Rattle.xc_list.specs.SpanTexts.{end_at};
 ghost use Rattle.xc_list.specs.SpanWords.{asked_of, listing_word, row_number, row_numbers, row_word, is_span};
 ghost use Rattle.xc_list.specs.SpanWords.{asked_rows, asked_words, read_span_words, take_memory};
 
+use crate::asked::SpanWords;
 use crate::words::long_number;
 use std::alloc::{AllocError, Global};
-
-/// What a run over a span is to do. A row is the numbers of a member's branches, from the first level down, or any
-/// other numbers; a row that begins another comes before it.
-#[derive(Drop)]
-pub struct SpanWords {
-    /// Solutions are listed, and else counted alone.
-    pub listed: bool,
-    /// So many steps are taken at most, each a branch that is begun; 0 for no bound.
-    pub steps: u64,
-    /// The row at which the span begins.
-    pub from: Vec<u32>,
-    /// The row before which it ends; the empty row for the listing's end.
-    pub until: Vec<u32>,
-}
 
 /// Whether a word means a listing, or a count alone.
 fn listing_word(word: &[u8]) -> Option<bool>

@@ -19,26 +19,18 @@ ghost use Rattle.xc_list.specs.inner.Writing.{dotted, numbers_text, text_at, row
 ghost use Rattle.xc_list.specs.inner.Writing.{counts_text, rows_text, told_text, WentOn, BeginsAt, written_text};
 ghost use Rattle.xc_list.specs.inner.Writing.{GoesFew, SpanWritten};
 
+use crate::asked::SpanWords;
 use crate::bodies::Bodies;
 use crate::digest::problem_digest;
-use crate::page::ROOM;
+use crate::ends::SpanFault;
+use crate::places::ROOM;
 use crate::print::write_afresh;
 use crate::sink::Sink;
-use crate::span_words::SpanWords;
 use crate::write::{SinkFault, write_all, write_number, write_numbered};
 use std::alloc::Global;
 use xc_dance::{Dance, Links};
 use xc_input::Problem;
 use xc_search::{Halt, Span, Went, most_moves};
-
-/// Why a span wasn't listed.
-#[derive(Clone, Copy, Debug, PartialEq, Eq)]
-pub enum SpanFault {
-    /// There was no memory for its search.
-    Memory,
-    /// A write of its text failed.
-    WriteFailed,
-}
 
 /// What the text of a span has of its problem: the options as they are printed, and the digest.
 #[derive(Drop)]

@@ -8,10 +8,10 @@ use Rattle.xc_list.specs.inner.Listings as lines
 use Rattle.xc_list.specs.Listed.{Solution, is_known, fault_in_lines, IsVerdictOn, AreVerdicts}
 use Rattle.xc_list.specs.Listed.{IsListingFault}
 use Rattle.xc_list.specs.inner.Classes.{Classes, IsClassOfBody}
-use Rattle.xc_list.specs.declared.checker.Verdict.{Verdict}
-use Rattle.xc_list.specs.declared.checker.ListingFault.{ListingFault}
-use Rattle.xc_list.specs.declared.checker.listing_lines.ListingLine.{ListingLine}
-use Rattle.xc_list.specs.declared.checker.listing_lines.ListingLine.TheVariants.{Header, Body, Other}
+use Rattle.xc_list.specs.declared.verdict.Verdict.{Verdict}
+use Rattle.xc_list.specs.declared.verdict.ListingFault.{ListingFault}
+use Rattle.xc_list.specs.declared.judged_line.ListingLine.{ListingLine}
+use Rattle.xc_list.specs.declared.judged_line.ListingLine.TheVariants.{Header, Body, Other}
 
 -- what a line that was read says
 abbrev pub line_said : ListingLine → ReadLine

@@ -3,7 +3,7 @@
 use Rattle.std.specs.Prelude.{ℕ, List, Some, None, [], ◌∷◌, ◌≡◌, ◌⊎◌, Contains, IfSome, slice_set}
 use Rattle.xc_list.specs.ListingLines.{header_number, body_of}
 use Rattle.xc_list.specs.Listed.{Solution}
-use Rattle.xc_list.specs.declared.checker.seen_lines.SeenLine.{SeenLine}
+use Rattle.xc_list.specs.declared.judged_line.SeenLine.{SeenLine}
 use Rattle.xc_list.specs.inner.Classes.{Classes, IsClassOfBody}
 
 -- ======== What a line of a listing says.

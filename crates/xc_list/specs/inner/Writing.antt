@@ -16,17 +16,17 @@ use Rattle.xc_search.specs.Spans.{precedes, between}
 use Rattle.xc_search.specs.Nodes.{IsRowOf}
 use Rattle.xc_search.specs.Room.{room_for}
 use Rattle.xc_search.specs.InSpan.{InSpan, left_of, row_or_end, branches_along}
-use Rattle.xc_search.specs.declared.span.Halt.{Halt}
-use Rattle.xc_search.specs.declared.span.Went.{Went}
-use Rattle.xc_search.specs.declared.span.Halt.TheVariants.{Member, End, Steps}
+use Rattle.xc_search.specs.declared.went.Halt.{Halt}
+use Rattle.xc_search.specs.declared.went.Went.{Went}
+use Rattle.xc_search.specs.declared.went.Halt.TheVariants.{Member, End, Steps}
 use Rattle.xc_list.specs.Output.{bytes_at, use_word, choice_text, member_text, is_printed}
-use Rattle.xc_list.specs.declared.page.TheConstants.{PADDING, LINES}
-use Rattle.xc_list.specs.declared.page.Line.{Line}
+use Rattle.xc_list.specs.declared.places.TheConstants.{PADDING, LINES}
+use Rattle.xc_list.specs.declared.places.Line.{Line}
 use Rattle.xc_list.specs.Texts.{SinkState, Took, BrokeOff}
-use Rattle.xc_list.specs.declared.page.Held.{Held}
+use Rattle.xc_list.specs.declared.places.Held.{Held}
 use Rattle.xc_list.specs.Digests.{length_first}
-use Rattle.xc_list.specs.declared.runs.End.{End as RunEnd}
-use Rattle.xc_list.specs.declared.runs.End.TheVariants.{Done, Limit, WriteFailed}
+use Rattle.xc_list.specs.declared.ends.End.{End as RunEnd}
+use Rattle.xc_list.specs.declared.ends.End.TheVariants.{Done, Limit, WriteFailed}
 use Rattle.xc_list.specs.SpanTexts.{row_text, listing_text, problem_part}
 use Rattle.xc_list.specs.SpanWords.{AskedSpan}
 use Rattle.xc_list.specs.SpanRuns.{OfSpan}

@@ -15,16 +15,9 @@ ghost use Rattle.xc_input.specs.Words.{are_digits};
 ghost use Rattle.xc_list.specs.inner.Listings.{read};
 ghost use Rattle.xc_list.specs.inner.Checking.{line_said};
 
+use crate::judged_line::ListingLine;
 use crate::words::long_number;
 use bstr::ByteSlice;
-
-/// What a line is: a header with its number, a choice line with its body, or neither.
-#[derive(Clone, Copy)]
-pub enum ListingLine<'a> {
-    Header(u64),
-    Body(&'a [u8]),
-    Other,
-}
 
 /// A text cut at its first such byte.
 pub fn cut_first(text: &[u8], byte: u8) -> Option<(&[u8], &[u8])>

@@ -6,14 +6,8 @@
 ghost use Rattle.std.specs.Prelude.{◌≡◌, None, All, IfOk, IfSome};
 ghost use Rattle.xc_list.specs.inner.Listings.{IsFoundIn, IsNotedIn, IsBlankOr};
 
+use crate::judged_line::SeenLine;
 use std::alloc::{AllocError, Global};
-
-/// A choice line, and the class that its body stands for; none in a place that is free.
-#[derive(Drop)]
-pub(crate) struct SeenLine {
-    line: Vec<u8>,
-    class: Option<usize>,
-}
 
 impl SeenLine {
     /// Puts a line in place of what was here; nothing, if there is no memory for it.

@@ -3,7 +3,7 @@ use Rattle.std.specs.Prelude.{All, map}
 use Rattle.xc_search.specs.Marks.{marked, IsMark}
 use Rattle.xc_list.specs.Known.{IsKnownChoice}
 use Rattle.xc_list.specs.inner.Writing.{AreKept, lines_end}
-use Rattle.xc_list.specs.declared.page.TheConstants.{LINES, ROOM}
+use Rattle.xc_list.specs.declared.places.TheConstants.{LINES, ROOM}
 use Rattle.xc_list.proofs.print.keep_lines.Given as goal
 
 -- the lines of the marks before those that are left stand

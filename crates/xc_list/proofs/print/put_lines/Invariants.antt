@@ -3,7 +3,7 @@ use Rattle.std.specs.Prelude.{All}
 use Rattle.xc_list.specs.Known.{IsKnownChoice}
 use Rattle.xc_list.specs.Output.{choice_text}
 use Rattle.xc_list.specs.inner.Writing.{held_text}
-use Rattle.xc_list.specs.declared.page.TheConstants.{ROOM}
+use Rattle.xc_list.specs.declared.places.TheConstants.{ROOM}
 use Rattle.xc_list.proofs.Writing.{PutsFront}
 use Rattle.xc_list.proofs.print.put_lines.Given as goal
 

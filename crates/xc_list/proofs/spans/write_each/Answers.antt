@@ -1,7 +1,7 @@
 use Rattle.std.proofs.Common.{◌≡◌, ◌-◌, ◌^◌, ◌∷◌, refl, ap, arith, drop, inl, inr}
 use Rattle.std.specs.Prelude.{All}
 use Rattle.xc_search.specs.InSpan.{left_of}
-use Rattle.xc_search.specs.declared.span.Halt.TheVariants.{Member}
+use Rattle.xc_search.specs.declared.went.Halt.TheVariants.{Member}
 use Rattle.xc_list.specs.Known.{IsKnownChoice}
 use Rattle.xc_list.specs.Output.{member_text}
 use Rattle.xc_list.specs.inner.Writing.{left_at}
