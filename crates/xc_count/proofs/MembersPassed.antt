@@ -7,8 +7,8 @@ use Rattle.std.proofs.lemmas.List.{length-drop}
 use Rattle.std.specs.Prelude.{min}
 use Rattle.xc_input.proofs.ListLemmas.{by_option}
 use Rattle.xc_search.specs.declared.choice.Choice.{Choice}
-use Rattle.xc_search.specs.declared.span.Halt.TheVariants.{Member, End}
-use Rattle.xc_search.specs.declared.span.Went.{Went}
+use Rattle.xc_search.specs.declared.went.Halt.TheVariants.{Member, End}
+use Rattle.xc_search.specs.declared.went.Went.{Went}
 use Rattle.xc_search.specs.Going.{WentOnBy}
 use Rattle.xc_search.specs.InSpan.{InSpan, left_of, reached}
 use Rattle.xc_search.specs.Outlook.{shown_after}

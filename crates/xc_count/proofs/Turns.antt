@@ -4,9 +4,9 @@ use Rattle.std.proofs.Common.{◌∙◌, arith, subst, inl, inr, length-append, 
 use Rattle.std.specs.Prelude.{IfSome}
 use Rattle.xc_input.specs.Problem.{Puzzle}
 use Rattle.xc_input.proofs.ListLemmas.{by_option}
-use Rattle.xc_search.specs.declared.span.Halt.{Halt}
-use Rattle.xc_search.specs.declared.span.Halt.TheVariants.{Member, End, Steps}
-use Rattle.xc_search.specs.declared.span.Went.{Went}
+use Rattle.xc_search.specs.declared.went.Halt.{Halt}
+use Rattle.xc_search.specs.declared.went.Halt.TheVariants.{Member, End, Steps}
+use Rattle.xc_search.specs.declared.went.Went.{Went}
 use Rattle.xc_search.specs.Going.{WentOnBy}
 use Rattle.xc_search.specs.InSpan.{InSpan, left_of, reached}
 use Rattle.xc_search.specs.Listing.{whole}

@@ -8,23 +8,14 @@ ghost use Rattle.xc_count.specs.inner.Plans.{IsPlan, IsStep, options_with};
 ghost use Rattle.xc_count.specs.inner.Worth.{holds_first, key_below, says, with_number};
 
 use crate::errors::CountError;
-use crate::forward::Kept;
 use crate::holders::options_of;
+use crate::kept::{Ahead, Kept};
 use crate::keys::{do_agree, mark_of, mark_uses, without_first};
-use crate::layer::{Layer, State};
+use crate::layer::State;
 use crate::plan::{Plan, Step};
 use natural::Natural;
 use std::alloc::Global;
 use xc_input::Problem;
-
-/// The layer that a step leads to, the first rank of which its keys have marks, and the covers below each of its
-/// states.
-#[derive(Drop)]
-pub struct Ahead {
-    pub layer: Layer,
-    pub from: usize,
-    pub below: Vec<Natural>,
-}
 
 /// The covers below a key in which the step's item is held.
 fn below_key<'a>(

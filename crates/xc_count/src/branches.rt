@@ -12,17 +12,11 @@ use crate::holders::options_of;
 use crate::keys::{do_agree, mark_of, mark_uses};
 use crate::left::count_left;
 use crate::plan::Plan;
+use crate::taken::Taken;
 use natural::Natural;
 use std::alloc::Global;
 use xc_input::Problem;
 use xc_search::Choice;
-
-/// A branch that is taken: its choice, and the key of what it leaves.
-#[derive(Drop)]
-pub struct Taken {
-    pub choice: Choice,
-    pub key: Vec<u32>,
-}
 
 /// How many options of an item agree with a key.
 fn options_left(problem: &Problem, plan: &Plan, key: &[u32], item: u32) -> u32

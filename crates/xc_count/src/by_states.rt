@@ -7,9 +7,10 @@ ghost use Rattle.xc_count.specs.inner.Passed.{AreBelow};
 ghost use Rattle.xc_count.specs.inner.Plans.{IsPlan};
 ghost use Rattle.xc_count.specs.inner.Worth.{EachKey, holds_first};
 
-use crate::backward::{Ahead, back};
+use crate::backward::back;
 use crate::errors::CountError;
-use crate::forward::{Kept, keep_layers};
+use crate::forward::keep_layers;
+use crate::kept::{Ahead, Kept};
 use crate::layer::Layer;
 use crate::plan::Plan;
 use natural::Natural;

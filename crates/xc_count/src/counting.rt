@@ -7,7 +7,8 @@ ghost use Rattle.xc_count.specs.inner.Held.{HoldsOnce};
 
 use crate::by_option::sweep_options;
 use crate::errors::Halted;
-use crate::plan::{Plan, planning_work};
+use crate::plan::Plan;
+use crate::planning::planning_work;
 use crate::rival::{FIRST_WORK, Rival};
 use crate::sweeping::sweep;
 use natural::Natural;

@@ -9,26 +9,12 @@ ghost use Rattle.xc_count.specs.inner.Plans.{IsPlan, IsStep};
 ghost use Rattle.xc_count.specs.inner.Worth.{EachKey, holds_first};
 
 use crate::errors::CountError;
+use crate::kept::{Kept, Swept};
 use crate::layer::Layer;
 use crate::plan::{Plan, Step};
 use crate::sweeping::{first_layer, hold};
 use std::alloc::Global;
 use xc_input::Problem;
-
-/// A layer, and the step from it to the next.
-#[derive(Drop)]
-pub struct Kept {
-    pub layer: Layer,
-    pub step: Step,
-}
-
-/// The layers of a sweep but the last, and the last, in which each item of the order is held.
-#[derive(Drop)]
-pub struct Swept {
-    pub kept: Vec<Kept>,
-    pub last: Layer,
-    pub from: usize,
-}
 
 /// What the states of a layer become once the step's item is held. They take no more than so many bytes.
 fn next_layer(

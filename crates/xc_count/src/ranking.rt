@@ -4,14 +4,8 @@ ghost use Rattle.xc_count.specs.inner.Plans.{IsRanking};
 
 use crate::errors::CountError;
 use crate::order::places;
+use crate::plan::Ranking;
 use std::alloc::Global;
-
-/// The rank of each item, from 0, and the item of each rank.
-#[derive(Drop)]
-pub struct Ranking {
-    pub ranks: Vec<u32>,
-    pub items: Vec<u32>,
-}
 
 /// Whether each of so many items has a rank, and is the item of it.
 fn is_ranking(ranks: &[u32], items: &[u32], many: u32) -> bool

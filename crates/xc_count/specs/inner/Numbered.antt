@@ -3,7 +3,7 @@ use Rattle.std.specs.Prelude.{ℕ, ◌<◌, ◌+◌, ◌∷◌, List, Option, So
 use Rattle.xc_input.specs.Problem.{Puzzle, numbered_get}
 use Rattle.xc_search.specs.declared.choice.Choice.{Choice}
 use Rattle.xc_search.specs.Listing.{Residual, branch_count, branch_item, listing}
-use Rattle.xc_count.specs.declared.branches.Taken.{Taken}
+use Rattle.xc_count.specs.declared.taken.Taken.{Taken}
 use Rattle.xc_count.specs.declared.plan.Plan.{Plan}
 use Rattle.xc_count.specs.inner.Held.{left_by}
 use Rattle.xc_count.specs.inner.Worth.{says}

@@ -2,8 +2,8 @@
 use Rattle.std.specs.Prelude.{ℕ, ◌≡◌, ◌+◌, ◌==◌, List, length, map, is_some, sum_by, slice_index, if◌then◌else◌}
 use Rattle.xc_input.specs.Problem.{Puzzle, uses_of}
 use Rattle.xc_search.specs.Listing.{Residual}
-use Rattle.xc_count.specs.declared.backward.Ahead.{Ahead}
-use Rattle.xc_count.specs.declared.forward.Kept.{Kept}
+use Rattle.xc_count.specs.declared.kept.Ahead.{Ahead}
+use Rattle.xc_count.specs.declared.kept.Kept.{Kept}
 use Rattle.xc_count.specs.declared.layer.State.{State}
 use Rattle.xc_count.specs.declared.plan.Plan.{Plan}
 use Rattle.xc_count.specs.declared.plan.Step.{Step}

@@ -3,7 +3,7 @@ use Rattle.std.specs.Prelude.{All, sum_by}
 use Rattle.std.proofs.lemmas.List.Elements.{All-push}
 use Rattle.std.proofs.lemmas.List.Sums.{sum_by_push}
 use Rattle.xc_count.specs.Occurrences.{occurrences_of}
-use Rattle.xc_count.specs.declared.forward.Kept.{Kept}
+use Rattle.xc_count.specs.declared.kept.Kept.{Kept}
 use Rattle.xc_count.specs.declared.plan.Step.{Step}
 use Rattle.xc_count.specs.inner.Passed.{IsKept, taken_by, taken_here, worth_left, worth_passed}
 use Rattle.xc_count.specs.inner.Worth.{EachKey, holds_first, worth_by}

@@ -4,7 +4,7 @@ use Rattle.xc_input.specs.Problem.{IsItem}
 use Rattle.xc_count.specs.inner.Keys.{rank_of}
 use Rattle.xc_count.specs.inner.Plans.{IsOver}
 use Rattle.xc_count.proofs.PlanLemmas.{over_below, window_pushed}
-use Rattle.xc_count.proofs.plan.Plan.find_windows.Goals as goal
+use Rattle.xc_count.proofs.planning.find_windows.Goals as goal
 
 pub loop-place-init : goal.loop-place-init
 loop-place-init c = record {
@@ -16,8 +16,8 @@ loop-place-init c = record {
 pub loop-place-preserved : goal.loop-place-preserved
 loop-place-preserved c =
     let p = c.args.problem.now.puzzle in
-    let order = c.args.self.now.order.items in
-    let ranks = c.args.self.now.ranking.ranks.items in
+    let order = c.args.plan.now.order.items in
+    let ranks = c.args.plan.now.ranking.ranks.items in
     let l = c.loop-place in
     let over = over_below p order ranks l.place l.from c.next_window-from.result l.invariant.over
     c.next_window-from.ensures.over in

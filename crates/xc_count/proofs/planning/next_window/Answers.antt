@@ -4,13 +4,13 @@ use Rattle.std.proofs.lemmas.List.{get_or_default}
 use Rattle.xc_input.proofs.ListLemmas.{by_bool}
 use Rattle.xc_count.specs.inner.Keys.{rank_of}
 use Rattle.xc_count.specs.inner.Plans.{IsOver}
-use Rattle.xc_count.proofs.plan.Plan.next_window.Goals as goal
+use Rattle.xc_count.proofs.planning.next_window.Goals as goal
 
 pub loop-next-preserved : goal.loop-next-preserved
 loop-next-preserved c = record {
   rises = omega (arith, c.loop-next.invariant.rises);
   over = λ i item h l.
-      let ranking = c.args.self.now.ranking in
+      let ranking = c.args.plan.now.ranking in
       let rank = rank_of ranking.ranks.items i in
       let next = c.loop-next.next in
       by_bool (nat_lt rank next)
@@ -22,6 +22,6 @@ loop-next-preserved c = record {
       ap (λ r. get_or ranking.items.items r 0) here ∙ c.requires.ranks.1 i item.0 item.1 in
       let same = c.index-item.ensures ∙ get_or_default ranking.items.items next c.index-item.result.now 0 (omega arith)
       in
-      subst (λ j. IsOver c.args.problem.now.puzzle (take c.args.past c.args.self.now.order.items) j) (same ∙ is)
+      subst (λ j. IsOver c.args.problem.now.puzzle (take c.args.past c.args.plan.now.order.items) j) (same ∙ is)
       (c.is_over.ensures (grind arith)));
 }

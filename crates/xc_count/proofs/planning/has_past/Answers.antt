@@ -1,7 +1,7 @@
 use Rattle.std.proofs.Common.{arith}
 use Rattle.xc_input.specs.declared.problem.Use.{Use}
 use Rattle.xc_count.proofs.PlanLemmas.{use_there}
-use Rattle.xc_count.proofs.plan.Plan.has_past.Goals as goal
+use Rattle.xc_count.proofs.planning.has_past.Goals as goal
 
 pub returns-then-is_past : goal.returns-then-is_past
 returns-then-is_past c = λ e.

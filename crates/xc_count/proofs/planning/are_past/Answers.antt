@@ -4,12 +4,12 @@ use Rattle.std.proofs.lemmas.List.{get_or_default}
 use Rattle.xc_input.specs.Problem.{uses_of, colour_in}
 use Rattle.xc_input.proofs.ListLemmas.{by_bool}
 use Rattle.xc_count.specs.inner.Plans.{HoldsPast}
-use Rattle.xc_count.proofs.plan.Plan.are_past.Goals as goal
+use Rattle.xc_count.proofs.planning.are_past.Goals as goal
 
 pub loop-o-preserved : goal.loop-o-preserved
 loop-o-preserved c = λ j d h.
     let p = c.args.problem.now.puzzle in
-    let past = take c.args.past c.args.self.now.order.items in
+    let past = take c.args.past c.args.plan.now.order.items in
     let k = c.loop-o.o-index in
     let os = c.args.options.now in
     by_bool (nat_lt j k)

@@ -3,7 +3,7 @@ use Rattle.std.specs.Prelude.{All}
 use Rattle.xc_input.specs.Problem.{IsOption}
 use Rattle.xc_count.specs.inner.Plans.{HoldsPast}
 use Rattle.xc_count.proofs.HolderLemmas.{options_known}
-use Rattle.xc_count.proofs.plan.Plan.is_over.Goals as goal
+use Rattle.xc_count.proofs.planning.is_over.Goals as goal
 
 pub are_past-requires : goal.are_past-requires
 are_past-requires c =
@@ -13,6 +13,6 @@ are_past-requires c =
 pub returns : goal.returns
 returns c = λ e. record {
   held = c.is_settled.ensures (grind arith);
-  options = subst (λ os. All (HoldsPast c.args.problem.now.puzzle (take c.args.past c.args.self.now.order.items)) os)
+  options = subst (λ os. All (HoldsPast c.args.problem.now.puzzle (take c.args.past c.args.plan.now.order.items)) os)
       c.options_of.ensures (c.are_past.ensures e);
 }

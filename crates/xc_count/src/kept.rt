@@ -1,0 +1,29 @@
+//! The layers that a sweep keeps, and the covers below their states.
+
+use crate::layer::Layer;
+use crate::plan::Step;
+use natural::Natural;
+
+/// A layer, and the step from it to the next.
+#[derive(Drop)]
+pub struct Kept {
+    pub layer: Layer,
+    pub step: Step,
+}
+
+/// The layers of a sweep but the last, and the last, in which each item of the order is held.
+#[derive(Drop)]
+pub struct Swept {
+    pub kept: Vec<Kept>,
+    pub last: Layer,
+    pub from: usize,
+}
+
+/// The layer that a step leads to, the first rank of which its keys have marks, and the covers below each of its
+/// states.
+#[derive(Drop)]
+pub struct Ahead {
+    pub layer: Layer,
+    pub from: usize,
+    pub below: Vec<Natural>,
+}
