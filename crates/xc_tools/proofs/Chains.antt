@@ -25,7 +25,7 @@ use Rattle.xc_list.specs.Digests.{digest_of}
 use Rattle.xc_list.specs.Output.{member_text, is_printed}
 use Rattle.xc_list.specs.SearchedSpans.{IsSpan, SearchedSpan, members_of, text_of}
 use Rattle.xc_list.specs.Runs.{end_of}
-use Rattle.xc_list.specs.declared.runs.End.TheVariants.{Done, Limit}
+use Rattle.xc_list.specs.declared.ends.End.TheVariants.{Done, Limit}
 use Rattle.xc_tools.specs.Joins.{DoMeet, AreTexts, IsBeginning, joined, AreOfOneProblem, IsFirstGap, spans_in}
 use Rattle.xc_tools.specs.SpanShapes.{LieIn, SpanText, AreShapes, HasShape}
 use Rattle.xc_tools.specs.inner.SpanLines.{Risen, ends_before, Headed, Told, numbers_in, Join, Stand, goes, faulty}

@@ -23,14 +23,14 @@ use Rattle.xc_input.specs.Named.{Named}
 use Rattle.xc_input.specs.Pieces.{SourceState}
 use Rattle.xc_dance.proofs.PlaceLemmas.{take_more-get}
 use Rattle.xc_search.specs.Cover.{EachMemberCovers, EachCoverIsListedOnce}
-use Rattle.xc_search.specs.declared.span.Went.{Went}
-use Rattle.xc_list.specs.declared.runs.End.{End}
+use Rattle.xc_search.specs.declared.went.Went.{Went}
+use Rattle.xc_list.specs.declared.ends.End.{End}
 use Rattle.xc_list.specs.declared.words.Words.{Words}
 use Rattle.xc_list.specs.Messages.{summary_text}
 use Rattle.xc_list.specs.Output.{output}
 use Rattle.xc_list.specs.Runs.{end_of}
 use Rattle.xc_list.specs.Texts.{Seen, SinkState, Took, BrokeOff, WasTold, Begins}
-use Rattle.xc_list.specs.declared.checker.Verdict.{Verdict}
+use Rattle.xc_list.specs.declared.verdict.Verdict.{Verdict}
 use Rattle.xc_list.specs.SpanRuns.{OfSpan}
 use Rattle.xc_list.specs.SpanWords.{AskedSpan}
 use Rattle.xc_list.proofs.Writing.{stopped_broke, appends_kept, took_nothing}

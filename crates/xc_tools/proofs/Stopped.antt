@@ -19,16 +19,16 @@ use Rattle.xc_list.specs.Texts.{SinkState, Took, BrokeOff, WasTold}
 use Rattle.xc_list.specs.SpanTexts.{most_counted}
 use Rattle.xc_list.specs.Messages.{summary_text}
 use Rattle.xc_list.specs.Runs.{end_of}
-use Rattle.xc_list.specs.declared.runs.End.{End}
-use Rattle.xc_list.specs.declared.runs.End.TheVariants.{Done, Limit}
+use Rattle.xc_list.specs.declared.ends.End.{End}
+use Rattle.xc_list.specs.declared.ends.End.TheVariants.{Done, Limit}
 use Rattle.xc_list.specs.SearchedSpans.{SearchedSpan, IsSpan, text_of}
 use Rattle.xc_list.specs.SpanRuns.{searched}
 use Rattle.xc_list.specs.SpanWords.{is_span}
 use Rattle.xc_list.proofs.Writing.{then_broke, then_took, took_nothing, appends_kept}
-use Rattle.xc_tools.specs.declared.joining.Stop.{Stop}
-use Rattle.xc_tools.specs.declared.joining.Stop.TheVariants.{NotText, Other, Gap, Device, Memory, WriteFailed}
-use Rattle.xc_tools.specs.declared.span_lines.Joint.{Joint}
-use Rattle.xc_tools.specs.declared.span_lines.Refusal.{Refusal}
+use Rattle.xc_tools.specs.declared.outcomes.Stop.{Stop}
+use Rattle.xc_tools.specs.declared.outcomes.Stop.TheVariants.{NotText, Other, Gap, Device, Memory, WriteFailed}
+use Rattle.xc_tools.specs.declared.joint.Joint.{Joint}
+use Rattle.xc_tools.specs.declared.outcomes.Refusal.{Refusal}
 use Rattle.xc_tools.specs.inner.SpanLines.{Join, Stand, goes, faulty, mixed, apart, by_line, start, step, RefusesLine}
 use Rattle.xc_tools.specs.inner.SpanLines.{join_of}
 use Rattle.xc_tools.specs.inner.Joining.{Adds, EndsAt, StopsIn, StopsReading, stand_reached, says_of, stop_of}
@@ -46,7 +46,7 @@ use Rattle.xc_tools.proofs.Chains.{shapes-apart, shapes-cut, shapes-mixed, shape
 use Rattle.xc_tools.proofs.Chains.{shapes-unfinished, all_lines, begins, end_of-total, finished, first-lines, no-rest}
 use Rattle.xc_tools.proofs.ReadTexts.{ReadAs, meet-read, one-read, read-lines, shapes-read, start-read, texts_read}
 use Rattle.xc_tools.proofs.RunLemmas.{took_all}
-use Rattle.xc_tools.specs.declared.span_lines.Refusal.TheVariants as refusals
+use Rattle.xc_tools.specs.declared.outcomes.Refusal.TheVariants as refusals
 use Rattle.xc_input.specs.declared.line_reader.Unread.TheVariants as unread
 
 -- ======== Lines of spans' texts that are read one after another.

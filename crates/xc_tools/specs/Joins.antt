@@ -12,7 +12,7 @@ use Rattle.xc_list.specs.Output.{output}
 use Rattle.xc_list.specs.Runs.{end_of}
 use Rattle.xc_list.specs.SearchedSpans.{SearchedSpan, IsSpan, text_of}
 use Rattle.xc_list.specs.Texts.{Seen, Took, BrokeOff, WasTold}
-use Rattle.xc_list.specs.declared.runs.End.{End}
+use Rattle.xc_list.specs.declared.ends.End.{End}
 use Rattle.xc_tools.specs.SpanShapes.{AreShapes, SpanText}
 use Rattle.xc_tools.specs.ShownNames.{source_text, OfSource}
 use Rattle.xc_tools.specs.WholeRuns.{Sinks, TookAll, FailedBehind, IsRefused}

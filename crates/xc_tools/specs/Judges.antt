@@ -11,9 +11,9 @@ use Rattle.xc_input.specs.Calls.{Rose}
 use Rattle.xc_input.specs.Pieces.{SourceState, GaveAll}
 use Rattle.xc_list.specs.Listed.{fault_in_lines, AreVerdicts}
 use Rattle.xc_list.specs.Texts.{Seen}
-use Rattle.xc_list.specs.declared.checker.Verdict.{Verdict}
-use Rattle.xc_list.specs.declared.checker.ListingFault.{ListingFault}
-use Rattle.xc_list.specs.declared.checker.ListingFault.TheVariants.{BadLine, UnknownOption, Memory}
+use Rattle.xc_list.specs.declared.verdict.Verdict.{Verdict}
+use Rattle.xc_list.specs.declared.verdict.ListingFault.{ListingFault}
+use Rattle.xc_list.specs.declared.verdict.ListingFault.TheVariants.{BadLine, UnknownOption, Memory}
 use Rattle.xc_tools.specs.WholeRuns.{Sinks, Prints, IsRefused, ReadsProblem}
 
 -- the kind of problem that a number stands for

@@ -5,7 +5,7 @@ use Rattle.xc_input.specs.Named.{Named}
 use Rattle.xc_input.specs.Pieces.{SourceState}
 use Rattle.xc_search.specs.Cover.{EachMemberCovers, EachCoverIsListedOnce}
 use Rattle.xc_list.specs.declared.words.Words.{Words}
-use Rattle.xc_list.specs.declared.runs.End.TheVariants.{WriteFailed}
+use Rattle.xc_list.specs.declared.ends.End.TheVariants.{WriteFailed}
 use Rattle.xc_list.specs.Messages.{warning_text, summary_text, word_fault_text}
 use Rattle.xc_list.specs.Output.{output}
 use Rattle.xc_list.specs.Runs.{StoppedAt, end_of}

@@ -6,7 +6,7 @@
 ghost use Rattle.std.specs.Prelude.{◌≡◌, ◌++◌, ◌∷◌, [], ℕ, List, false, codes, IfErr, IfOk, OnOk};
 ghost use Rattle.std.specs.Prelude.{◌⊎◌, ◌==◌, IsOkAnd, drop, map, option_copied, if◌then◌else◌};
 ghost use Rattle.xc_list.specs.SpanTexts.{most_counted};
-ghost use Rattle.xc_list.specs.declared.runs.End.TheVariants.{Done, Limit};
+ghost use Rattle.xc_list.specs.declared.ends.End.TheVariants.{Done, Limit};
 ghost use Rattle.xc_input.specs.Pieces.{GaveAll};
 ghost use Rattle.xc_input.specs.LinesRead.{IsLine};
 ghost use Rattle.xc_input.specs.Words.{has};
@@ -15,89 +15,25 @@ ghost use Rattle.xc_list.specs.Texts.{seen, Took, WasTold, Writes};
 ghost use Rattle.xc_tools.specs.Joins.{asked_join, gap_text, at_line, no_text, other_text, unread_text, DidJoin};
 ghost use Rattle.xc_tools.specs.Joins.{DidJoinWords};
 ghost use Rattle.xc_tools.specs.WholeRuns.{sinks};
-ghost use Rattle.xc_tools.specs.declared.joining.Stop.TheVariants.{Memory, WriteFailed};
-ghost use Rattle.xc_tools.specs.inner.Joining.{joined_text, fed_lines, stop_of, Adds, EndsAt, IsAfter, JoinsAll};
-ghost use Rattle.xc_tools.specs.inner.Joining.{StopsIn, unread_stop};
+ghost use Rattle.xc_tools.specs.inner.Joining.{joined_text, fed_lines, Adds, EndsAt, IsAfter, JoinsAll};
+ghost use Rattle.xc_tools.specs.inner.Joining.{StopsIn};
 ghost use Rattle.xc_tools.specs.inner.Streams.{FlushFailed, WasFlushed};
 ghost use Rattle.xc_tools.specs.inner.Joining.{StopsReading, ToldStop};
 ghost use Rattle.xc_tools.specs.inner.SpanLines.{act_text};
 
+use crate::joint::{Joint, Lines};
 use crate::located::Located;
+use crate::outcomes::{Act, Stop};
 use crate::shown_names::{source_at, source_text};
 use crate::solving::finish;
-use crate::span_lines::{Act, Joint, Refusal, put_word};
+use crate::span_lines::put_word;
 use crate::status::{
     BAD_INPUT, BAD_WORDS, COMPLETE, FAILED, GAP, NO_MEMORY, flush_and_refuse, refuse, write_failed,
 };
 use itoa::Buffer;
 use std::alloc::{AllocError, Global};
-use xc_input::{Given, LineReader, Unread};
+use xc_input::{Given, LineReader};
 use xc_list::{End, Sink, SinkFault, write_all, write_line};
-
-/// Why no more is read.
-#[derive(Clone, Copy)]
-pub(crate) enum Stop {
-    /// A line isn't one of a span's text.
-    NotText,
-    /// A text is of another problem than the first one.
-    Other,
-    /// Ends don't meet.
-    Gap,
-    Device,
-    Memory,
-    WriteFailed,
-}
-
-impl From<Unread> for Stop {
-    ghost from_gives = { λ unread e. e ≡ unread_stop unread };
-
-    fn from(unread: Unread) -> Stop {
-        match unread {
-            Unread::Device => Stop::Device,
-            Unread::Memory => Stop::Memory,
-        }
-    }
-}
-
-impl From<AllocError> for Stop {
-    ghost from_gives = { λ _ e. e ≡ Memory };
-
-    fn from(_: AllocError) -> Stop {
-        Stop::Memory
-    }
-}
-
-impl From<SinkFault> for Stop {
-    ghost from_gives = { λ _ e. e ≡ WriteFailed };
-
-    fn from(_: SinkFault) -> Stop {
-        Stop::WriteFailed
-    }
-}
-
-impl From<Refusal> for Stop {
-    ghost from_gives = { λ refusal e. e ≡ stop_of refusal };
-
-    fn from(refusal: Refusal) -> Stop {
-        match refusal {
-            Refusal::NotText => Stop::NotText,
-            Refusal::Other => Stop::Other,
-            Refusal::Gap => Stop::Gap,
-            Refusal::Memory => Stop::Memory,
-        }
-    }
-}
-
-/// The lines up to now, and what was made of them.
-#[derive(Drop)]
-pub(crate) struct Lines {
-    joint: Joint,
-    given: Given,
-    /// How many there were.
-    taken: u64,
-    /// The one in which the open text begins, or else the last one.
-    begun: u64,
-}
 
 /// Writes what is to be written for a line, which comes with its line feed.
 fn write_act<O: Sink>(act: Act, with_feed: &[u8], out: &mut O) -> Result<(), SinkFault>

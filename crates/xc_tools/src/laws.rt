@@ -3,7 +3,7 @@ ghost use Rattle.std.specs.Prelude.{ℕ, ◌≡◌, Bool, List, [], flat_map};
 ghost use Rattle.xc_input.specs.Laws.{DecidesEquality, IsEqualClone};
 ghost use Rattle.xc_input.specs.Named.{Named, IsSound};
 ghost use Rattle.xc_list.specs.Runs.{end_of};
-ghost use Rattle.xc_list.specs.declared.runs.End.{End};
+ghost use Rattle.xc_list.specs.declared.ends.End.{End};
 ghost use Rattle.xc_list.specs.SearchedSpans.{SearchedSpan};
 ghost use Rattle.xc_list.specs.SpanTexts.{most_counted};
 ghost use Rattle.xc_tools.specs.Joins.{joined, spans_in, AreTexts, DoMeet, ListsWhole};

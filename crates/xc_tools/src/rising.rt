@@ -3,16 +3,8 @@ ghost use Rattle.std.specs.Prelude.{◌≡◌, IfOk};
 ghost use Rattle.xc_search.specs.Spans.{precedes};
 ghost use Rattle.xc_tools.specs.inner.SpanLines.{ends_before, has_risen, risen, TakesNumber};
 
+use crate::joint::Rising;
 use std::alloc::AllocError;
-
-/// The row of an open solution beside the one before it.
-#[derive(Drop)]
-pub(crate) struct Rising {
-    /// The row before, as long as the open one may be the same; and then the open one.
-    pub row: Vec<u64>,
-    /// How many numbers were read that are the same; none where the open row is past the one before it.
-    pub tied: Option<usize>,
-}
 
 /// Whether the one row comes before the other.
 fn precedes(row: &[u64], other: &[u64]) -> bool

@@ -4,7 +4,7 @@ ghost use Rattle.std.specs.Prelude.{◌≡◌, ◌⊎◌, ◌+◌, ℕ, List, Is
 ghost use Rattle.std.specs.Io.KnownBytes.{Keeps};
 ghost use Rattle.xc_list.specs.Messages.{summary_text};
 ghost use Rattle.xc_list.specs.Output.{output};
-ghost use Rattle.xc_list.specs.declared.runs.End.TheVariants.{WriteFailed};
+ghost use Rattle.xc_list.specs.declared.ends.End.TheVariants.{WriteFailed};
 ghost use Rattle.xc_list.specs.Settings.{read_words};
 ghost use Rattle.xc_list.specs.Texts.{seen, Took, BrokeOff, WasTold, Begins};
 ghost use Rattle.xc_input.specs.Calls.{Rose};

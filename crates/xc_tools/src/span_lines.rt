@@ -6,69 +6,15 @@ ghost use Rattle.xc_list.specs.ListingLines.{before_last, words_in};
 ghost use Rattle.xc_tools.specs.inner.SpanLines.{act_text, begins_with, by_choice, by_header, by_heading, by_last};
 ghost use Rattle.xc_tools.specs.inner.SpanLines.{by_line, by_record, closed, ends_well, inside, is_header, goes};
 ghost use Rattle.xc_tools.specs.inner.SpanLines.{join_of, meets, start, KeepsProblem, TakesLine, Unmet};
-ghost use Rattle.xc_tools.specs.declared.span_lines.Refusal.TheVariants.{Memory};
-ghost use Rattle.xc_tools.specs.declared.span_lines.Act.TheVariants.{Nothing};
+ghost use Rattle.xc_tools.specs.declared.outcomes.Refusal.TheVariants.{Memory};
+ghost use Rattle.xc_tools.specs.declared.outcomes.Act.TheVariants.{Nothing};
 
-use crate::rising::Rising;
+use crate::joint::{Joint, Rising};
+use crate::outcomes::{Act, Refusal};
 use crate::span_words::{heading_of, put_numbers, record_of, words_of};
 use itoa::Buffer;
 use std::alloc::{AllocError, Global};
 use xc_list::branch_number;
-
-/// What is to be written for a line.
-#[derive(Clone, Copy)]
-pub(crate) enum Act {
-    Nothing,
-    /// The line itself.
-    Copy,
-    /// A header with this number.
-    Header(u64),
-}
-
-/// Why no line is taken any more.
-#[derive(Clone, Copy)]
-pub(crate) enum Refusal {
-    /// It isn't one of a span's text.
-    NotText,
-    /// The text is of another problem than the first one.
-    Other,
-    /// The text begins elsewhere than the one before it ended.
-    Gap,
-    Memory,
-}
-
-impl From<AllocError> for Refusal {
-    ghost from_gives = { λ _ e. e ≡ Memory };
-
-    fn from(_: AllocError) -> Refusal {
-        Refusal::Memory
-    }
-}
-
-/// How far the texts of spans were read.
-#[derive(Drop)]
-pub(crate) struct Joint {
-    /// The texts are listings.
-    pub listed: bool,
-    /// The digest of the problem, once a text has begun.
-    pub digest: Vec<u8>,
-    /// The row where the last text ended.
-    pub met: Vec<u8>,
-    /// It ended at the listing's end.
-    pub finished: bool,
-    /// How many solutions the open text has up to now, if one is open.
-    pub found: Option<u64>,
-    /// The row of the last of them, or where the text begins.
-    pub rising: Rising,
-    /// How many solutions there are in all, up to 2^64 - 1.
-    pub total: u64,
-    /// There are more, which aren't listed.
-    pub full: bool,
-    /// Where the text after a gap begins.
-    pub next: Vec<u8>,
-    /// Where a text ends, as numbers.
-    pub until: Vec<u64>,
-}
 
 fn begins_with(line: &[u8], byte: u8) -> bool
     ensures { result ≡ begins_with byte line.now }

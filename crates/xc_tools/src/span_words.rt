@@ -9,31 +9,9 @@ ghost use Rattle.xc_tools.specs.inner.SpanLines.{are_counts, are_ends, begins, i
 ghost use Rattle.xc_tools.specs.inner.SpanLines.{counts_of, heading_of, is_number, is_row, headed_of, numbers_in};
 ghost use Rattle.xc_tools.specs.inner.SpanLines.{record_of, recorded_counts, saturating_number, told_of};
 
+use crate::headings::{Counts, Heading, Record};
 use itoa::Buffer;
 use std::alloc::{AllocError, Global};
-
-/// What the words of a heading mean.
-#[derive(Clone, Copy)]
-pub(crate) struct Heading<'a> {
-    pub row: &'a [u8],
-    pub digest: &'a [u8],
-}
-
-/// How many solutions a record tells, and of which problem.
-#[derive(Clone, Copy)]
-struct Counts<'a> {
-    solutions: u64,
-    digest: &'a [u8],
-}
-
-/// What the words of a record mean.
-#[derive(Clone, Copy)]
-pub(crate) struct Record<'a> {
-    pub from: &'a [u8],
-    pub until: &'a [u8],
-    pub solutions: u64,
-    pub digest: &'a [u8],
-}
 
 /// The number that digits stand for, up to 2^64 - 1.
 fn saturating_number(digits: &[u8]) -> u64

@@ -10,12 +10,12 @@ use Rattle.xc_list.specs.Texts.{SinkState, Took, BrokeOff, WasTold}
 use Rattle.xc_tools.specs.Joins.{ToldGap, ToldOther, no_text, unread_text}
 use Rattle.xc_tools.specs.ShownNames.{OfSource}
 use Rattle.std.specs.Prelude.{codes}
-use Rattle.xc_tools.specs.declared.joining.Lines.{Lines}
-use Rattle.xc_tools.specs.declared.joining.Stop.{Stop}
-use Rattle.xc_tools.specs.declared.joining.Stop.TheVariants.{NotText, Other, Gap, Device, Memory, WriteFailed}
-use Rattle.xc_tools.specs.declared.span_lines.Joint.{Joint}
-use Rattle.xc_tools.specs.declared.span_lines.Refusal.{Refusal}
-use Rattle.xc_tools.specs.declared.span_lines.Refusal.TheVariants as refusals
+use Rattle.xc_tools.specs.declared.joint.Lines.{Lines}
+use Rattle.xc_tools.specs.declared.outcomes.Stop.{Stop}
+use Rattle.xc_tools.specs.declared.outcomes.Stop.TheVariants.{NotText, Other, Gap, Device, Memory, WriteFailed}
+use Rattle.xc_tools.specs.declared.joint.Joint.{Joint}
+use Rattle.xc_tools.specs.declared.outcomes.Refusal.{Refusal}
+use Rattle.xc_tools.specs.declared.outcomes.Refusal.TheVariants as refusals
 use Rattle.xc_tools.specs.inner.Streams.{FlushFailed, WasFlushed}
 use Rattle.xc_tools.specs.inner.SpanLines.{Stand, goes, faulty, mixed, apart, stand_after, join_of, start, wrote}
 

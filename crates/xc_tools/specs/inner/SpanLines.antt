@@ -8,16 +8,16 @@ use Rattle.std.specs.Str.{byte, bytes_eq}
 use Rattle.xc_search.specs.Spans.{precedes}
 use Rattle.xc_list.specs.SpanTexts.{most_counted}
 use Rattle.xc_list.specs.ListingLines.{before_last, branch_number, words_in}
-use Rattle.xc_tools.specs.declared.rising.Rising.{Rising}
+use Rattle.xc_tools.specs.declared.joint.Rising.{Rising}
 use Rattle.xc_tools.specs.SpanShapes.{is_digest}
-use Rattle.xc_tools.specs.declared.span_words.Counts.{Counts}
-use Rattle.xc_tools.specs.declared.span_words.Heading.{Heading}
-use Rattle.xc_tools.specs.declared.span_words.Record.{Record}
-use Rattle.xc_tools.specs.declared.span_lines.Act.{Act}
-use Rattle.xc_tools.specs.declared.span_lines.Act.TheVariants.{Nothing, Copy, Header}
-use Rattle.xc_tools.specs.declared.span_lines.Joint.{Joint}
-use Rattle.xc_tools.specs.declared.span_lines.Refusal.{Refusal}
-use Rattle.xc_tools.specs.declared.span_lines.Refusal.TheVariants.{NotText, Other, Gap, Memory}
+use Rattle.xc_tools.specs.declared.headings.Counts.{Counts}
+use Rattle.xc_tools.specs.declared.headings.Heading.{Heading}
+use Rattle.xc_tools.specs.declared.headings.Record.{Record}
+use Rattle.xc_tools.specs.declared.outcomes.Act.{Act}
+use Rattle.xc_tools.specs.declared.outcomes.Act.TheVariants.{Nothing, Copy, Header}
+use Rattle.xc_tools.specs.declared.joint.Joint.{Joint}
+use Rattle.xc_tools.specs.declared.outcomes.Refusal.{Refusal}
+use Rattle.xc_tools.specs.declared.outcomes.Refusal.TheVariants.{NotText, Other, Gap, Memory}
 
 -- ======== How the row of an open solution stands beside the one before it.
 
