@@ -16,9 +16,12 @@ sys.path.insert(0, "tests/hostile")
 from collisions import WORDS, by_chance, colliding, of_names  # noqa: E402
 
 PLAIN, BOUNDS = 1, 3
-DONE, FAULT, NO_ROOM, LIMIT = 0, 2, 3, 5
+DONE, NO_KIND, FAULT, NO_ROOM, LIMIT = 0, 1, 2, 3, 5
 SEVEN = b"a b c d e f g\nc e\na d g\nb c f\na d f\nb g\nd e g\n"
 LISTING = b"1:\n a d f (2 of 2)\n b g (1 of 1)\n c e (1 of 1)\n"
+# Forty items with two equal options each: 2^40 solutions.
+NAMES = [b"%d" % it for it in range(40)]
+FORTY = b"\n".join([b" ".join(NAMES), *(it for name in NAMES for it in (name, name))])
 
 library = ctypes.CDLL(sys.argv[1])
 TEXT = (c_uint32, c_char_p, c_size_t, c_uint64)
@@ -76,6 +79,14 @@ assert counted(BOUNDS, b"2:3|a\n" + b"a\n" * 20, 1000000) == (DONE, 190 + 1140)
 assert counted(BOUNDS, b"2:3|a\n" + b"a\n" * 20, 1000) == (LIMIT, 1000)
 assert total(PLAIN, b"a b c\n" + b"a\na\nb\nb\nc\nc\n", 1) == (DONE, b"8")
 assert total(BOUNDS, b"2:3|a\n" + b"a\n" * 20, 3) == (NO_ROOM, b"133")
+assert total(BOUNDS, b"0:1|a\na\n", 9) == (DONE, b"2")
+assert total(PLAIN, b"a b\nc\n", 9) == (FAULT, b"")
+assert total(4, SEVEN, 9) == (NO_KIND, b"")
+# Where these searched on, they would not end.
+assert counted(PLAIN, FORTY, 3) == (LIMIT, 3)
+assert total(PLAIN, FORTY, 20) == total(PLAIN, FORTY, 13) == (DONE, b"1099511627776")
+assert total(PLAIN, FORTY, 4) == (NO_ROOM, b"1099")
+assert listed(PLAIN, FORTY, 10) == (NO_ROOM, b"1:\n 0 (1 o")
 assert listed(PLAIN, SEVEN, 1000) == (DONE, LISTING)
 assert listed(PLAIN, SEVEN, 10) == (NO_ROOM, LISTING[:10])
 assert first_fault(PLAIN, SEVEN, secrets.randbits(64)) == (DONE, 0, 0)

@@ -16,8 +16,8 @@ use Rattle.xc_input.proofs.LineLemmas.{stands-only, IsErrorOf-more, error-ends}
 use Rattle.xc_list.specs.Output.{output}
 use Rattle.xc_list.specs.Texts.{SinkState}
 use Rattle.xc_list.specs.Runs.{StoppedAt, IsRun, end_of}
-use Rattle.xc_list.specs.declared.runs.End.{End}
-use Rattle.xc_list.specs.declared.runs.End.TheVariants.{Done, Limit, WriteFailed}
+use Rattle.xc_list.specs.declared.ends.End.{End}
+use Rattle.xc_list.specs.declared.ends.End.TheVariants.{Done, Limit, WriteFailed}
 use Rattle.xc_list.proofs.Writing.{stopped_broke}
 use Rattle.xc_c.specs.Answers.{IsFilled, Lists}
 use Rattle.xc_c.specs.inner.{listing_status}

@@ -6,8 +6,8 @@ use Rattle.xc_input.specs.Problem.{Puzzle}
 use Rattle.xc_search.specs.Ends.{ends, ends_after}
 use Rattle.xc_search.specs.Listing.{whole}
 use Rattle.xc_search.specs.Room.{room_for}
-use Rattle.xc_list.specs.declared.runs.End.{End}
-use Rattle.xc_list.specs.declared.runs.End.TheVariants.{Done, Limit, WriteFailed}
+use Rattle.xc_list.specs.declared.ends.End.{End}
+use Rattle.xc_list.specs.declared.ends.End.TheVariants.{Done, Limit, WriteFailed}
 
 -- ======== The statuses of what the steps of a call answer.
 

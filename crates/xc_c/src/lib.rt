@@ -13,8 +13,6 @@ ghost use Rattle.xc_c.specs.Numbers.{version_number};
 
 mod numbers;
 mod seeds;
-#[cfg(test)]
-mod tests;
 mod texts;
 
 use crate::numbers::{
