@@ -1,6 +1,6 @@
 //! What tests share: problems with their listings, and what is made of texts.
 use std::alloc::{AllocError, Global};
-use xc_input::{Feed, InputError, Kind, Problem, Read, Use, read_problem};
+use xc_input::{Feed, InputError, Kind, Problem, Read, read_problem};
 
 /// Seven items, and six options with one cover.
 pub const SEVEN: &[u8] = b"a b c d e f g\nc e\na d g\nb c f\na d f\nb g\nd e g\n";
@@ -67,25 +67,4 @@ pub fn wrong_row<W: Wanted>(alloc: Global, rows: &[(Kind, &[u8], W)]) -> Option<
         }
     }
     None
-}
-
-/// Whether option o has these uses.
-pub fn has_option(problem: &Problem, o: u32, uses: &[(u32, u32)]) -> bool {
-    if o < 1 || problem.options() < o {
-        return false;
-    }
-    let option = problem.option(o);
-    if option.len() != uses.len() {
-        return false;
-    }
-    for (found, (item, colour)) in option.iter().zip(uses) {
-        let wanted = Use {
-            item: *item,
-            colour: *colour,
-        };
-        if *found != wanted {
-            return false;
-        }
-    }
-    true
 }

@@ -1,21 +1,16 @@
-//! Tests of the libraries, a module for each. They use public calls alone, so no library is proved a second time for
-//! them.
+//! Tests of `xc_input`, `xc_dance`, `xc_search` and `xc_list`, a module for each, and the programs of the first page of
+//! `helgrothy`. They use public calls alone, so no library is proved a second time for them. `upper_tests` has those of
+//! the other libraries.
 #![tactic(auto)]
 
-// What the tests share.
-#[cfg(test)]
-mod fixtures;
-
-// `natural` and `xc_count`, `xc_dance`, `xc_list`, `xc_input`, `xc_search`, `xc_tools`.
-#[cfg(test)]
-mod counting;
 #[cfg(test)]
 mod dance;
+#[cfg(test)]
+mod examples;
+pub mod fixtures;
 #[cfg(test)]
 mod listing;
 #[cfg(test)]
 mod reading;
 #[cfg(test)]
 mod search;
-#[cfg(test)]
-mod tools;

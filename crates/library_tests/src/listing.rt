@@ -3,6 +3,7 @@
 mod covers;
 mod digests;
 mod equal_values;
+mod moves;
 mod own_sink;
 mod runs;
 mod spans;

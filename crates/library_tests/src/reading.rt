@@ -8,5 +8,8 @@ mod faults;
 mod lines;
 mod problems;
 
+// The seed that hashes names.
+mod seeds;
+
 // Lack of memory.
 mod memory;

@@ -3,7 +3,7 @@
 mod closing;
 mod equal_values;
 mod made;
-mod moves;
+pub mod moves;
 mod searching;
 mod spanning;
 mod visiting;

@@ -13,11 +13,11 @@ use xc_search::Search;
 
 /// How often a keeper was called: moves that were made, moves that were undone one by one, and calls that undid tweaks
 /// at once.
-type Calls = [u64; 3];
+pub type Calls = [u64; 3];
 
 /// A keeper that passes every call on to linked tables, and counts those that change them.
 #[derive(Drop)]
-struct Counting {
+pub struct Counting {
     links: Links,
     made: u64,
     undone: u64,
@@ -79,12 +79,12 @@ impl Dance for Counting {
 }
 
 /// The calls that a keeper counted.
-fn calls(counting: &Counting) -> Calls {
+pub fn calls(counting: &Counting) -> Calls {
     [counting.made, counting.undone, counting.at_once]
 }
 
 /// A keeper for a search.
-fn keeper(alloc: Global, problem: &Problem) -> Option<Counting>
+pub fn keeper(alloc: Global, problem: &Problem) -> Option<Counting>
     ensures same { IfSome result (λ k. (dancing_of k.links).puzzle ≡ problem.now.puzzle) }
     ensures none { IfSome result (λ k. (dancing_of k.links).trail ≡ []) }
     ensures room { IfSome result (λ k. (dancing_of k.links).room ≡ room_for problem.now.puzzle) }
@@ -101,7 +101,7 @@ fn keeper(alloc: Global, problem: &Problem) -> Option<Counting>
 }
 
 /// The calls of a search that goes on so often by so many solutions, and is closed.
-fn calls_of_search(alloc: Global, problem: &Problem, steps: u64, many: u64) -> Option<Calls> {
+pub fn calls_of_search(alloc: Global, problem: &Problem, steps: u64, many: u64) -> Option<Calls> {
     let mut search = Search::new(alloc, keeper(alloc, problem)?, problem).ok()?;
     for _ in 0..steps {
         let _ = search.pass(many);

@@ -1,5 +1,5 @@
 //! The process's own streams, which are open, and files that aren't there.
-use crate::tools::told::{Told, words_of};
+use crate::told::{Told, words_of};
 use std::alloc::Global;
 use std::test::Fail;
 use xc_input::{Feed, Seed};

@@ -1,5 +1,7 @@
 //! How many covers problems have, in how many of them each option is, and each solution by its number.
-use crate::fixtures::{ALONE, COLOURED, SEVEN, SMALL, THREE_ALIKE, TWICE, Wanted, wrong_row};
+use library_tests::fixtures::{
+    ALONE, COLOURED, SEVEN, SMALL, THREE_ALIKE, TWICE, Wanted, wrong_row,
+};
 use natural::Natural;
 use std::alloc::Global;
 use xc_count::{count, nth, occurrences};

@@ -1,6 +1,6 @@
 //! A run of each tool, by steps of one byte and of many. `tests/runs.py` has many more, by the programs.
-use crate::fixtures::{COLOURED, COLOURED_LISTING, SEVEN, SEVEN_LISTING, THREE_LISTING};
-use crate::tools::told::{Told, Tool, told_by};
+use crate::told::{Told, Tool, told_by};
+use library_tests::fixtures::{COLOURED, COLOURED_LISTING, SEVEN, SEVEN_LISTING, THREE_LISTING};
 use std::test::Fail;
 use xc_input::Kind;
 
