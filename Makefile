@@ -32,6 +32,7 @@ help:
 run: dlx1 ## build dlx1 and solve examples/seven.dlx
 	bin/dlx1 m1 < examples/seven.dlx
 test: bin ## the merge gate: proofs, mutants, tests, programs
+	@python3 tests/wrong_bodies.py --check
 	@sh tests/gate.sh
 	@sh tests/statuses.sh
 	@python3 tests/runs.py

@@ -1,7 +1,8 @@
 #!/usr/bin/env python3
 """Plants the wrong bodies of crates/*/mutants.edits and must-fail/, or of the crates named, in copies of the libraries,
 where the prover has to refuse each by the goal that its line `# clause: FILE GOAL` names. Prints each that isn't
-refused by it, with -v each one. The last line is `N passed, M failed`.
+refused by it, with -v each one. The last line is `N passed, M failed`. With --check nothing is proved: it names those
+that don't fit the code any more, which the gate would only note.
 
 A check takes ten seconds and more before its first function. So a dozen wrong bodies that change different functions
 stand in one check, which goes on past open goals and prints each; one that isn't refused there has one of its own.
@@ -38,13 +39,15 @@ Texts = dict[str, str]
 
 
 class Edit(NamedTuple):
-    """A wrong body: where its goal stands, and its changes, each a file, the old text and the new one."""
+    """A wrong body: where its goal stands, and its changes, each a file, the old text and the new one. One that leaves
+    out modules is checked whole."""
 
     crate: str
     name: str
     file: str
     goal: str
     changes: list[tuple[str, str, str]]
+    is_cut: bool
 
 
 class Group(NamedTuple):
@@ -73,7 +76,7 @@ def read(crate: str, name: str, text: str) -> Edit:
         if key == "new":
             changes.append((said["file"], said["old"], value))
     file, _, goal = said["# clause"].partition(" ")
-    return Edit(crate, name, file, goal, changes)
+    return Edit(crate, name, file, goal, changes, "#[cfg(test)] mod " in text)
 
 
 def owner(header: str) -> str:
@@ -115,7 +118,7 @@ def plant(texts: Texts, edit: Edit) -> Group | None:
             return None
         functions.add(function_at(file, texts[file], texts[file].index(old) + len(old) - 1))
         texts[file] = texts[file].replace(old, new)
-    return Group([edit], functions, texts)
+    return Group([edit], {""} if edit.is_cut else functions, texts)
 
 
 def groups_of(texts: Texts, edits: list[Edit]) -> list[Group]:
@@ -130,6 +133,20 @@ def groups_of(texts: Texts, edits: list[Edit]) -> list[Group]:
         else:
             groups.append(plant(texts, edit) or Group([edit], {""}, {}))
     return groups
+
+
+def modules(text: str) -> set[str]:
+    """Those that a file declares."""
+    return set(re.findall(r"\bmod (\w+);", re.sub(r"/\*.*?\*/", "", text, flags=re.DOTALL)))
+
+
+def unfit(texts: Texts, edit: Edit) -> str:
+    """Why a wrong body doesn't fit the code, or nothing: a module that it leaves out is still declared."""
+    planted = plant(texts, edit)
+    if not planted:
+        return "a text that it replaces doesn't stand there once"
+    lost = {name for file, text in texts.items() for name in modules(text) - modules(planted.texts[file])}
+    return f"it doesn't declare {', '.join(sorted(lost))}" if lost else ""
 
 
 class Tree:
@@ -176,7 +193,7 @@ class Tree:
         told, results = self.told(group), []
         for edit in group.edits:
             alone = plant(self.texts(edit.crate), edit) or group
-            own = {(file, goal) for file, goal, function in told if not function or function in alone.functions}
+            own = {(file, goal) for file, goal, name in told if not name or name in alone.functions or edit.is_cut}
             if (edit.file, edit.goal) in own:
                 results.append((edit, ""))
             elif len(group.edits) > 1 and not self.is_ended:
@@ -186,11 +203,27 @@ class Tree:
         return results
 
 
+def check(crates: list[str]) -> int:
+    """Names the wrong bodies that don't fit the code, and returns whether there are any."""
+    status = 0
+    for crate in crates:
+        at = TOP / "crates" / crate
+        texts = {str(it.relative_to(at)): it.read_text() for it in at.glob("src/**/*.rt")}
+        for edit in edits_of(crate):
+            if why := unfit(texts, edit):
+                print(f"{crate}/{edit.name}: {why}")
+                status = 1
+    return status
+
+
 def main() -> int:
     parser = argparse.ArgumentParser(description="Plants wrong bodies, each of which the prover has to refuse.")
     parser.add_argument("-v", action="store_true", help="print each wrong body")
+    parser.add_argument("--check", action="store_true", help="only name those that don't fit the code")
     parser.add_argument("crates", nargs="*", metavar="CRATE", help=f"of {', '.join(CRATES)}")
     words = parser.parse_args()
+    if words.check:
+        return check(words.crates or CRATES)
     signal.signal(signal.SIGTERM, lambda *_: sys.exit(2))
     passed = failed = 0
     pool = ThreadPoolExecutor(int(os.environ.get("RT_JOBS") or len(os.sched_getaffinity(0))))
