@@ -111,7 +111,7 @@ def ratios(folder: Path | None) -> Iterator[tuple[str, float]]:
     """For each program the time for words that collide, by that for words by chance."""
     collide, chance = colliding(WORDS), by_chance(WORDS)
     assert len(set(collide)) == WORDS and {hash_of(word) % groups_of(WORDS) for word in collide} == {0}
-    assert hash_of(b"zywtca") == 0x636B_03C0  # as `names_have_one_hash` of crates/library_tests/src/tools/seeds.rt
+    assert hash_of(b"zywtca") == 0x636B_03C0  # as `names_have_one_hash` of crates/library_tests/src/reading/seeds.rt
     with tempfile.NamedTemporaryFile() as file:
         for what, text_of, programs in (
             ("names", of_names, ("dlx1", "dlx2", "dlx3", "dlxcheck", "dlx_span")),
