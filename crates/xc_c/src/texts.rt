@@ -6,7 +6,7 @@ ghost use Rattle.xc_input.specs.Readings.{IsErrorFor};
 ghost use Rattle.xc_input.specs.Lines.{lines_of};
 ghost use Rattle.xc_input.specs.FirstFault.{content, first_fault};
 ghost use Rattle.xc_input.specs.Text.{StandsFor};
-ghost use Rattle.xc_dance.specs.Dancing.{moves_made};
+ghost use Rattle.xc_moves.specs.Dancing.{moves_made};
 ghost use Rattle.xc_dance.specs.Linked.{dancing_of};
 ghost use Rattle.xc_search.specs.Cover.{members, EachMemberCovers, EachCoverIsListedOnce};
 ghost use Rattle.natural.specs.Numerals.{numeral};

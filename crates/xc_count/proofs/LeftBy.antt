@@ -10,10 +10,10 @@ use Rattle.std.specs.List.{AllByRecursion}
 use Rattle.xc_input.specs.declared.problem.Use.{Use}
 use Rattle.xc_input.specs.Problem.{Puzzle, Numbered, numbered_options, primary_count, colour_at, colour_in, holds}
 use Rattle.xc_input.specs.Problem.{IsValid, IsSoundUse}
-use Rattle.xc_dance.specs.Moves.{agrees}
+use Rattle.xc_moves.specs.Moves.{agrees}
 use Rattle.xc_search.specs.Listing.{Wanted, whole, spend_one, may_stay, stays, pick, none}
 use Rattle.std.proofs.lemmas.List.Elements.{recursion_from_All}
-use Rattle.xc_dance.proofs.MoveLemmas.{rises_filter}
+use Rattle.xc_moves.proofs.MoveLemmas.{rises_filter}
 use Rattle.xc_search.proofs.ListingLemmas.{IsProper, proper_whole, goes_on, use_passes, in-find, is_option, holds_use}
 use Rattle.xc_count.proofs.Matched.{EachTwo-filter}
 use Rattle.xc_count.specs.inner.Held.{Held, fits, left_by, holding_option, without_item}

@@ -3,7 +3,7 @@
 //! A key has the marks of the items by rank, from a rank on that it does not tell. The items before were given up, and
 //! those after its end are free. Its last mark is not 0, so that equal states have equal keys.
 ghost use Rattle.std.specs.Prelude.{ℕ, ◌≡◌, ◌≢◌, ◌+◌, ◌-◌, ◌<◌, ◌≤◌, length, drop, slice_get, All, OnOk, Some, true};
-ghost use Rattle.xc_dance.specs.Moves.{agrees};
+ghost use Rattle.xc_moves.specs.Moves.{agrees};
 ghost use Rattle.xc_count.specs.inner.Held.{agree, holding_uses};
 ghost use Rattle.xc_count.specs.inner.Keys.{held_in, mark_says, rank_of};
 ghost use Rattle.xc_input.specs.Limits.{most_uses};

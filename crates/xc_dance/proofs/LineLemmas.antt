@@ -2,7 +2,7 @@
 use Rattle.std.proofs.Common.{◌≡◌, ◌≢◌, ℕ, ◌+◌, ◌<◌, ◌≤◌, Bool, true, false, not, ◌||◌, eqb, ltb, nat_lt, List, [], ◌∷◌}
 use Rattle.std.proofs.Common.{length, filter, fold, Some, None, refl, ap, sym, ◌∙◌, arith, eqb-true, eq-eqb, ne_eqb}
 use Rattle.std.proofs.Common.{lt-ltb, le-ltb, zero, suc, drop, ap₂, subst, map, get_or, set, cond, ◌^◌, inr}
-use Rattle.std.specs.Prelude.{if◌then◌else◌, ◌-◌, ◌==◌, ◌&&◌, ◌++◌, Option, unwrap_or, slice_get, is_some}
+use Rattle.std.specs.Prelude.{if◌then◌else◌, ◌-◌, ◌==◌, ◌&&◌, ◌++◌, Option, unwrap_or, slice_get}
 use Rattle.std.specs.List.{last_or, AllByRecursion}
 use Rattle.std.proofs.lemmas.Bool.{eqb-false, false≢true}
 use Rattle.std.proofs.lemmas.Option.{same_Some, slice_get_within}
@@ -10,20 +10,21 @@ use Rattle.std.proofs.lemmas.Grind.{common_steps}
 use Rattle.std.proofs.lemmas.List.{get_or-set_same, get_or-set_other, set-set, length-map, map-set}
 use Rattle.std.proofs.Math.Path.{fun_ext}
 use Rattle.std.proofs.Math.Seq.{map-set_same}
-use Rattle.xc_input.specs.Problem.{Puzzle, uses_of, Numbered, item_count, colour_in}
-use Rattle.xc_input.proofs.ListLemmas.{each-map, each_weaker, each-filter}
-use Rattle.xc_dance.specs.Fields.{Node, last_below, first_above, first_of, last_of, is_in, own, layout, link_place}
+use Rattle.xc_input.specs.Problem.{Puzzle, uses_of, Numbered, item_count}
+use Rattle.xc_input.proofs.ListLemmas.{each-filter}
+use Rattle.xc_moves.specs.Places.{Node, first_above, is_in, own, layout, link_place}
+use Rattle.xc_dance.specs.Fields.{last_below, first_of, last_of}
 use Rattle.xc_dance.specs.inner.Tables.{slot_of, line_of, up_of, down_of, Line, Nodes, link_at, fixed_up, fixed_down}
-use Rattle.xc_dance.specs.inner.Tables.{top_in, ulink_in, dlink_in, nodes_from, Placed, IsLaid, HoldsItem, IsFit}
-use Rattle.xc_dance.specs.inner.Walks.{before_use, behind_use, unlinked, relinked, HasSize, NamesPlaces, CanUnhide}
-use Rattle.xc_dance.specs.inner.Walks.{CanHide, hidden, unhidden}
-use Rattle.xc_dance.specs.declared.dance.Move.{Move}
-use Rattle.xc_dance.specs.declared.dance.Move.TheVariants.{Cover}
-use Rattle.xc_dance.specs.Moves.{listed_numbers, listed}
+use Rattle.xc_dance.specs.inner.Tables.{top_in, ulink_in, dlink_in, nodes_from, Placed, IsLaid, IsFit}
+use Rattle.xc_moves.specs.inner.Uses.{HoldsItem, before_use, behind_use}
+use Rattle.xc_dance.specs.inner.Walks.{unlinked, relinked, HasSize, NamesPlaces, CanUnhide, CanHide, hidden, unhidden}
+use Rattle.xc_moves.specs.declared.dance.Move.{Move}
+use Rattle.xc_moves.specs.declared.dance.Move.TheVariants.{Cover}
+use Rattle.xc_moves.specs.Moves.{listed_numbers, listed}
 use Rattle.xc_dance.specs.declared.links.cells.marks.TheConstants.{SPACER, MARK}
-use Rattle.xc_dance.proofs.MoveLemmas.{rises_listed, numbers, length-listed, holds_use, holders}
-pub use Rattle.xc_dance.specs.inner.Lists.{Rises}
-pub use Rattle.xc_dance.proofs.MoveLemmas.{Rises-weaker, Rises-filter}
+use Rattle.xc_moves.proofs.MoveLemmas.{rises_listed, numbers, length-listed, in_above, Named, numbers_named}
+pub use Rattle.xc_moves.specs.inner.Rising.{Rises}
+pub use Rattle.xc_moves.proofs.MoveLemmas.{Rises-weaker, Rises-filter}
 
 -- ======== Lines: one member leaves or comes back, many leave from top to bottom, and what a move makes of the line
 -- of a list.
@@ -84,11 +85,6 @@ rises l a (x ∷ xs) h = (h.0, rises l x xs h.3)
 pub not_in : (n x : ℕ) (xs : List ℕ) → x ≤ n → Rises n xs → is_in x xs ≡ false
 not_in n x [] h r = refl
 not_in n x (y ∷ ys) h r = grind (arith, ne_eqb, not_in y x ys (omega (arith, r.0)) r.1)
-
--- a member is higher than the start
-pub in_above : (n x : ℕ) (xs : List ℕ) → Rises n xs → is_in x xs ≡ true → n < x
-in_above n x [] r e = absurd (false≢true e)
-in_above n x (y ∷ ys) r e = grind (arith, eqb-true, in_above y x ys r.1)
 
 pub is_in-other : (y x : ℕ) (ys : List ℕ) → y ≢ x → is_in x (y ∷ ys) ≡ is_in x ys
 is_in-other y x ys ne = rw (ne_eqb y x ne) refl
@@ -270,10 +266,6 @@ stands p [] j = grind (arith, in_above, linked_by, rises_listed p [] j, listed_n
 stands p (m ∷ t) j = grind (arith, in_above, was_in, linked_by, rises_listed p (m ∷ t) j)
 
 -- ======== Members of lists of numbers: lists that rise and have the same members are the same.
-
-pub element_of : (P : ℕ → Type 0) (x : ℕ) (xs : List ℕ) → AllByRecursion P xs → is_in x xs ≡ true → P x
-element_of P x [] a e = absurd (false≢true e)
-element_of P x (y ∷ ys) a e = grind (arith, eqb-true, element_of P x ys a.1)
 
 -- a filter's members
 pub in_filter : (f : ℕ → Bool) (x : ℕ) (xs : List ℕ) → is_in x (filter f xs) ≡ (f x && is_in x xs)
@@ -515,9 +507,6 @@ step_marked p col ln q within use_of color = grind (arith, eqb-true, length-map,
 
 -- ---- lines that stand for lists, and one member leaving
 
-abbrev pub Named : Puzzle → ℕ → ℕ → Type 0
-Named p j x = is_some (colour_in (uses_of p x) j) ≡ true
-
 -- a member of a list that is linked from a on: the first, or any
 at_first : (p : Puzzle) (j : ℕ) (l : Line) (a y : ℕ) (ys : List ℕ) → InRange p j → 0 < l.len → l.len < 2 ^ 31 → 0 < y
     → HoldsItem p j a → IsLinkedFrom l a (y ∷ ys) → AllByRecursion (Named p j) (y ∷ ys) → IsMember p j l y
@@ -546,9 +535,6 @@ cut_member p j l o x m n ne some = grind (arith, by_first, put_at-same, put_at-o
 
 pub numbers_few : (p : Puzzle) (t : List Move) (j : ℕ) → length (listed_numbers p t j) ≤ length p.options
 numbers_few p t j = grind (arith, length-listed, length-map)
-
-pub numbers_named : (p : Puzzle) (t : List Move) (j : ℕ) → AllByRecursion (Named p j) (listed_numbers p t j)
-numbers_named p t j = grind (arith, each-map, each_weaker, holders, holds_use)
 
 -- each option of a list is a member of the line
 pub listed_member : {p : Puzzle} (t : List Move) (j x : ℕ) → IsFit p → InRange p j

@@ -9,32 +9,33 @@ use Rattle.std.proofs.Math.Bool.{and-false}
 use Rattle.std.proofs.lemmas.Grind.{common_steps}
 use Rattle.std.specs.Prelude.{unwrap_or}
 use Rattle.xc_input.specs.Problem.{Puzzle, item_count, high_at}
-use Rattle.xc_dance.specs.declared.dance.Move.{Move}
-use Rattle.xc_dance.specs.declared.dance.Move.TheVariants.{Tweak, Cover, Purify, Spend}
+use Rattle.xc_moves.specs.declared.dance.Move.{Move}
+use Rattle.xc_moves.specs.declared.dance.Move.TheVariants.{Tweak, Cover, Purify, Spend}
 use Rattle.xc_dance.specs.inner.Tables.{Nodes, Span, Line, color_in, dlink_in, nodes_from, nodes_after, line_of, IsFit}
 use Rattle.xc_dance.specs.inner.Tables.{items_after, llink_at, rlink_at, is_off, IsLaid, CanNote, taken_nodes, noted}
 use Rattle.xc_dance.specs.inner.Tables.{IsRecalled, Items}
-use Rattle.xc_dance.specs.Moves.{listed, is_open, AreLegal, listed_numbers, spends, is_covered, IsLegal}
-use Rattle.xc_dance.specs.Fields.{Node, unused, own, layout, link_place, first_of, is_in}
+use Rattle.xc_moves.specs.Moves.{listed, is_open, AreLegal, listed_numbers, spends, is_covered, IsLegal}
+use Rattle.xc_moves.specs.Places.{Node, unused, own, layout, link_place, is_in}
+use Rattle.xc_dance.specs.Fields.{first_of}
 use Rattle.xc_dance.specs.inner.Walks.{HasSize, NamesPlaces, unlinked, relinked, tweaked_nodes, untweaked, CanTweak}
 use Rattle.xc_dance.specs.inner.Walks.{CanUntweak, tweak_cost, untweak_cost, IsFitted, nodes_made, items_made}
 use Rattle.xc_dance.specs.inner.Walks.{nodes_unmade, items_unmade, CanMake, CanUnmake, made_cost, unmade_cost}
 use Rattle.xc_dance.specs.Cost.{cost_of, cost_of_newest}
 use Rattle.xc_dance.proofs.LineLemmas.{relinked-unlinked, CanRelink, CanRelink-unlinked, get_down, size_from, IsMember}
-use Rattle.xc_dance.proofs.LineLemmas.{unlinked-is, linked-is, member_cells, Named, InRange, numbers_named, SameCut}
-use Rattle.xc_dance.proofs.LineLemmas.{line_after, tables_same, Rises-filter, cuts, is_in-first, leave_none, cut}
-use Rattle.xc_dance.proofs.LineLemmas.{with_line, other_items, by_first, in_filter, same_members, listed_member}
-use Rattle.xc_dance.proofs.LineLemmas.{stay_all, same_nodes, written_back, get_map}
+use Rattle.xc_dance.proofs.LineLemmas.{unlinked-is, linked-is, member_cells, InRange, SameCut, line_after, tables_same}
+use Rattle.xc_dance.proofs.LineLemmas.{Rises-filter, cuts, is_in-first, leave_none, cut, with_line, other_items}
+use Rattle.xc_dance.proofs.LineLemmas.{by_first, in_filter, same_members, listed_member, stay_all, same_nodes}
+use Rattle.xc_dance.proofs.LineLemmas.{written_back, get_map}
+use Rattle.xc_moves.proofs.MoveLemmas.{Named, numbers_named, rises_listed}
 use Rattle.xc_dance.proofs.WalkLemmas.{left_all, gone_count, leaves, list_at, own_apart}
 use Rattle.xc_dance.proofs.HideMoves.{ready_at, leaves_at, items, items_apart, in_range, gone_is, leaving_is, AreOf}
 use Rattle.xc_dance.proofs.HideMoves.{tweak_stay, stay_if, one_more, passes_one, sum_none, eqb_turn, own_placed}
 use Rattle.xc_dance.proofs.HideMoves.{cover_writes, Stays, link_gone, link_beside, link_other, link_back, link_next}
 use Rattle.xc_dance.proofs.HideMoves.{ring_step, cover_hides, walk_made, purify_hides, kept_marked}
-use Rattle.xc_dance.proofs.MoveLemmas.{rises_listed}
 use Rattle.xc_dance.proofs.OneList.{turns_ready, Turns, purify_start, coloured_is}
-use Rattle.xc_dance.proofs.PlaceLemmas.{same_items, row_same, still_llink, still_rlink, row_get, row_len, bound_own}
-use Rattle.xc_dance.proofs.PlaceLemmas.{spends_own, bound_other, row_put}
-use Rattle.xc_dance.proofs.StateLemmas.{open_uncovered, open_or_covered, open_unpurified}
+use Rattle.xc_dance.proofs.TableLemmas.{same_items, row_same, still_llink, still_rlink, row_get, row_len, bound_own}
+use Rattle.xc_dance.proofs.TableLemmas.{spends_own, bound_other, row_put}
+use Rattle.xc_moves.proofs.LeftLemmas.{open_uncovered, open_or_covered, open_unpurified}
 
 -- ======== Tweak: from the node table after moves to that after one move more, and back.
 

@@ -1,38 +1,35 @@
 -- What the tables return to a search.
 use Rattle.std.proofs.Common.{drop-cons, ℕ, ◌≡◌, ◌+◌, ◌-◌, ◌<◌, ◌≤◌, List, length, drop, get_or, Some, refl, sym, arith}
-use Rattle.std.proofs.Common.{subst, length-drop, ◌∙◌, zero, suc, Bool, true, false, not, cond, eqb, [], ◌∷◌, None}
-use Rattle.std.proofs.Common.{filter, ap₂, eqb-true, ne_eqb, le-leb, ◌≢◌, ◌⊎◌, inl, inr, ltb, ap, eq-eqb}
-use Rattle.std.specs.Prelude.{slice_get, is_some, unwrap_or, Contains, Option}
+use Rattle.std.proofs.Common.{subst, length-drop, ◌∙◌, zero, suc, Bool, true, not, cond, eqb, [], ◌∷◌, filter, ap₂}
+use Rattle.std.proofs.Common.{eqb-true, ne_eqb, le-leb, ◌≢◌, ◌⊎◌, inl, inr, ap}
+use Rattle.std.specs.Prelude.{slice_get, is_some, unwrap_or, Contains}
 use Rattle.std.proofs.lemmas.Option.{slice_get-get_or, slice_get_within}
 use Rattle.std.proofs.lemmas.List.{nil_from_length, length-map}
 use Rattle.std.proofs.lemmas.Grind.{common_steps}
 use Rattle.std.specs.List.{range_with_len}
 use Rattle.std.proofs.lemmas.Bool.{cases_lt}
-use Rattle.std.proofs.lemmas.List.Elements.{All-from_recursion}
 use Rattle.xc_input.specs.declared.problem.Use.{Use}
 use Rattle.xc_input.specs.Problem.{Puzzle, primary_count, item_count, high_at, IsItem, uses_of, colour_in}
-use Rattle.xc_input.specs.Named.{Named, IsSound}
-use Rattle.xc_input.specs.UsePlaces.{place_in}
-use Rattle.xc_dance.specs.declared.dance.Move.{Move}
-use Rattle.xc_dance.specs.inner.Tables.{Nodes, nodes_after, IsLaid, start_at, uses_behind, uses_before, top_in}
-use Rattle.xc_dance.specs.inner.Tables.{color_in, line_of, items_after, rlink_at, HoldsItem, named, IsNodeOf, IsFit}
+use Rattle.xc_moves.specs.declared.dance.Move.{Move}
+use Rattle.xc_dance.specs.inner.Tables.{Nodes, nodes_after, IsLaid, uses_behind, uses_before, top_in, color_in, line_of}
+use Rattle.xc_dance.specs.inner.Tables.{items_after, rlink_at, IsNodeOf}
+use Rattle.xc_moves.specs.inner.Uses.{start_at, HoldsItem, named}
 use Rattle.xc_dance.specs.Linked.{Linked, dancing_of}
-use Rattle.xc_dance.specs.Fields.{used, layout, spacer_place, own, first_above, ring_of, is_in, below_of, link_place}
-use Rattle.xc_dance.specs.Commits.{CanStand, IsUseAt, after_use, after_uses, IsListedAt, option_at}
+use Rattle.xc_moves.specs.Places.{used, layout, spacer_place, own, first_above, is_in, link_place}
+use Rattle.xc_dance.specs.Fields.{ring_of, below_of}
+use Rattle.xc_moves.specs.Commits.{CanStand, IsUseAt, after_use, after_uses, IsListedAt}
 use Rattle.xc_dance.specs.declared.links.cells.marks.TheConstants.{SPACER}
 use Rattle.xc_dance.specs.Cost.{HasWritten}
-use Rattle.xc_dance.specs.declared.dance.Move.TheVariants.{Purify, Spend, Cover}
-use Rattle.xc_dance.specs.Moves.{purified, spends, AreLegal, listed, next_above, open_items, listed_numbers}
-use Rattle.xc_dance.specs.Moves.{IsOpenPrimary, is_open}
-use Rattle.xc_dance.specs.Dancing.{Dancing}
-use Rattle.xc_dance.proofs.StateLemmas.{stood_before, open_or_covered, open_uncovered}
-use Rattle.xc_dance.proofs.PlaceLemmas.{Segment, use_cells, spacer_cells, behind_all, before_all, behind_segment}
-use Rattle.xc_dance.proofs.PlaceLemmas.{before_segment, row_get, row_len, right_now, held_node, node_between, held_of}
-use Rattle.xc_dance.proofs.PlaceLemmas.{option_there, sound_fit}
-use Rattle.xc_dance.proofs.MoveLemmas.{next_above-gt, primary_pure, Rises-filter, Rises-range, rises_listed}
-use Rattle.xc_dance.proofs.LineLemmas.{get_map, get_down, Named as IsNamed, numbers_named, first_above-first}
-use Rattle.xc_dance.proofs.LineLemmas.{element_of, in_above}
+use Rattle.xc_moves.specs.declared.dance.Move.TheVariants.{Purify, Spend, Cover}
+use Rattle.xc_moves.specs.Moves.{purified, spends, AreLegal, listed, open_items, listed_numbers, IsOpenPrimary, is_open}
+use Rattle.xc_moves.proofs.LeftLemmas.{stood_before, open_or_covered, open_uncovered}
+use Rattle.xc_dance.proofs.TableLemmas.{Segment, use_cells, spacer_cells, behind_all, before_all, behind_segment}
+use Rattle.xc_dance.proofs.TableLemmas.{before_segment, row_get, row_len, right_now, node_between, held_of}
+use Rattle.xc_moves.proofs.PlaceLemmas.{held_node}
+use Rattle.xc_moves.proofs.MoveLemmas.{primary_pure, Rises-filter, Rises-range, rises_listed}
+use Rattle.xc_dance.proofs.LineLemmas.{get_map, get_down, first_above-first}
 use Rattle.xc_dance.proofs.OneList.{open_unmarked}
+use Rattle.xc_moves.proofs.PlaceAnswers.{contained, in_list_name}
 
 -- ======== Along an option's nodes: which uses were committed where a walk over them stands, and what it finds
 -- there.
@@ -199,11 +196,6 @@ pub purified_read : (p : Puzzle) (t : List Move) (i : ℕ) → AreLegal p t
     → not (eqb (unwrap_or (purified i t) 0) 0) ≡ is_some (purified i t)
 purified_read p t i legal = grind (arith, ne_eqb, purified_above)
 
--- ---- the number above, with 0 for none
-
-pub above_named : (n : ℕ) (xs : List ℕ) → named (first_above 0 n xs) ≡ next_above n xs
-above_named n xs = grind (arith, ne_eqb, next_above-gt)
-
 -- ---- open primary items
 
 same_filter : (f g : ℕ → Bool) (a n : ℕ) → ((k : ℕ) → k < a + n → f k ≡ g k)
@@ -292,29 +284,6 @@ seeks p t i place q laid node other from to =
 
 -- ---- links downwards, by option numbers
 
-pub contained : (xs : List ℕ) (x : ℕ) → Contains xs x → is_in x xs ≡ true
-contained xs x h = grind (arith, common_steps, eq-eqb)
-
--- the next number is one of them
-pub next_contained : (n k : ℕ) (xs : List ℕ) → next_above n xs ≡ Some k → Contains xs k
-next_contained n k [] e = cc
-next_contained n k (x ∷ xs) e =
-    elim (ltb n x) as (λ b. cond b (Some x) (next_above n xs) ≡ Some k → Contains (x ∷ xs) k) [
-      | true ↦ λ f. (let same : x ≡ k = cc in (0, omega arith, same))
-      | false ↦ λ f. (let rest = next_contained n k xs f in (suc rest.0, omega (arith, rest.1), rest.2))
-    ] e
-
-pub above_name : (p : Puzzle) (t : List Move) (i n : ℕ) → HoldsItem p i (first_above 0 n (listed_numbers p t i))
-above_name p t i n =
-    let ns = listed_numbers p t i in
-    elim (next_above n ns) as (λ o. next_above n ns ≡ o → HoldsItem p i (unwrap_or o 0)) [
-      | None ↦ λ e. inl refl
-      | Some k ↦ λ e. inr (
-        omega (arith, next_above-gt n k ns e),
-        element_of (IsNamed p i) k ns (numbers_named p t i) (contained ns k (next_contained n k ns e)),
-      )
-    ] refl
-
 pub own_down : (p : Puzzle) (t : List Move) (i : ℕ) → IsLaid p → 0 < i → i ≤ item_count p
     → get_or (nodes_after p t).dlink i 0 ≡ link_place p i (first_above 0 0 (listed_numbers p t i))
 own_down p t i laid pos le = get_down p (line_of p t) i 0 (laid.there i 0 pos le (inl refl))
@@ -371,10 +340,6 @@ open_place p t i (inr h) = grind (arith, row_len)
 
 -- ======== Which node is which use, and what stands below a node.
 
-pub in_list_name : (p : Puzzle) (t : List Move) (i x : ℕ) → is_in x (listed_numbers p t i) ≡ true → (0 < x)
-    × (is_some (colour_in (uses_of p x) i) ≡ true)
-in_list_name p t i x e = (in_above _ _ _ (rises_listed p t i) e, element_of (IsNamed p i) _ _ (numbers_named p t i) e)
-
 listed_name : (p : Puzzle) (t : List Move) (i : ℕ) {x : ℕ} → (x ≡ 0) ⊎ Contains (listed_numbers p t i) x
     → HoldsItem p i x
 listed_name p t i (inl z) = inl z
@@ -422,62 +387,3 @@ committed_open p t q {u} at item high still read = grind (arith, open_colour, le
 pub still_covers : (j k : ℕ) (t : List Move) {new : List Move} {r : Bool} → r ≡ eqb k 0
     → new ≡ cond (eqb k 0) t (Purify j k ∷ t) → cond (eqb k 0) (Cover j) (Purify j k) ∷ t ≡ cond r (Cover j ∷ new) new
 still_covers j k t {new} {r} e f = grind arith
-
--- ======== Places in an item's list by the problem alone: the item's own node, or that of an option in the list.
-
--- an option in an item's list uses the item
-pub listed_use : {p : Puzzle} (t : List Move) (i x : ℕ) → IsFit p → Contains (listed_numbers p t i) x →
-    IsUseAt p i x (link_place p i x)
-listed_use {p} t i x fit h =
-    let is = in_list_name p t i x (contained _ _ h) in
-    let w = held_node p i x is.0 is.1 in
-    let items = All-from_recursion (λ u. IsItem p u.item) (uses_of p x) (fit.items x) in
-    grind (arith, slice_get_within (uses_of p x) (place_in i (uses_of p x)) w.held.use_of w.held.at)
-
--- the place of an item's own node is below those of options
-pub own_place : {p : Puzzle} {t : List Move} {i : ℕ} (x : ℕ) {q : ℕ} → IsListedAt p t i x q → q ≤ item_count p → x ≡ 0
-own_place zero at le = refl
-own_place (suc m) at le = absurd (omega (arith, at.at, le))
-
--- and an option's is behind them
-pub option_place : {p : Puzzle} {t : List Move} {i x q : ℕ} → IsItem p i → IsListedAt p t i x q → item_count p < q →
-    Contains (listed_numbers p t i) x
-option_place {p} {i = i} item at gt = grind arith
-
--- ---- what a dance finds next, by a problem that was read: at an item's own node, or at an option's
-
-pub fit_state : (s : Dancing) {a : Named} → s.puzzle ≡ a.puzzle → IsSound a → IsFit s.puzzle
-fit_state s same sound = subst IsFit (sym same) (sound_fit _ sound)
-
-abbrev pub list_of : Dancing → ℕ → List ℕ
-list_of s i = listed_numbers s.puzzle s.trail i
-
--- the first of the list
-pub next_of_own : (s : Dancing) (a : Named) (i x q items : ℕ) (n : Option ℕ) → s.puzzle ≡ a.puzzle →
-    items ≡ item_count a.puzzle → IsListedAt s.puzzle s.trail i x q → q ≤ items → n ≡ next_above 0 (list_of s i) →
-    next_above x (list_of s i) ≡ n
-next_of_own s a i x q items n same count at le is = grind (arith, list_of, own_place)
-
--- an option's use stands there
-pub option_use : (s : Dancing) (a : Named) (i x q items : ℕ) → s.puzzle ≡ a.puzzle → IsSound a →
-    items ≡ item_count a.puzzle → IsItem s.puzzle i → IsListedAt s.puzzle s.trail i x q → items < q →
-    Contains (list_of s i) x × IsUseAt a.puzzle i x q
-option_use s a i x q items same sound count item at gt =
-    grind (arith, option_place item at, listed_use s.trail i x (fit_state s same sound))
-
--- the one below it
-pub next_of_option : (s : Dancing) (a : Named) (i x q items o : ℕ) (n : Option ℕ) → s.puzzle ≡ a.puzzle → IsSound a →
-    items ≡ item_count a.puzzle → IsItem s.puzzle i → IsListedAt s.puzzle s.trail i x q → items < q →
-    ((j y : ℕ) → IsUseAt a.puzzle j y q → o ≡ y) → n ≡ next_above o (list_of s i) → next_above x (list_of s i) ≡ n
-next_of_option s a i x q items o n same sound count item at gt number is = grind (arith, option_use, list_of)
-
--- the option that is next uses the item
-pub next_use : (s : Dancing) (a : Named) (i x o : ℕ) → s.puzzle ≡ a.puzzle → IsSound a →
-    next_above x (list_of s i) ≡ Some o → IsUseAt a.puzzle i o (link_place a.puzzle i o)
-next_use s a i x o same sound is = subst (λ (p : Puzzle). IsUseAt p i o (link_place p i o)) same
-    (listed_use s.trail _ _ (fit_state s same sound) (next_contained x _ (list_of s i) is))
-
--- its place, or the item's own node, tells what is next
-pub place_tells : (s : Dancing) (i x r : ℕ) → IsItem s.puzzle i →
-    r ≡ link_place s.puzzle i (first_above 0 x (list_of s i)) → option_at s.puzzle i r ≡ next_above x (list_of s i)
-place_tells s i x r item is = grind (arith, option_there, above_name, above_named, list_of)

@@ -18,18 +18,20 @@ use Rattle.xc_input.specs.declared.problem.Use.{Use}
 use Rattle.xc_dance.specs.inner.Tables.{Nodes, Line, nodes_from, IsLaid, DifferByItem, IsFit, Span, color_in}
 use Rattle.xc_dance.specs.inner.Tables.{nodes_after, span_of, spans_of}
 use Rattle.xc_dance.specs.inner.Walks.{followed, IsSpacer, places, hidden, unhidden, CanHide, CanUnhide, hide_cost}
-use Rattle.xc_dance.specs.inner.Walks.{costs, CanAll, CanFollow, before_use, behind_use, IsFitted, left_node, back_node}
-use Rattle.xc_dance.specs.inner.Walks.{IsPlain, HasUnmarked, IsUnmarked}
+use Rattle.xc_dance.specs.inner.Walks.{costs, CanAll, CanFollow, IsFitted, left_node, back_node, IsPlain, HasUnmarked}
+use Rattle.xc_dance.specs.inner.Walks.{IsUnmarked}
+use Rattle.xc_moves.specs.inner.Uses.{before_use, behind_use}
 use Rattle.xc_dance.specs.declared.links.cells.marks.TheConstants.{SPACER, MARK}
-use Rattle.xc_dance.specs.Fields.{Node, layout, link_place, is_in, unused, own, used, is_marked}
+use Rattle.xc_moves.specs.Places.{Node, layout, link_place, is_in, unused, own, used}
+use Rattle.xc_dance.specs.Fields.{is_marked}
 use Rattle.xc_dance.specs.inner.Lists.{keeps_colour}
-use Rattle.xc_dance.specs.declared.dance.Move.{Move}
-use Rattle.xc_dance.specs.declared.dance.Move.TheVariants.{Purify}
-use Rattle.xc_dance.specs.Moves.{AreLegal}
-use Rattle.xc_dance.proofs.LineLemmas.{out_rest, is_in-other, get_item, Step, step_open, step_marked, Named}
-use Rattle.xc_dance.proofs.LineLemmas.{other_items, cut, with_line, in_more, is_in-first, InRange, IsMember, cuts}
-use Rattle.xc_dance.proofs.LineLemmas.{get_map}
-use Rattle.xc_dance.proofs.PlaceLemmas.{is_at}
+use Rattle.xc_moves.specs.declared.dance.Move.{Move}
+use Rattle.xc_moves.specs.declared.dance.Move.TheVariants.{Purify}
+use Rattle.xc_moves.specs.Moves.{AreLegal}
+use Rattle.xc_dance.proofs.LineLemmas.{out_rest, is_in-other, get_item, Step, step_open, step_marked, other_items, cut}
+use Rattle.xc_dance.proofs.LineLemmas.{with_line, in_more, is_in-first, InRange, IsMember, cuts, get_map}
+use Rattle.xc_moves.proofs.MoveLemmas.{Named}
+use Rattle.xc_dance.proofs.TableLemmas.{is_at}
 
 -- ======== Walks over nodes, under way and at their end, along links and over places in a row.
 

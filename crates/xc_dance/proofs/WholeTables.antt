@@ -8,40 +8,40 @@ use Rattle.std.specs.List.{range_with_len, AllByRecursion}
 use Rattle.std.proofs.lemmas.Grind.{common_steps}
 use Rattle.std.proofs.lemmas.Option.{same_Some, slice_get_within, slice_get-map}
 use Rattle.std.proofs.lemmas.List.FromFn.{length-range_with_len, length-map-range_with_len}
-use Rattle.std.proofs.lemmas.List.Elements.{recursion_from_All}
 use Rattle.std.proofs.lemmas.Bool.{leb-false, false≢true, eqb-false, lt-leb}
 use Rattle.std.proofs.lemmas.List.{length-map, length-take-le, map-append, append-nil, append_assoc, take_all}
 use Rattle.std.proofs.lemmas.List.{reverse-reverse}
 use Rattle.std.proofs.lemmas.List.Sums.{fold-append}
 use Rattle.std.proofs.Math.Bool.{or-true}
 use Rattle.std.proofs.Math.Path.{fun_ext}
-use Rattle.xc_input.specs.declared.problem.Bounds.{Bounds}
 use Rattle.xc_input.specs.declared.problem.Use.{Use}
-use Rattle.xc_input.specs.Problem.{Puzzle, item_count, option_count, primary_count, high_at, low_at, IsValid}
-use Rattle.xc_input.specs.Problem.{AreSoundBounds, Numbered, holding, colour_in, IsWithinLimits, uses_of}
+use Rattle.xc_input.specs.Problem.{Puzzle, item_count, option_count, primary_count, Numbered, holding, colour_in}
+use Rattle.xc_input.specs.Problem.{IsWithinLimits, uses_of}
 use Rattle.xc_input.proofs.ListLemmas.{each_weaker}
 use Rattle.xc_dance.specs.inner.Tables.{filled, blanks, rows_of, laid_to, with_node, Laying, top_in, ulink_in, dlink_in}
 use Rattle.xc_dance.specs.inner.Tables.{color_in, fixed_up, fixed_down, llink_at, rlink_at, linked_to, bound_to, Line}
-use Rattle.xc_dance.specs.inner.Tables.{blank, entered, IsFit, DifferByItem, HoldsItem, Placed, IsLaid, Nodes}
-use Rattle.xc_dance.specs.inner.Tables.{nodes_from, line_of, up_of, down_of, nodes_after, slot_of, color_read, top_read}
-use Rattle.xc_dance.specs.inner.Tables.{items_after, Items, Span, taken_nodes}
+use Rattle.xc_dance.specs.inner.Tables.{blank, entered, IsFit, DifferByItem, Placed, IsLaid, Nodes, nodes_from, line_of}
+use Rattle.xc_dance.specs.inner.Tables.{up_of, down_of, nodes_after, slot_of, color_read, top_read, items_after, Items}
+use Rattle.xc_dance.specs.inner.Tables.{Span, taken_nodes}
+use Rattle.xc_moves.specs.inner.Uses.{HoldsItem}
 use Rattle.xc_dance.specs.declared.links.row.Row.{Row}
-use Rattle.xc_dance.specs.Fields.{Node, unused, own, spacer, layout, spacer_place, last_below, first_above, first_of}
-use Rattle.xc_dance.specs.Fields.{last_of, ring_of, used, nodes_of, is_in, link_place, field_of, top_of, color_of}
+use Rattle.xc_moves.specs.Places.{Node, unused, own, spacer, layout, spacer_place, first_above, used, nodes_of, is_in}
+use Rattle.xc_moves.specs.Places.{link_place}
+use Rattle.xc_dance.specs.Fields.{last_below, first_of, last_of, ring_of, field_of, top_of, color_of}
 use Rattle.xc_dance.specs.declared.links.cells.marks.TheConstants.{SPACER}
-use Rattle.xc_dance.specs.inner.Lists.{Rises}
-use Rattle.xc_dance.specs.Moves.{listed_numbers, listed}
-use Rattle.xc_dance.specs.declared.dance.Move.{Move}
+use Rattle.xc_moves.specs.inner.Rising.{Rises}
+use Rattle.xc_moves.specs.Moves.{listed_numbers, listed}
+use Rattle.xc_moves.specs.declared.dance.Move.{Move}
 use Rattle.xc_dance.specs.declared.links.field.Field.TheVariants.{Llink, Rlink, Bound, Slack, Top, Ulink, Dlink, Color}
 use Rattle.xc_dance.specs.declared.links.field.Field.{Field}
 use Rattle.xc_dance.specs.inner.Walks.{IsFitted}
 use Rattle.xc_dance.specs.Same.{IsSame}
-use Rattle.xc_dance.proofs.PlaceLemmas.{at_place, take_more-get, head_is, option_place, place_next, range_get}
-use Rattle.xc_dance.proofs.PlaceLemmas.{same_items, is_laid, layout_small, get_taken, is_at, spacer_here, place_first}
+use Rattle.xc_moves.proofs.PlaceLemmas.{take_more-get, option_place, place_next, layout_small, spacer_here, place_first}
+use Rattle.xc_dance.proofs.TableLemmas.{head_is, range_get, same_items, is_laid, get_taken, is_at}
 use Rattle.xc_dance.proofs.LineLemmas.{last_below-more, last_of-more, stay_all, put_at-same, put_at-other, put_at}
 use Rattle.xc_dance.proofs.LineLemmas.{IsLinkedFrom, with_line, stands, get_map, same_nodes, put_link, column_same}
 use Rattle.xc_dance.proofs.LineLemmas.{get_link, set_link, set_top, get_len, map_same, link_same, numbers_few, by_first}
-use Rattle.xc_dance.proofs.MoveLemmas.{options_numbered, rises_listed, length-listed}
+use Rattle.xc_moves.proofs.MoveLemmas.{options_numbered, rises_listed, length-listed}
 use Rattle.xc_dance.proofs.OneList.{colour_small}
 
 -- ======== The tables as they are laid: columns that are filled, the nodes, the items and their rings.
@@ -135,11 +135,6 @@ column_more f n k v lt is = let z : 0 + k ≡ k = omega arith in filled_more f _
 
 pub rings_linked : (p : Puzzle) (k : ℕ) → item_count p + 2 ≤ k → linked_to p k ≡ bound_to p 1
 rings_linked p k le = grind (arith, same_items, filled_all, length-range_with_len)
-
-pub low_most : {p : Puzzle} (i : ℕ) → IsValid p → low_at p i ≤ high_at p i
-low_most zero valid = omega arith
-low_most {p} (suc k) valid = at_place (λ (b : Bounds). b.low ≤ b.high) (record { low = 0; high = 0 }) _ k (omega arith)
-    (each_weaker AreSoundBounds _ _ (λ b a. a.0) (recursion_from_All AreSoundBounds p.bounds valid.bounds))
 
 -- ---- the rings of items before any move: who stands beside whom
 

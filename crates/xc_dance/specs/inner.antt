@@ -1,5 +1,4 @@
 -- What no public clause cites: it helps to prove the public ones.
-pub mod Left
 pub mod Lists
 pub mod Tables
 pub mod Walks

@@ -1,14 +1,13 @@
 //! What the tables promise of moves and their undoing, as calls whose contracts say it.
-ghost use Rattle.std.specs.Prelude.{◌≡◌, ◌+◌, ◌<◌, ◌↔◌, ℕ, List, ◌∷◌, ◌++◌, length, AllPairs};
-ghost use Rattle.std.specs.Prelude.{IfOk, IsOk, OnErr, slice_get};
+ghost use Rattle.std.specs.Prelude.{◌≡◌, ◌+◌, ◌<◌, ◌↔◌, length, IfOk, IsOk, OnErr};
 ghost use Rattle.xc_input.specs.Laws.{DecidesEquality, IsEqualClone};
-ghost use Rattle.xc_input.specs.Problem.{Puzzle};
 ghost use Rattle.xc_dance.specs.Cost.{cost_of};
-ghost use Rattle.xc_dance.specs.Moves.{IsLegal, listed_numbers, next_above};
+ghost use Rattle.xc_moves.specs.Moves.{IsLegal};
 ghost use Rattle.xc_dance.specs.Same.{IsSame};
-ghost use Rattle.xc_dance.specs.declared.dance.Move.{Move};
 
-use crate::{Count, Dance, Field, Full, Links, Memory, Move};
+use crate::{Field, Links};
+pub use xc_moves::laws::lists_rise;
+use xc_moves::{Count, Dance, Full, Move};
 
 /// Makes a legal move and undoes it. Each field of the tables is then what it was, those of nodes
 /// that no list shows included, and both wrote as many cells. Where the trail is full, nothing changes.
@@ -28,27 +27,12 @@ pub fn there_and_back(links: &mut Links, m: Move) -> Result<(Count, Count), Full
     Ok((made, undone))
 }
 
-/// The options of an item's list rise in number. So `first` answers its head, and `below` of an option the next one.
-pub fn lists_rise()
-    ensures rise { (p : Puzzle) (t : List Move) (i : ℕ) → AllPairs (λ m n. m < n) (0 ∷ listed_numbers p t i) }
-    ensures next { (p : Puzzle) (t : List Move) (i o : ℕ) (front back : List ℕ) →
-        0 ∷ listed_numbers p t i ≡ front ++ o ∷ back → next_above o (listed_numbers p t i) ≡ slice_get back 0 }
-{}
-
-/// Two values of any of these types are equal exactly if `==` says so.
+/// Two fields are equal exactly if `==` says so.
 pub fn equality()
-    ensures moves { DecidesEquality ⟦<Move as PartialEq>⟧.eq }
-    ensures counts { DecidesEquality ⟦<Count as PartialEq>⟧.eq }
     ensures fields { DecidesEquality ⟦<Field as PartialEq>⟧.eq }
-    ensures full { DecidesEquality ⟦<Full as PartialEq>⟧.eq }
-    ensures memory { DecidesEquality ⟦<Memory as PartialEq>⟧.eq }
 {}
 
-/// A clone of a value of any of these types is equal to it.
+/// A clone of a field is equal to it.
 pub fn clones()
-    ensures moves { IsEqualClone ⟦<Move as Clone>⟧.is_clone }
-    ensures counts { IsEqualClone ⟦<Count as Clone>⟧.is_clone }
     ensures fields { IsEqualClone ⟦<Field as Clone>⟧.is_clone }
-    ensures full { IsEqualClone ⟦<Full as Clone>⟧.is_clone }
-    ensures memory { IsEqualClone ⟦<Memory as Clone>⟧.is_clone }
 {}

@@ -2,8 +2,9 @@
 ghost use Rattle.std.specs.Prelude.{◌++◌, codes, length};
 ghost use Rattle.std.specs.Fmt.{decimal};
 
-use crate::{Dance, Links, Lists};
+use crate::{Links, Lists};
 use std::fmt;
+use xc_moves::Dance;
 
 impl fmt::Debug for Links {
     ghost use Rattle.std.specs.Prelude.{Some};

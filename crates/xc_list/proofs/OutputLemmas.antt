@@ -33,7 +33,7 @@ use Rattle.xc_input.proofs.TokenLemmas.{numbered_get-at, length-pieces, option_p
 use Rattle.xc_input.proofs.TokenLemmas.{digits, digits_read, lacks-decimal}
 use Rattle.xc_input.proofs.FaultLemmas.{not_false, and-both, COLON}
 use Rattle.xc_input.proofs.LineLemmas.{at_number, known_option, lines_of-ended}
-use Rattle.xc_dance.proofs.MoveLemmas.{length-numbered_from}
+use Rattle.xc_moves.proofs.MoveLemmas.{length-numbered_from}
 use Rattle.xc_search.specs.declared.choice.Choice.{Choice}
 use Rattle.xc_search.specs.Listing.{Wanted, Residual, whole, branch_count, pick, none, Branch, branches_of, listing}
 use Rattle.xc_search.specs.Cover.{members, IsCover, options_of}

@@ -16,7 +16,7 @@ use Rattle.std.proofs.lemmas.List.Elements.{All-from_recursion, recursion_from_A
 use Rattle.xc_input.specs.Problem.{Puzzle}
 use Rattle.xc_input.specs.Named.{Named, IsSound}
 use Rattle.xc_input.proofs.ListLemmas.{in-filter, each_in, each_from}
-use Rattle.xc_dance.proofs.PlaceLemmas.{take_more-get}
+use Rattle.xc_moves.proofs.PlaceLemmas.{take_more-get}
 use Rattle.xc_search.specs.Listing.{whole}
 use Rattle.xc_search.specs.InSpan.{InSpan, branches_along, left_of, reached, row_or_end}
 use Rattle.xc_search.specs.declared.choice.Choice.{Choice}

@@ -9,7 +9,7 @@ ghost use Rattle.xc_search.specs.Cover.{members, EachMemberCovers, EachCoverIsLi
 ghost use Rattle.xc_search.specs.Room.{room_for};
 ghost use Rattle.xc_search.specs.Listing.{whole};
 ghost use Rattle.xc_search.specs.Ends.{ends};
-ghost use Rattle.xc_dance.specs.Dancing.{moves_made};
+ghost use Rattle.xc_moves.specs.Dancing.{moves_made};
 ghost use Rattle.xc_dance.specs.Linked.{dancing_of};
 ghost use Rattle.xc_list.specs.Output.{is_printed};
 ghost use Rattle.xc_list.specs.Known.{IsKnownChoice};

@@ -1,7 +1,7 @@
 //! A span of a listing, as far as a search of it goes.
 ghost use Rattle.std.specs.Prelude.{◌≡◌, ◌++◌, ◌-◌, ◌^◌, ◌<◌, ◌≤◌, [], All, MatchResult, map, flat_map, IfSome};
 ghost use Rattle.std.specs.Prelude.{◌+◌, IfOk, take, codes};
-ghost use Rattle.xc_dance.specs.Dancing.{moves_made};
+ghost use Rattle.xc_moves.specs.Dancing.{moves_made};
 ghost use Rattle.xc_search.specs.Room.{room_for};
 ghost use Rattle.xc_search.specs.InSpan.{left_of};
 ghost use Rattle.xc_search.specs.Listing.{whole};

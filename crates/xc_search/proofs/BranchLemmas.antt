@@ -19,16 +19,16 @@ use Rattle.xc_input.proofs.TokenLemmas.{numbered_get-at}
 use Rattle.xc_input.proofs.ListLemmas.{each-filter, and_left, mapped_some, not_some, by_option, contains-in, map-in}
 use Rattle.xc_input.proofs.ListLemmas.{in-slice_get, by_bool, each_front, each_in, each_weaker, each_at, keep_all}
 use Rattle.xc_input.proofs.ListLemmas.{length-filter-le, IsIn, in-map, each_from, in-filter, by_number, mapped_none}
-use Rattle.xc_dance.specs.declared.dance.Move.{Move}
-use Rattle.xc_dance.specs.declared.dance.Move.TheVariants.{Spend, Tweak}
-use Rattle.xc_dance.specs.Moves.{spends, IsLegal, listed, listed_numbers, next_above, AreLegal, is_open, is_covered}
-use Rattle.xc_dance.specs.Moves.{open_items, IsOpenPrimary}
-use Rattle.xc_dance.specs.Commits.{option_at, after_spend, IsListedAt}
-use Rattle.xc_dance.specs.inner.Left.{left}
-use Rattle.xc_dance.specs.Dancing.{Dancing, moves_made}
-use Rattle.xc_dance.proofs.StateLemmas.{left_rises, left_free, kept, listed_open}
-use Rattle.xc_dance.proofs.MoveLemmas.{rises_filter, Rises, Rises-weaker, numbers, primary_pure}
-use Rattle.xc_dance.proofs.WholeTables.{low_most}
+use Rattle.xc_moves.specs.declared.dance.Move.{Move}
+use Rattle.xc_moves.specs.declared.dance.Move.TheVariants.{Spend, Tweak}
+use Rattle.xc_moves.specs.Moves.{spends, IsLegal, listed, listed_numbers, next_above, AreLegal, is_open, is_covered}
+use Rattle.xc_moves.specs.Moves.{open_items, IsOpenPrimary}
+use Rattle.xc_moves.specs.Commits.{option_at, after_spend, IsListedAt}
+use Rattle.xc_moves.specs.inner.Left.{left}
+use Rattle.xc_moves.specs.Dancing.{Dancing, moves_made}
+use Rattle.xc_moves.proofs.LeftLemmas.{left_rises, left_free, kept, listed_open}
+use Rattle.xc_moves.proofs.MoveLemmas.{rises_filter, Rises, Rises-weaker, numbers, primary_pure}
+use Rattle.xc_moves.proofs.PlaceLemmas.{low_most}
 use Rattle.xc_search.specs.declared.level.Level.{Level}
 use Rattle.xc_search.specs.Listing.{branch_count, Branch, Wanted, listing, Residual, wanted_from, branches_of}
 use Rattle.xc_search.specs.Residuals.{wanted_at, choice_after}

@@ -21,7 +21,7 @@ use Rattle.xc_input.proofs.ListLemmas.{by_option, list_all-each, EachTwo, AllPai
 use Rattle.xc_input.proofs.ListLemmas.{each_two_from_AllPairs, in-contains, contains-in, slice_get-in, EachTwo-append}
 use Rattle.xc_input.proofs.ListLemmas.{EachTwo-map, EachTwo-flat_map, EachTwo-at, EachTwo-weaker, EachTwo-take}
 use Rattle.xc_input.proofs.ListLemmas.{EachTwo-enumerated, in-enumerated}
-use Rattle.xc_dance.proofs.MoveLemmas.{Rises, numbers, rises_filter, options_rise}
+use Rattle.xc_moves.proofs.MoveLemmas.{Rises, numbers, rises_filter, options_rise}
 use Rattle.xc_search.specs.declared.choice.Choice.{Choice}
 use Rattle.xc_search.specs.Listing.{Wanted, Residual, Branch, spend_one, may_stay, stays, pick, none, branch_count}
 use Rattle.xc_search.specs.Listing.{branches_of, listing, whole}

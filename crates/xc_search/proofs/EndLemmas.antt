@@ -11,10 +11,10 @@ use Rattle.std.proofs.Math.Nat.{mul-add, le-mul_of_pos_right}
 use Rattle.xc_input.specs.Problem.{holds, Puzzle}
 use Rattle.xc_input.proofs.ListLemmas.{each_weaker, flat_map-same, IsIn, each_from, filter-in, each_in, drop_at}
 use Rattle.xc_input.proofs.ListLemmas.{mapped_none}
-use Rattle.xc_dance.specs.declared.dance.Move.{Move}
-use Rattle.xc_dance.specs.Dancing.{Dancing, moves_made}
-use Rattle.xc_dance.specs.Commits.{option_at, after_spend}
-use Rattle.xc_dance.proofs.WholeTables.{low_most}
+use Rattle.xc_moves.specs.declared.dance.Move.{Move}
+use Rattle.xc_moves.specs.Dancing.{Dancing, moves_made}
+use Rattle.xc_moves.specs.Commits.{option_at, after_spend}
+use Rattle.xc_moves.proofs.PlaceLemmas.{low_most}
 use Rattle.xc_search.specs.Listing.{Wanted, Residual, Branch, branch_count, branch_item, branches_of, level, listing_to}
 use Rattle.xc_search.specs.Listing.{listing, pick, none, spend_one}
 use Rattle.xc_search.specs.Ends.{or_dead_end, level_ends, ends_to, ends, ends_after}

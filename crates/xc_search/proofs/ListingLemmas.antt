@@ -21,7 +21,7 @@ use Rattle.xc_input.proofs.ListLemmas.{append-in_right, in-map, map-in, in-flat_
 use Rattle.xc_input.proofs.ListLemmas.{in-enumerated, enumerated-in, flat_map-same, each_at, filter-in, in-contains}
 use Rattle.xc_input.proofs.ListLemmas.{and_right, each-filter, EachTwo-map, and_left, filter_swap, keep_all}
 use Rattle.xc_input.proofs.OptionLemmas.{numbered_from}
-use Rattle.xc_dance.proofs.MoveLemmas.{Rises, numbers, rises_filter, options_rise}
+use Rattle.xc_moves.proofs.MoveLemmas.{Rises, numbers, rises_filter, options_rise}
 use Rattle.xc_search.specs.Listing.{Wanted, Residual, Branch, branches_of, branch_count, branch_item, first_least}
 use Rattle.xc_search.specs.Listing.{stays, pick, level, listing_to, listing, wanted_from, whole, spend_one, none}
 use Rattle.xc_search.specs.inner.Levels.{take_branch, none_branch, size_of, item_left}

@@ -15,12 +15,12 @@ use Rattle.xc_input.specs.Problem.{Puzzle, primary_count, IsPrimary, uses_of, Ar
 use Rattle.xc_input.specs.declared.problem.Bounds.{Bounds}
 use Rattle.xc_input.proofs.ListLemmas.{each_weaker, IsIn, by_number, by_bool, by_option, in-map, in-filter, each_in}
 use Rattle.xc_input.proofs.ListLemmas.{map-map, mapped_none, mapped_some, map-same, drop_at, each_at, length-filter-le}
-use Rattle.xc_dance.specs.declared.dance.Move.{Move}
-use Rattle.xc_dance.specs.Moves.{is_open, open_items, AreLegal, AreTweaks}
-use Rattle.xc_dance.specs.Fields.{link_place}
-use Rattle.xc_dance.specs.Commits.{option_at, after_spend, after_use, after_uses, others}
-use Rattle.xc_dance.specs.Dancing.{Dancing, moves_made}
-use Rattle.xc_dance.proofs.MoveLemmas.{length-numbered_from}
+use Rattle.xc_moves.specs.declared.dance.Move.{Move}
+use Rattle.xc_moves.specs.Moves.{is_open, open_items, AreLegal, AreTweaks}
+use Rattle.xc_moves.specs.Places.{link_place}
+use Rattle.xc_moves.specs.Commits.{option_at, after_spend, after_use, after_uses, others}
+use Rattle.xc_moves.specs.Dancing.{Dancing, moves_made}
+use Rattle.xc_moves.proofs.MoveLemmas.{length-numbered_from}
 use Rattle.xc_search.specs.Listing.{Wanted, Residual, Branch, branches_of, branch_count, branch_item, listing}
 use Rattle.xc_search.specs.Listing.{wanted_from, whole}
 use Rattle.xc_search.specs.inner.Levels.{size_of, residual_of, branches_at, branch_members, IsSearchable, IsNode}

@@ -22,13 +22,13 @@ use Rattle.xc_input.proofs.ListLemmas.{each_from, by_bool, by_number, each_weake
 use Rattle.xc_input.proofs.ListLemmas.{each_both, length-filter-le, total, total_zero, total_le, total_less, one_if}
 use Rattle.xc_input.proofs.ListLemmas.{total_same, total_two, total_once, IsIn, total_shifted}
 use Rattle.xc_input.proofs.OptionLemmas.{numbered_from}
-use Rattle.xc_dance.specs.declared.dance.Move.{Move}
-use Rattle.xc_dance.specs.declared.dance.Move.TheVariants.{Cover, Tweak, Spend, Purify}
-use Rattle.xc_dance.specs.Moves.{listed, is_open, purified, spends, without, is_among, AreLegal, open_items}
-use Rattle.xc_dance.specs.inner.Left.{left}
-use Rattle.xc_dance.specs.Commits.{after_spend, after_use, after_uses, others}
-use Rattle.xc_dance.proofs.StateLemmas.{listed_open, left_rises, without_first}
-use Rattle.xc_dance.proofs.MoveLemmas.{rises_filter, Rises, numbers, primary_pure}
+use Rattle.xc_moves.specs.declared.dance.Move.{Move}
+use Rattle.xc_moves.specs.declared.dance.Move.TheVariants.{Cover, Tweak, Spend, Purify}
+use Rattle.xc_moves.specs.Moves.{listed, is_open, purified, spends, without, is_among, AreLegal, open_items}
+use Rattle.xc_moves.specs.inner.Left.{left}
+use Rattle.xc_moves.specs.Commits.{after_spend, after_use, after_uses, others}
+use Rattle.xc_moves.proofs.LeftLemmas.{listed_open, left_rises, without_first}
+use Rattle.xc_moves.proofs.MoveLemmas.{rises_filter, Rises, numbers, primary_pure}
 use Rattle.xc_search.specs.Listing.{Residual, may_stay, Wanted, pick, none, stays}
 use Rattle.xc_search.specs.Residuals.{wanted_after, wanted_at}
 use Rattle.xc_search.specs.inner.Levels.{residual_of, item_left, tweaked, IsNode, after_none, IsOptionAt, oldest}

@@ -21,17 +21,17 @@ use Rattle.xc_input.proofs.ListLemmas.{filter_both, keep_all, each_of_all, by_bo
 use Rattle.xc_input.proofs.ListLemmas.{each_weaker, filter_same, filter-map, map-map, each-map, each_both, each-filter}
 use Rattle.xc_input.proofs.ListLemmas.{by_option, each_at, each_from, in-map, in-filter, each_in}
 use Rattle.xc_input.proofs.TokenLemmas.{numbered_get-at}
-use Rattle.xc_dance.specs.declared.dance.Move.{Move}
-use Rattle.xc_dance.specs.declared.dance.Move.TheVariants.{Cover, Purify, Spend}
-use Rattle.xc_dance.specs.inner.Left.{left}
-use Rattle.xc_dance.specs.Moves.{is_open, open_items, agrees, purified, spends, AreLegal, is_covered, next_above}
-use Rattle.xc_dance.specs.Moves.{IsOpenPrimary}
-use Rattle.xc_dance.specs.Commits.{after_spend, after_use, after_uses}
-use Rattle.xc_dance.specs.inner.Lists.{Rises}
-use Rattle.xc_dance.proofs.PlaceLemmas.{held_use}
-use Rattle.xc_dance.proofs.StateLemmas.{left_agrees, left_free, kept, listed_open}
-use Rattle.xc_dance.proofs.MoveLemmas.{primary_pure, Rises-range, Rises-filter, above_all, next_above-split}
-use Rattle.xc_dance.proofs.MoveLemmas.{next_above-none, next_above-gt, next_above-open}
+use Rattle.xc_moves.specs.declared.dance.Move.{Move}
+use Rattle.xc_moves.specs.declared.dance.Move.TheVariants.{Cover, Purify, Spend}
+use Rattle.xc_moves.specs.inner.Left.{left}
+use Rattle.xc_moves.specs.Moves.{is_open, open_items, agrees, purified, spends, AreLegal, is_covered, next_above}
+use Rattle.xc_moves.specs.Moves.{IsOpenPrimary}
+use Rattle.xc_moves.specs.Commits.{after_spend, after_use, after_uses}
+use Rattle.xc_moves.specs.inner.Rising.{Rises}
+use Rattle.xc_moves.proofs.PlaceLemmas.{held_use}
+use Rattle.xc_moves.proofs.LeftLemmas.{left_agrees, left_free, kept, listed_open}
+use Rattle.xc_moves.proofs.MoveLemmas.{primary_pure, Rises-range, Rises-filter, above_all, next_above-split}
+use Rattle.xc_moves.proofs.MoveLemmas.{next_above-none, next_above-gt, next_above-open}
 use Rattle.xc_search.specs.Listing.{Wanted, Residual, may_stay, pick, spend_one, none, first_least, branch_count}
 use Rattle.xc_search.specs.Listing.{wanted_from, whole, branch_item}
 use Rattle.xc_search.specs.inner.Levels.{AreAllWanted, item_left, residual_of, IsOnce, IsDeadEnd, IsEarlyChoice}

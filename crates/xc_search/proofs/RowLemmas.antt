@@ -14,7 +14,7 @@ use Rattle.xc_input.specs.Problem.{Puzzle, holding}
 use Rattle.xc_input.proofs.ListLemmas.{by_bool, EachTwo, EachTwo-map, EachTwo-flat_map, AllPairs-from_each_two, IsIn}
 use Rattle.xc_input.proofs.ListLemmas.{each_from, in-map, slice_get-in, each_weaker, filter_same, keep_all, by_option}
 use Rattle.xc_input.proofs.ListLemmas.{by_number, mapped_none, each-append, each-map, each_of_all, map-same, drop_at}
-use Rattle.xc_dance.specs.declared.dance.Move.{Move}
+use Rattle.xc_moves.specs.declared.dance.Move.{Move}
 use Rattle.xc_search.specs.Spans.{precedes, row_of, is_before, between, spans_from, RowsRise}
 use Rattle.xc_search.specs.declared.choice.Choice.{Choice}
 use Rattle.xc_search.specs.Listing.{Wanted, Residual, Branch, whole, branches_of, listing, branch_item, branch_count}

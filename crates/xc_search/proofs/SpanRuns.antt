@@ -8,8 +8,8 @@ use Rattle.std.specs.Prelude.{IfSome, unwrap_or, option_map, ◌||◌, ◌^◌, 
 use Rattle.std.proofs.Math.Nat.{mul-add}
 use Rattle.xc_input.specs.Problem.{Puzzle}
 use Rattle.xc_input.proofs.ListLemmas.{by_bool, by_number, mapped_none}
-use Rattle.xc_dance.specs.declared.dance.Move.{Move}
-use Rattle.xc_dance.specs.Dancing.{Dancing, moves_made}
+use Rattle.xc_moves.specs.declared.dance.Move.{Move}
+use Rattle.xc_moves.specs.Dancing.{Dancing, moves_made}
 use Rattle.xc_search.specs.declared.choice.Choice.{Choice}
 use Rattle.xc_search.specs.declared.level.Level.{Level}
 use Rattle.xc_search.specs.Cover.{members}

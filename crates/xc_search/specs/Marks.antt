@@ -1,7 +1,7 @@
 -- The marks of a solution, by which two of its choices are known to be the same.
 use Rattle.std.specs.Prelude.{IfSome}
 use Rattle.xc_input.specs.Problem.{Puzzle, IsItem}
-use Rattle.xc_dance.specs.Commits.{IsUseAt, option_at}
+use Rattle.xc_moves.specs.Commits.{IsUseAt, option_at}
 use Rattle.xc_search.specs.declared.choice.Choice.{Choice}
 use Rattle.xc_search.specs.declared.marks.Mark.{Mark}
 

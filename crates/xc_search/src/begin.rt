@@ -1,6 +1,6 @@
 //! Beginning a search, with an error of its own.
 ghost use Rattle.std.specs.Prelude.{◌≡◌, ◌≤◌, [], IfOk, IfErr};
-ghost use Rattle.xc_dance.specs.Dancing.{moves_made};
+ghost use Rattle.xc_moves.specs.Dancing.{moves_made};
 ghost use Rattle.xc_search.specs.Listing.{whole};
 ghost use Rattle.xc_search.specs.Ends.{ends};
 ghost use Rattle.xc_search.specs.Room.{room_for};
@@ -10,8 +10,8 @@ use crate::search::Search;
 use std::alloc::Global;
 use std::error::Error;
 use std::fmt;
-use xc_dance::{Dance, Memory};
 use xc_input::Problem;
+use xc_moves::{Dance, Memory};
 
 /// Why no search began: there was no memory for its levels. It holds the dance, as it was.
 #[derive(Drop)]

@@ -11,12 +11,12 @@
 //! instructions).
 ghost use Rattle.std.specs.Prelude.{◌≡◌, ◌-◌, ◌<◌, ◌≤◌, ◌^◌, true, length, Some, None, IfSome, IsNone};
 ghost use Rattle.xc_input.specs.Problem.{low_at};
-ghost use Rattle.xc_dance.specs.Moves.{IsOpenPrimary, open_items, spends};
+ghost use Rattle.xc_moves.specs.Moves.{IsOpenPrimary, open_items, spends};
 ghost use Rattle.xc_search.specs.Residuals.{branches_after, wanted_at, wanted_after, choice_after};
 ghost use Rattle.xc_search.specs.inner.Levels.{IsOnce, AreAllWanted, IsEarlyChoice};
 
-use xc_dance::Dance;
 use xc_input::Problem;
+use xc_moves::Dance;
 
 /// The number of branches of item `i`, an open primary item of the dance's problem: one for each
 /// option of its list, less what the item still has to be held beyond one, and one more for the

@@ -17,7 +17,7 @@
 ghost use Rattle.std.specs.Prelude.{◌≡◌, ◌+◌, ◌-◌, ◌<◌, ◌≤◌, ◌^◌, List, [], ◌∷◌, ◌++◌, length, map};
 ghost use Rattle.std.specs.Prelude.{true, false, None, ℕ, Option, option_map, IfSome, IsNone, IsSome};
 ghost use Rattle.xc_input.specs.Problem.{Puzzle};
-ghost use Rattle.xc_dance.specs.Dancing.{moves_made};
+ghost use Rattle.xc_moves.specs.Dancing.{moves_made};
 ghost use Rattle.xc_search.specs.inner.Levels.{most_levels, AreStacked, IsNext, IsSearchable, IsStanding, IsEntered};
 ghost use Rattle.xc_search.specs.inner.Levels.{begun_level, IsEarlyChoice, oldest, residual_of};
 ghost use Rattle.xc_search.specs.inner.Ahead.{Pays, EntersBranch, IsDone, IsSolved, branched, KeepsPath, AreLater};
@@ -33,7 +33,7 @@ use crate::position::Position;
 use crate::ran::{Ran, Stop};
 use crate::rows::{Place, place_of};
 use crate::stack::Stack;
-use xc_dance::Dance;
+use xc_moves::Dance;
 
 /// A branch that was entered, and whose moves are still to be made: in the search's loop at one place, since a large
 /// function is taken in only where there is one call of it. So a loop that goes the way to a row, `WAY`, has each of

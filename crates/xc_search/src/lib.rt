@@ -39,4 +39,4 @@ pub use search::{Search, Step};
 pub use span::{RowNumber, Span};
 pub use walk::{Solution, Walk};
 pub use went::{Halt, Went};
-pub use xc_dance::most_moves;
+pub use xc_moves::most_moves;

@@ -9,7 +9,7 @@ ghost use Rattle.xc_search.specs.contracts.search.Search.{the_row};
 
 use crate::choice::Choice;
 use crate::search::{Search, Step};
-use xc_dance::Dance;
+use xc_moves::Dance;
 
 impl<'a, D: Dance> Search<'a, D> {
     /// Goes on to the next solution, and returns its choices, from the first level down; None where no solution is

@@ -11,8 +11,8 @@ mod moves;
 use crate::branch_item::{choose_early, choose_next, first_of_open};
 use crate::counts::{even_size, is_once};
 use std::marker::Model;
-use xc_dance::Dance;
 use xc_input::Problem;
+use xc_moves::Dance;
 
 /// A dance with the problem that it is of. Its trail has room for each search of the problem. Both are known of it, so
 /// no step requires them.
@@ -28,7 +28,7 @@ pub struct Position<'a, D: Dance> {
 
 impl<'a, D: Dance> Model for Position<'a, D> {
     ghost use Rattle.std.specs.Prelude.{◌≡◌, ◌<◌, ◌≤◌, true};
-    ghost use Rattle.xc_dance.specs.Dancing.{Dancing};
+    ghost use Rattle.xc_moves.specs.Dancing.{Dancing};
     ghost use Rattle.xc_search.specs.Room.{room_for};
     ghost use Rattle.xc_search.specs.inner.Levels.{IsOnce, IsEven};
 

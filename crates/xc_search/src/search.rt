@@ -4,7 +4,7 @@
 //! memory means that nothing was written.
 ghost use Rattle.std.specs.Prelude.{◌≡◌, ◌<◌, ◌≤◌, [], ◌∷◌, drop, length, min};
 ghost use Rattle.std.specs.Prelude.{IfOk, IfErr};
-ghost use Rattle.xc_dance.specs.Dancing.{moves_made};
+ghost use Rattle.xc_moves.specs.Dancing.{moves_made};
 ghost use Rattle.xc_search.specs.Outlook.{shown_after, MakesFew};
 ghost use Rattle.xc_search.specs.Listing.{whole};
 ghost use Rattle.xc_search.specs.Ends.{ends, ends_after};
@@ -16,8 +16,8 @@ use crate::counts::most_levels;
 use crate::walk::Walk;
 use std::alloc::Global;
 use std::marker::Model;
-use xc_dance::{Dance, Memory};
 use xc_input::Problem;
+use xc_moves::{Dance, Memory};
 
 /// A result of `Search::next`.
 #[derive(Clone, Copy, Debug, PartialEq, Eq)]

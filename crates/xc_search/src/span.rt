@@ -8,7 +8,7 @@ ghost use Rattle.xc_search.specs.Spans.{precedes, is_before, between};
 ghost use Rattle.xc_search.specs.InSpan.{left_of, reached, branches_along};
 ghost use Rattle.xc_search.specs.Nodes.{IsRowOf};
 ghost use Rattle.xc_search.specs.Going.{WentOnBy};
-ghost use Rattle.xc_dance.specs.Dancing.{moves_made};
+ghost use Rattle.xc_moves.specs.Dancing.{moves_made};
 
 use crate::choice::Choice;
 use crate::counts::most_levels;
@@ -22,8 +22,8 @@ use crate::stack::Stack;
 use crate::went::{Halt, Went};
 use std::alloc::{AllocError, Global};
 use std::marker::Model;
-use xc_dance::{Dance, Memory};
 use xc_input::Problem;
+use xc_moves::{Dance, Memory};
 
 /// A number of a row: branch `k` of the `n` branches of its level.
 #[derive(Clone, Copy, Debug, PartialEq, Eq, Hash)]
@@ -67,7 +67,7 @@ pub struct Span<'a, D: Dance> {
 impl<'a, D: Dance> Model for Span<'a, D> {
     ghost use Rattle.std.specs.Prelude.{◌≡◌, [], true, false, Some, None, option_map, vec_capacity, if◌then◌else◌};
     ghost use Rattle.xc_search.specs.InSpan.{InSpan};
-    ghost use Rattle.xc_dance.specs.Dancing.{moves_made};
+    ghost use Rattle.xc_moves.specs.Dancing.{moves_made};
     ghost use Rattle.xc_search.specs.Spans.{is_before};
     ghost use Rattle.xc_search.specs.inner.Ahead.{IsSolved, AreLed};
     ghost use Rattle.xc_search.specs.inner.Levels.{most_levels, AreStacked, IsStanding};

@@ -25,7 +25,7 @@ use crate::ran::{Ran, Stop};
 use crate::rows::is_before;
 use crate::stack::Stack;
 use core::mem::replace_with;
-use xc_dance::Dance;
+use xc_moves::Dance;
 
 /// The state of a search of a span.
 // It has no model, so that the contract of `run_on` names its fields.

@@ -13,7 +13,7 @@ use crate::position::Position;
 use core::mem::replace_with;
 use std::alloc::{AllocError, Global};
 use std::marker::Model;
-use xc_dance::{Dance, Tally};
+use xc_moves::{Dance, Tally};
 
 /// The levels of a search.
 #[derive(Drop)]

@@ -9,7 +9,7 @@ ghost use Rattle.xc_search.specs.Visited.{Visits};
 
 use crate::choice::Choice;
 use crate::search::{Search, Step};
-use xc_dance::Dance;
+use xc_moves::Dance;
 
 impl<'a, D: Dance> Search<'a, D> {
     /// Calls `visit` with the choices of each solution to come, in turn, until it returns false. It is

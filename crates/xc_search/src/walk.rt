@@ -12,7 +12,7 @@
 ghost use Rattle.std.specs.Prelude.{◌≡◌, ◌≢◌, ◌+◌, ◌<◌, ◌≤◌, [], ◌∷◌, drop, length, min, true, false};
 ghost use Rattle.std.specs.Prelude.{IfOk, IfErr, IfSome, IsNone, vec_capacity, map, All};
 ghost use Rattle.xc_search.specs.Marks.{marked, IsMark};
-ghost use Rattle.xc_dance.specs.Dancing.{moves_made};
+ghost use Rattle.xc_moves.specs.Dancing.{moves_made};
 ghost use Rattle.xc_search.specs.Outlook.{shown_after, MakesFew};
 ghost use Rattle.xc_search.specs.Listing.{whole};
 ghost use Rattle.xc_search.specs.Ends.{ends, ends_after};
@@ -31,8 +31,8 @@ use crate::stack::Stack;
 use core::mem::replace_with;
 use std::alloc::Global;
 use std::marker::Model;
-use xc_dance::{Dance, Memory};
 use xc_input::Problem;
+use xc_moves::{Dance, Memory};
 
 /// A walk over the solutions of a problem, over a dance of that problem, whose moves it makes and undoes. It stands for
 /// the members of the problem's listing that are still to come, and at one of them. It is what `Search` goes by, and
@@ -59,7 +59,7 @@ struct Standing<'a, D: Dance> {
 impl<'a, D: Dance> Model for Walk<'a, D> {
     ghost use Rattle.std.specs.Prelude.{◌≡◌, ◌≢◌, ◌<◌, [], false};
     ghost use Rattle.xc_search.specs.Outlook.{Outlook};
-    ghost use Rattle.xc_dance.specs.Dancing.{moves_made};
+    ghost use Rattle.xc_moves.specs.Dancing.{moves_made};
     ghost use Rattle.xc_search.specs.inner.Ahead.{IsSolved, ends_ahead};
     ghost use Rattle.xc_search.specs.inner.Levels.{most_levels, choices_of, coming, IsStanding};
 

@@ -21,7 +21,7 @@ use Rattle.std.proofs.lemmas.Option.{slice_get_within}
 use Rattle.xc_input.specs.Calls.{Rose}
 use Rattle.xc_input.specs.Named.{Named}
 use Rattle.xc_input.specs.Pieces.{SourceState}
-use Rattle.xc_dance.proofs.PlaceLemmas.{take_more-get}
+use Rattle.xc_moves.proofs.PlaceLemmas.{take_more-get}
 use Rattle.xc_search.specs.Cover.{EachMemberCovers, EachCoverIsListedOnce}
 use Rattle.xc_search.specs.declared.went.Went.{Went}
 use Rattle.xc_list.specs.declared.ends.End.{End}

@@ -1,7 +1,7 @@
 //! A dance of a caller's own, and the calls that a search makes of it. A move that is undone leaves nothing that a
 //! contract sees.
 ghost use Rattle.std.specs.Prelude.{◌≡◌, ◌<◌, ◌↔◌, ◌∷◌, length, drop, IsOk, OnOk, OnErr, IfSome, []};
-ghost use Rattle.xc_dance.specs.Moves.{IsLegal, AreTweaks};
+ghost use Rattle.xc_moves.specs.Moves.{IsLegal, AreTweaks};
 ghost use Rattle.xc_dance.specs.Linked.{dancing_of};
 ghost use Rattle.xc_search.specs.Room.{room_for};
 

@@ -4,7 +4,7 @@ use Rattle.std.specs.List.{list_all}
 use Rattle.std.specs.Option.{option_or}
 use Rattle.xc_input.specs.Problem.{Puzzle, Numbered, numbered_options, colour_in, IsPrimary, low_at, high_at}
 use Rattle.xc_input.specs.declared.problem.Use.{Use}
-use Rattle.xc_dance.specs.Moves.{agrees}
+use Rattle.xc_moves.specs.Moves.{agrees}
 use Rattle.xc_search.specs.Listing.{Residual, whole, listing}
 
 -- each primary item is to be held exactly once

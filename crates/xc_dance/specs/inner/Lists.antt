@@ -8,18 +8,13 @@ use Rattle.std.specs.Global.{Vec}
 use Rattle.xc_input.specs.declared.problem.Use.{Use}
 use Rattle.xc_input.specs.Problem.{Puzzle, item_count, uses_of, colour_in, primary_count, high_at}
 use Rattle.xc_dance.specs.declared.lists.removed.Removed.{Removed}
-use Rattle.xc_dance.specs.declared.dance.Move.{Move}
-use Rattle.xc_dance.specs.Moves.{is_open, is_other_colour, listed_numbers, spends}
-use Rattle.xc_dance.specs.declared.dance.Move.TheVariants.{Cover, Purify, Tweak, Spend}
+use Rattle.xc_moves.specs.declared.dance.Move.{Move}
+use Rattle.xc_moves.specs.Moves.{is_open, is_other_colour, listed_numbers, spends}
+use Rattle.xc_moves.specs.declared.dance.Move.TheVariants.{Cover, Purify, Tweak, Spend}
 use Rattle.xc_dance.specs.declared.lists.state.ItemState.{ItemState}
 use Rattle.xc_dance.specs.declared.lists.state.ItemState.TheVariants.{Open, Covered, Purified}
-
--- ======== Numbers that rise.
-
--- each is above the one before, and the first above n
-abbrev pub Rises : ℕ → List ℕ → Type 0
-Rises n [] = ⊤
-Rises n (x ∷ xs) = (n < x) × Rises x xs
+use Rattle.xc_moves.specs.inner.Rising.{Rises}
+use Rattle.xc_moves.specs.inner.Uses.{has_use}
 
 -- ======== Taking numbers out of lists, and putting them back.
 
@@ -79,10 +74,6 @@ Fits rooms [] lists = ⊤
 Fits rooms (e ∷ es) lists = HasRoom rooms e lists × Fits rooms es (put_back e lists)
 
 -- ======== Lists of option numbers, one for each item, from item 1 on, that lose options.
-
--- item i is used
-abbrev pub has_use : List Use → ℕ → Bool
-has_use us i = list_any (λ u. u.item == i) us
 
 -- from item i on, every open item but j loses these options
 abbrev pub lose_from : List Move → ℕ → List ℕ → ℕ → List (List ℕ) → List (List ℕ)

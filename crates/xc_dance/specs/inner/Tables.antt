@@ -1,24 +1,25 @@
 -- No public clause cites this module. What helps to prove `Links`: the two tables column by column, as they are
 -- first and after moves, and where nodes are.
 use Rattle.std.specs.Prelude.{ℕ, ◌+◌, List, map, sum_by, zero, suc, ◌-◌, nat_lt, length, Option, Some, None, unwrap_or}
-use Rattle.std.specs.Prelude.{if◌then◌else◌, ◌==◌, nat_le, ◌<◌, ◌≤◌, ◌^◌, ◌≡◌, ◌⊎◌, true, false, [], ◌∷◌, is_some}
-use Rattle.std.specs.Prelude.{slice_get, ◌++◌, take, slice_index, slice_set, Bool, not, ⊤, drop, ℤ, pos, negsuc}
+use Rattle.std.specs.Prelude.{if◌then◌else◌, ◌==◌, nat_le, ◌<◌, ◌≤◌, ◌^◌, ◌≡◌, false, [], ◌∷◌, is_some, slice_get, ◌++◌}
+use Rattle.std.specs.Prelude.{take, slice_index, slice_set, Bool, not, ⊤, drop, ℤ, pos, negsuc}
 use Rattle.std.specs.List.{range_with_len, AllByRecursion}
 use Rattle.xc_input.specs.Problem.{Puzzle, option_count, primary_count, item_count, low_at, high_at, colour_in, uses_of}
 use Rattle.xc_input.specs.declared.problem.Use.{Use}
 use Rattle.xc_input.specs.UsePlaces.{place_in}
 use Rattle.xc_dance.specs.declared.links.cells.cell.Cell.{Cell}
 use Rattle.xc_dance.specs.declared.links.cells.Link.{Link}
-use Rattle.xc_dance.specs.declared.dance.Move.{Move}
-use Rattle.xc_dance.specs.Moves.{listed, purified, listed_numbers, spends}
-use Rattle.xc_dance.specs.Fields.{Node, unused, own, spacer, used, layout, spacer_place, link_place, above, below_of}
-use Rattle.xc_dance.specs.Fields.{is_marked, first_of, last_of, ring_of, left_neighbour, right_of}
+use Rattle.xc_moves.specs.declared.dance.Move.{Move}
+use Rattle.xc_moves.specs.Moves.{listed, purified, listed_numbers, spends}
+use Rattle.xc_moves.specs.Places.{Node, unused, own, spacer, used, layout, spacer_place, link_place}
+use Rattle.xc_dance.specs.Fields.{above, below_of, is_marked, first_of, last_of, ring_of, left_neighbour, right_of}
 use Rattle.xc_dance.specs.declared.links.cells.marks.TheConstants.{MARK, SPACER}
 use Rattle.xc_dance.specs.declared.links.row.Row.{Row}
-use Rattle.xc_dance.specs.declared.dance.Move.TheVariants.{Cover, Purify, Tweak, Spend}
+use Rattle.xc_moves.specs.declared.dance.Move.TheVariants.{Cover, Purify, Tweak, Spend}
 use Rattle.xc_dance.specs.declared.links.cells.borrows.Cells.{Cells}
 use Rattle.xc_dance.specs.declared.links.cells.borrows.CellsMut.{CellsMut}
 use Rattle.xc_dance.specs.declared.links.cells.borrows.LinksMut.{LinksMut}
+use Rattle.xc_moves.specs.inner.Uses.{HoldsItem, start_at}
 pub use Rattle.xc_dance.specs.Fields.{taken_nodes}
 
 -- ======== Where the nodes of an option are.
@@ -210,10 +211,6 @@ items_after p t = record {
 }
 
 -- ======== What the walks need of the places of the node table.
-
--- 0, or an option that holds item j
-abbrev pub HoldsItem : Puzzle → ℕ → ℕ → Type 0
-HoldsItem p j x = (x ≡ 0) ⊎ ((0 < x) × (is_some (colour_in (uses_of p x) j) ≡ true))
 
 -- member x of item j's list has a node in the table
 pub record Placed (p : Puzzle) (j x : ℕ) : Type 0 where
@@ -416,10 +413,6 @@ all_writes top links color = column_writes top.cells.now links.links.now color.c
 
 -- ======== Where the options start in the node table.
 
--- the place of the first node after the spacer after option o
-abbrev pub start_at : Puzzle → ℕ → ℕ
-start_at p o = spacer_place p o + 1
-
 -- where the nodes of the options start
 abbrev pub starts_of : Puzzle → List ℕ
 starts_of p = map (start_at p) (range_with_len 0 (option_count p))
@@ -452,10 +445,6 @@ abbrev pub uses_before : Puzzle → ℕ → ℕ → List Use
 uses_before p i x = take (place_in i (uses_of p x)) (uses_of p x)
 
 -- ======== What the linked tables answer by option numbers, with 0 for none.
-
--- an option number as it is answered
-abbrev pub named : ℕ → Option ℕ
-named x = if x == 0 then None else Some x
 
 -- a node of item i is there
 pub record IsNodeOf (p : Puzzle) (i place : ℕ) : Type 0 where

@@ -4,14 +4,14 @@ use Rattle.std.specs.Prelude.{slice_set, if◌then◌else◌, fold, ◌^◌, rev
 use Rattle.std.specs.Prelude.{is_some, slice_get}
 use Rattle.std.proofs.Common.{zero, suc, get_or}
 use Rattle.std.specs.List.{range_with_len, AllByRecursion}
-use Rattle.xc_input.specs.declared.problem.Use.{Use}
 use Rattle.xc_input.specs.Problem.{Puzzle, colour_in, uses_of, high_at}
 use Rattle.xc_dance.specs.inner.Tables.{Nodes, Span, fixed_up, fixed_down, Items, left_ring, back_in_ring, with_bound}
 use Rattle.xc_dance.specs.inner.Tables.{is_off, IsLaid, IsFit}
 use Rattle.xc_dance.specs.declared.links.cells.marks.TheConstants.{MARK, SPACER}
-use Rattle.xc_dance.specs.Fields.{spacer, layout, link_place}
-use Rattle.xc_dance.specs.declared.dance.Move.{Move}
-use Rattle.xc_dance.specs.declared.dance.Move.TheVariants.{Cover, Purify, Tweak, Spend}
+use Rattle.xc_moves.specs.Places.{spacer, layout, link_place}
+use Rattle.xc_moves.specs.declared.dance.Move.{Move}
+use Rattle.xc_moves.specs.declared.dance.Move.TheVariants.{Cover, Purify, Tweak, Spend}
+use Rattle.xc_moves.specs.inner.Uses.{before_use, behind_use}
 
 -- ======== Walks over nodes, whatever a step does and writes.
 
@@ -259,16 +259,6 @@ pub record CanUnhideList (spans : List Span) (keep : Option ℕ) (t : Nodes) (i 
   pub walk : IsWalkBack spans keep t (slice_index t.ulink i) (list_back t i)
 
 -- ======== The other items of an option, cyclically from after one of them, and the spans in which their nodes are.
-
--- the items of the uses before that of item i
-abbrev pub before_use : ℕ → List Use → List ℕ
-before_use i [] = []
-before_use i (u ∷ us) = if u.item == i then [] else u.item ∷ before_use i us
-
--- the items of the uses after it
-abbrev pub behind_use : ℕ → List Use → List ℕ
-behind_use i [] = []
-behind_use i (u ∷ us) = if u.item == i then map (λ v. v.item) us else behind_use i us
 
 -- option o is in this span, between two spacers that lead to its ends, with the nodes of its other items round that
 -- of item i

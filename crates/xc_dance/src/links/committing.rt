@@ -4,17 +4,17 @@
 //! Cover serves both. With a copy for each kind of use a search takes 10 % more instructions.
 ghost use Rattle.std.specs.Prelude.{◌≡◌, ℕ, ◌-◌, ◌<◌, ◌∷◌, length, IsTrue, slice_get, Some, ◌==◌, if◌then◌else◌};
 ghost use Rattle.xc_input.specs.Problem.{IsPrimary, IsSecondary, high_at};
-ghost use Rattle.xc_dance.specs.Commits.{CanStand, IsUseAt, after_spend, after_use, after_uses};
+ghost use Rattle.xc_moves.specs.Commits.{CanStand, IsUseAt, after_spend, after_use, after_uses};
 ghost use Rattle.xc_dance.specs.Cost.{HasWritten};
 ghost use Rattle.xc_dance.specs.inner.Tables.{uses_behind, uses_before};
-ghost use Rattle.xc_dance.specs.Fields.{layout, spacer_place, used};
-ghost use Rattle.xc_dance.specs.Moves.{is_open, spends};
+ghost use Rattle.xc_moves.specs.Places.{layout, spacer_place, used};
+ghost use Rattle.xc_moves.specs.Moves.{is_open, spends};
 ghost use Rattle.xc_input.specs.declared.problem.Use.{Use};
-ghost use Rattle.xc_dance.specs.declared.dance.Move.TheVariants.{Cover, Purify, Spend};
+ghost use Rattle.xc_moves.specs.declared.dance.Move.TheVariants.{Cover, Purify, Spend};
 
-use crate::dance::{Dance, Move};
 use crate::links::Links;
 use crate::links::cells::SPACER;
+use xc_moves::{Dance, Move};
 
 impl Links {
     ghost use Rattle.xc_dance.specs.Linked.{dancing_of};

@@ -1,10 +1,10 @@
 //! The node table before any move.
 ghost use Rattle.std.specs.Prelude.{◌≡◌, ◌+◌, ◌≤◌, ◌<◌, [], length, IfOk};
 ghost use Rattle.xc_input.specs.Problem.{IsWithinLimits, item_count, option_count};
-ghost use Rattle.xc_dance.specs.Fields.{layout, spacer};
+ghost use Rattle.xc_moves.specs.Places.{layout, spacer};
 ghost use Rattle.xc_dance.specs.inner.Tables.{IsFit, fixed_up, fixed_down, nodes_from, nodes_after, color_in, laid_to};
 ghost use Rattle.xc_dance.specs.inner.Tables.{blanks};
-ghost use Rattle.xc_dance.specs.Fields.{spacer_place};
+ghost use Rattle.xc_moves.specs.Places.{spacer_place};
 
 use crate::links::cells::{Nodes, SPACER};
 use crate::links::node_counts::node_count;

@@ -2,7 +2,8 @@
 ghost use Rattle.std.specs.Prelude.{◌≡◌, false, ◌-◌, ◌≤◌, ◌↔◌, IsTrue, IfOk};
 ghost use Rattle.xc_input.specs.Problem.{IsValid, IsWithinLimits, IsItem, IsPrimary, IsSecondary, item_count};
 ghost use Rattle.xc_input.specs.Problem.{primary_count, IsOption};
-ghost use Rattle.xc_dance.specs.inner.Tables.{IsFit, start_at, spans_of};
+ghost use Rattle.xc_dance.specs.inner.Tables.{IsFit, spans_of};
+ghost use Rattle.xc_moves.specs.inner.Uses.{start_at};
 ghost use Rattle.xc_dance.specs.inner.Walks.{IsPlain};
 
 use crate::links::node_counts::option_starts;
@@ -45,7 +46,7 @@ impl Model for Fixed {
 }
 
 impl Fixed {
-    #[tactic(auto, using(crate::proofs::PlaceLemmas::known_fit))]
+    #[tactic(auto, using(crate::proofs::TableLemmas::known_fit))]
     pub(crate) fn new(alloc: Global, problem: &Problem) -> Result<Fixed, AllocError>
         ensures value { IfOk result (λ f. f ≡ problem.now.puzzle) }
         ensures valid { IsValid problem.now.puzzle }

@@ -8,9 +8,9 @@ ghost use Rattle.xc_dance.specs.inner.Walks.{made_cost, unmade_cost, IsUnmarked}
 ghost use Rattle.xc_dance.specs.inner.Tables.{CanNote, noted, CanRecall, IsRecalled};
 ghost use Rattle.std.specs.Prelude.{◌≡◌, false, ◌+◌, ◌<◌, length, vec_capacity};
 
-use crate::dance::Move;
 use crate::links::cells::{Items, Nodes};
 use crate::links::spans::Spans;
+use xc_moves::Move;
 
 /// Makes a move on the tables. A search takes it in, knows the kind of the move there, and a Spend is one write in
 /// place.

@@ -1,6 +1,6 @@
 //! How many nodes there are, and where those of each option start.
 ghost use Rattle.std.specs.Prelude.{◌≡◌, length, IfOk};
-ghost use Rattle.xc_dance.specs.Fields.{layout};
+ghost use Rattle.xc_moves.specs.Places.{layout};
 ghost use Rattle.xc_input.specs.Problem.{IsWithinLimits};
 ghost use Rattle.xc_dance.specs.inner.Tables.{starts_of};
 
@@ -9,7 +9,7 @@ use xc_input::Problem;
 
 /// How many nodes there are: the unused one, one for each item and each use, the first spacer, and one after each
 /// option.
-#[tactic(auto, using(crate::proofs::PlaceLemmas::counted_nodes))]
+#[tactic(auto, using(crate::proofs::TableLemmas::counted_nodes))]
 pub(crate) fn node_count(problem: &Problem) -> u32
     requires { IsWithinLimits problem.now.puzzle }
     ensures { result ≡ length (layout problem.now.puzzle) }

@@ -3,10 +3,10 @@ ghost use Rattle.std.specs.Prelude.{◌≡◌, ◌↔◌, option_map, pos, IsTru
 ghost use Rattle.xc_dance.specs.inner.Tables.{color_read, top_read};
 ghost use Rattle.xc_dance.specs.Same.{IsSame};
 
-use crate::dance::Move;
 use crate::links::Links;
 use crate::links::cells::{MARK, SPACER};
 use crate::links::field::Field;
+use xc_moves::Move;
 
 impl Links {
     ghost use Rattle.xc_dance.specs.Fields.{field_of};

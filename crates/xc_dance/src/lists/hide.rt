@@ -1,14 +1,14 @@
 //! What a move takes out of the lists.
 ghost use Rattle.std.specs.Prelude.{◌≡◌, ◌-◌, ◌<◌, ◌≤◌, ◌==◌, ◌&&◌, not, [], ◌∷◌, length, filter, if◌then◌else◌};
 ghost use Rattle.xc_input.specs.Problem.{IsItem, IsOption, colour_in};
-ghost use Rattle.xc_dance.specs.Moves.{IsLegal, is_open, is_other_colour};
+ghost use Rattle.xc_moves.specs.Moves.{IsLegal, is_open, is_other_colour};
 ghost use Rattle.xc_dance.specs.inner.Lists.{list_at, lose, keeps_colour, AreLists, lists_after};
 
-use crate::Move;
 use crate::lists::table::Table;
 use crate::lists::trail::Trail;
 use crate::lists::undo_log::OptionLists;
 use xc_input::Use;
+use xc_moves::Move;
 
 /// Takes out of the lists what the move takes out: its options are hidden in the lists of their other items.
 pub(crate) fn hide_for(standing: &Trail, live: &mut OptionLists, m: Move)

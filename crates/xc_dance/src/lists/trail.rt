@@ -1,16 +1,15 @@
 //! The moves on the trail, with what they make of the items.
 ghost use Rattle.std.specs.Prelude.{◌≡◌, ◌+◌, ◌<◌, ◌≤◌, ◌↔◌, [], ◌∷◌, length, drop, reverse, is_some, IsTrue, IfOk};
 ghost use Rattle.xc_input.specs.Problem.{IsItem, IsPrimary, IsWithinLimits, high_at};
-ghost use Rattle.xc_dance.specs.Moves.{IsLegal, is_open, purified, spends, next_above, open_items};
+ghost use Rattle.xc_moves.specs.Moves.{IsLegal, is_open, purified, spends, next_above, open_items};
 
-use crate::Move;
 use crate::lists::item_states::{open_states, whole_bounds};
 use crate::lists::state::ItemState;
 use crate::lists::table::Table;
-use crate::tally::Tally;
 use std::alloc::{AllocError, Global};
 use std::marker::Model;
 use xc_input::Problem;
+use xc_moves::{Move, Tally};
 
 /// The moves on the trail, with the problem that they are made on.
 #[derive(Drop)]
@@ -30,8 +29,8 @@ pub(crate) struct Trail {
 impl Model for Trail {
     ghost use Rattle.std.specs.Prelude.{◌≤◌, length, reverse, vec_capacity};
     ghost use Rattle.xc_input.specs.Problem.{IsWithinLimits};
-    ghost use Rattle.xc_dance.specs.Dancing.{Dancing};
-    ghost use Rattle.xc_dance.specs.Moves.{AreLegal};
+    ghost use Rattle.xc_moves.specs.Dancing.{Dancing};
+    ghost use Rattle.xc_moves.specs.Moves.{AreLegal};
     ghost use Rattle.xc_dance.specs.inner.Lists.{AreStates, AreLeft};
 
     ghost Value = { Dancing };

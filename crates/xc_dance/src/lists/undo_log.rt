@@ -1,7 +1,8 @@
 //! Lists of option numbers that can go back to how they were.
 ghost use Rattle.std.specs.Prelude.{◌≡◌, ◌+◌, ◌<◌, [], ◌∷◌, length, reverse, slice_index, slice_set, sum_by};
 ghost use Rattle.std.specs.Prelude.{vec_capacity, IfOk, IfSome, IsNone, MatchOption};
-ghost use Rattle.xc_dance.specs.inner.Lists.{Rises, numbers_of, rooms_of, list_at, less, put_back, restored};
+ghost use Rattle.xc_moves.specs.inner.Rising.{Rises};
+ghost use Rattle.xc_dance.specs.inner.Lists.{numbers_of, rooms_of, list_at, less, put_back, restored};
 ghost use Rattle.xc_dance.specs.inner.Lists.{still_taken, HasRoom, IsPutBack, Fits};
 
 use crate::lists::removed::Removed;
@@ -156,7 +157,7 @@ fn insert(lists: &mut Vec<Vec<u32>>, entry: Removed)
 }
 
 /// Puts back all but the oldest `mark` numbers, the newest first.
-#[tactic(auto, using(std::proofs::lemmas::Grind::common_steps, crate::proofs::MoveLemmas::restored_at))]
+#[tactic(auto, using(std::proofs::lemmas::Grind::common_steps, crate::proofs::LosingLists::restored_at))]
 fn restore(lists: &mut Vec<Vec<u32>>, taken: &mut Vec<Removed>, mark: usize)
     requires { Fits (rooms_of lists.old.items) (reverse taken.old.items) (numbers_of lists.old.items) }
     ensures lists { numbers_of lists.new.items ≡ restored mark (reverse taken.old.items) (numbers_of lists.old.items) }

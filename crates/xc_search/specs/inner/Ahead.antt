@@ -2,9 +2,9 @@
 use Rattle.std.specs.Prelude.{ℕ, zero, suc, ◌+◌, ◌<◌, ◌≤◌, ◌≡◌, Bool, true, false, List, [], ◌∷◌, drop, length, None}
 use Rattle.std.specs.Prelude.{◌-◌, ◌⊎◌, Option, Some, slice_get, map, reverse, Contains, ◌*◌, ◌++◌, flat_map}
 use Rattle.xc_input.specs.Problem.{Puzzle}
-use Rattle.xc_dance.specs.declared.dance.Move.{Move}
-use Rattle.xc_dance.specs.Dancing.{Dancing, moves_made}
-use Rattle.xc_dance.specs.Commits.{option_at}
+use Rattle.xc_moves.specs.declared.dance.Move.{Move}
+use Rattle.xc_moves.specs.Dancing.{Dancing, moves_made}
+use Rattle.xc_moves.specs.Commits.{option_at}
 use Rattle.xc_search.specs.inner.Levels.{size_of, residual_of, oldest, Levels, IsStanding, coming, choices_of}
 use Rattle.xc_search.specs.inner.Levels.{branches_at, IsPlace, CanBranch, after_branch, chosen}
 use Rattle.xc_search.specs.declared.level.Level.{Level}

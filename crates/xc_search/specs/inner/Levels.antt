@@ -7,12 +7,12 @@ use Rattle.xc_input.specs.Problem.{Puzzle, Numbered, low_at, high_at, primary_co
 use Rattle.xc_input.specs.Problem.{IsPrimary, IsOption, numbered_get, holding, uses_of, option_count}
 use Rattle.xc_input.specs.declared.problem.Use.{Use}
 use Rattle.xc_input.specs.UsePlaces.{place_in}
-use Rattle.xc_dance.specs.declared.dance.Move.{Move}
-use Rattle.xc_dance.specs.inner.Left.{left}
-use Rattle.xc_dance.specs.declared.dance.Move.TheVariants.{Cover, Tweak, Spend, Purify}
-use Rattle.xc_dance.specs.Moves.{is_open, spends, AreLegal, open_items, IsOpenPrimary}
-use Rattle.xc_dance.specs.Fields.{link_place}
-use Rattle.xc_dance.specs.Commits.{option_at, IsUseAt, after_spend, after_uses, others}
+use Rattle.xc_moves.specs.declared.dance.Move.{Move}
+use Rattle.xc_moves.specs.inner.Left.{left}
+use Rattle.xc_moves.specs.declared.dance.Move.TheVariants.{Cover, Tweak, Spend, Purify}
+use Rattle.xc_moves.specs.Moves.{is_open, spends, AreLegal, open_items, IsOpenPrimary}
+use Rattle.xc_moves.specs.Places.{link_place}
+use Rattle.xc_moves.specs.Commits.{option_at, IsUseAt, after_spend, after_uses, others}
 use Rattle.xc_search.specs.Listing.{Residual, Wanted, Branch, branch, pick, none, branch_count, branches_of, level}
 use Rattle.xc_search.specs.Listing.{listing}
 use Rattle.xc_search.specs.Residuals.{wanted_after, wanted_at, branches_after, choice_after}

@@ -8,9 +8,9 @@ use Rattle.xc_search.specs.declared.ran.Ran.{Ran}
 use Rattle.xc_search.specs.declared.ran.Stop.{Stop}
 use Rattle.xc_search.specs.declared.ran.Stop.TheVariants.{Member, Steps, Row, Nothing}
 use Rattle.xc_input.specs.Problem.{Puzzle}
-use Rattle.xc_dance.specs.Dancing.{Dancing, moves_made}
+use Rattle.xc_moves.specs.Dancing.{Dancing, moves_made}
 use Rattle.xc_search.specs.Room.{room_for}
-use Rattle.xc_dance.specs.Commits.{option_at}
+use Rattle.xc_moves.specs.Commits.{option_at}
 use Rattle.xc_search.specs.Spans.{row_of, precedes, is_before, between}
 use Rattle.xc_search.specs.inner.Levels.{Levels, IsStanding, AreStacked, IsPlace, CanBranch, choices_of, coming}
 use Rattle.xc_search.specs.inner.Levels.{most_levels}

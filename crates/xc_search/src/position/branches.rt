@@ -1,18 +1,18 @@
 //! The branches of a level: beginning the level, entering each, and its choice.
 ghost use Rattle.std.specs.Prelude.{ℕ, ◌≡◌, ◌+◌, ◌-◌, ◌<◌, length, Some, ◌&&◌, ◌==◌, if◌then◌else◌};
 ghost use Rattle.xc_input.specs.Problem.{IsItem, IsPrimary, high_at, low_at};
-ghost use Rattle.xc_dance.specs.Fields.{link_place, first_above};
-ghost use Rattle.xc_dance.specs.Commits.{IsListedAt, IsUseAt, option_at, after_spend};
+ghost use Rattle.xc_moves.specs.Places.{link_place, first_above};
+ghost use Rattle.xc_moves.specs.Commits.{IsListedAt, IsUseAt, option_at, after_spend};
 ghost use Rattle.xc_search.specs.inner.Levels.{oldest, tweaked, IsNode, MayBegin, IsEntered, CanBranch, after_branch};
 ghost use Rattle.xc_search.specs.inner.Levels.{first_level, next_number, begun_level, IsPlace, IsShown, chosen};
-ghost use Rattle.xc_dance.specs.Moves.{listed_numbers, next_above, spends};
+ghost use Rattle.xc_moves.specs.Moves.{listed_numbers, next_above, spends};
 ghost use Rattle.xc_search.specs.Marks.{marked, IsMark};
 
 use crate::choice::Choice;
 use crate::level::{Begun, Level};
 use crate::marks::Mark;
 use crate::position::Position;
-use xc_dance::{Dance, Move};
+use xc_moves::{Dance, Move};
 
 impl<'a, D: Dance> Position<'a, D> {
     /// Begins a level at an item.

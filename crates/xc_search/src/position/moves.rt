@@ -1,15 +1,15 @@
 //! Moves that the search makes and undoes.
 ghost use Rattle.std.specs.Prelude.{ℕ, ◌≡◌, ◌+◌, ◌-◌, ◌<◌, ◌≤◌, [], ◌∷◌, length, drop};
-ghost use Rattle.xc_dance.specs.Dancing.{moves_made};
+ghost use Rattle.xc_moves.specs.Dancing.{moves_made};
 ghost use Rattle.xc_input.specs.Problem.{IsItem};
-ghost use Rattle.xc_dance.specs.Commits.{IsUseAt, after_option, after_spend};
+ghost use Rattle.xc_moves.specs.Commits.{IsUseAt, after_option, after_spend};
 ghost use Rattle.xc_search.specs.inner.Levels.{MayStand, NoTweakAbove, oldest, after_none};
-ghost use Rattle.xc_dance.specs.Moves.{IsLegal, AreTweaks};
+ghost use Rattle.xc_moves.specs.Moves.{IsLegal, AreTweaks};
 ghost use Rattle.xc_search.specs.Room.{room_for};
 
 use crate::position::Position;
-use xc_dance::{Dance, Move};
 use xc_input::place_in;
+use xc_moves::{Dance, Move};
 
 impl<'a, D: Dance> Position<'a, D> {
     /// Makes a move that is legal and that a search of the problem has room for.

@@ -1,5 +1,5 @@
 use Rattle.std.proofs.Common.{arith}
-use Rattle.xc_dance.proofs.MoveLemmas.{length-listed}
+use Rattle.xc_moves.proofs.MoveLemmas.{length-listed}
 use Rattle.xc_search.proofs.branch_item.branches.Goals as goal
 
 pub overflow_add-result : goal.overflow_add-result

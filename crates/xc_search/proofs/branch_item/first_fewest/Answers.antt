@@ -1,7 +1,7 @@
 use Rattle.std.proofs.Common.{arith, sym, inl}
 use Rattle.xc_search.proofs.ResidualLemmas.{WalksTo, once_more, choice_none, nearer, walk_first, walk_on, walk_none}
 use Rattle.xc_search.proofs.ResidualLemmas.{walk_enough, walk_ends}
-use Rattle.xc_dance.proofs.MoveLemmas.{next_above-open}
+use Rattle.xc_moves.proofs.MoveLemmas.{next_above-open}
 use Rattle.xc_search.proofs.branch_item.first_fewest.Goals as goal
 use Rattle.xc_search.proofs.branch_item.first_fewest.Goals.{After-branches_of-branches, Then-n-branches}
 

@@ -1,6 +1,6 @@
 use Rattle.std.proofs.Common.{arith, sym}
 use Rattle.xc_search.proofs.ResidualLemmas.{count_first, count_on, count_ends}
-use Rattle.xc_dance.proofs.MoveLemmas.{next_above-open}
+use Rattle.xc_moves.proofs.MoveLemmas.{next_above-open}
 use Rattle.xc_search.proofs.branch_item.first_of_open.Goals as goal
 
 pub loop-seen-init : goal.loop-seen-init

@@ -1,7 +1,7 @@
 use Rattle.std.proofs.Common.{sym}
-use Rattle.xc_dance.specs.Moves.{IsOpenPrimary}
+use Rattle.xc_moves.specs.Moves.{IsOpenPrimary}
 use Rattle.xc_search.proofs.ResidualLemmas.{once_more}
-use Rattle.xc_dance.proofs.MoveLemmas.{next_above-open}
+use Rattle.xc_moves.proofs.MoveLemmas.{next_above-open}
 use Rattle.xc_search.proofs.branch_item.without_branches.Goals as goal
 use Rattle.xc_search.proofs.branch_item.without_branches.Goals.{In_ok-at}
 

@@ -1,4 +1,4 @@
-use Rattle.xc_dance.specs.Moves.{IsOpenPrimary}
+use Rattle.xc_moves.specs.Moves.{IsOpenPrimary}
 use Rattle.xc_search.proofs.branch_item.without_branches.Given as goal
 
 abbrev pub invariant-loop : goal.invariant-loop

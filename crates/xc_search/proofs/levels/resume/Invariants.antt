@@ -1,5 +1,5 @@
 use Rattle.std.proofs.Common.{ℕ, ◌≡◌, ◌≤◌, false}
-use Rattle.xc_dance.specs.Dancing.{moves_made}
+use Rattle.xc_moves.specs.Dancing.{moves_made}
 use Rattle.xc_search.specs.inner.Ahead.{visits, GoesOn, KeepsPath, Pays}
 use Rattle.xc_search.proofs.SpanSteps.{IsOldest}
 use Rattle.xc_search.proofs.levels.resume.Given as goal

@@ -1,6 +1,6 @@
 use Rattle.std.proofs.lemmas.Grind.{common_steps}
 use Rattle.std.proofs.Common.{◌≡◌, ◌+◌, ◌-◌, length, drop, ap, ◌∙◌, arith}
-use Rattle.xc_dance.specs.Dancing.{Dancing}
+use Rattle.xc_moves.specs.Dancing.{Dancing}
 use Rattle.xc_search.specs.inner.Levels.{oldest}
 use Rattle.xc_search.proofs.LoopSteps.{ended_level, unwound, ends_tweaks}
 use Rattle.xc_search.proofs.levels.unwind.Goals as goal

@@ -1,5 +1,5 @@
 use Rattle.std.proofs.Common.{◌≡◌, length}
-use Rattle.xc_dance.specs.Dancing.{moves_made}
+use Rattle.xc_moves.specs.Dancing.{moves_made}
 use Rattle.xc_search.specs.inner.Levels.{AreStacked}
 use Rattle.xc_search.proofs.levels.unwind.Given as goal
 

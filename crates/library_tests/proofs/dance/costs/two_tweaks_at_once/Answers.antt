@@ -1,7 +1,7 @@
 use Rattle.std.proofs.Common.{◌≡◌, ◌∷◌, ℕ, List, arith, refl, subst, sym, ap, ◌∙◌}
-use Rattle.xc_dance.specs.declared.dance.Move.{Move}
-use Rattle.xc_dance.specs.declared.dance.Move.TheVariants.{Tweak}
-use Rattle.xc_dance.specs.Moves.{AreTweaks}
+use Rattle.xc_moves.specs.declared.dance.Move.{Move}
+use Rattle.xc_moves.specs.declared.dance.Move.TheVariants.{Tweak}
+use Rattle.xc_moves.specs.Moves.{AreTweaks}
 use Rattle.library_tests.proofs.dance.costs.two_tweaks_at_once.Goals as goal
 
 two_tweaks : (i : ℕ) (s t : List Move) → s ≡ Tweak i ∷ Tweak i ∷ t → AreTweaks 2 s

@@ -1,5 +1,5 @@
 use Rattle.std.proofs.Common.{sym, ◌∙◌}
-use Rattle.xc_dance.proofs.MoveLemmas.{next_above-open}
+use Rattle.xc_moves.proofs.MoveLemmas.{next_above-open}
 use Rattle.library_tests.proofs.dance.keepers.are_open.Goals as goal
 
 pub loop-i-init : goal.loop-i-init

@@ -1,5 +1,5 @@
 use Rattle.std.proofs.Common.{◌≡◌, ℕ, Some}
-use Rattle.xc_dance.specs.Moves.{IsOpenPrimary}
+use Rattle.xc_moves.specs.Moves.{IsOpenPrimary}
 use Rattle.library_tests.proofs.dance.keepers.are_open.Given as goal
 
 abbrev pub invariant-loop-i : goal.invariant-loop-i

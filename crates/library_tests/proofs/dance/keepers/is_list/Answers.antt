@@ -1,5 +1,5 @@
 use Rattle.std.proofs.Common.{sym, ◌∙◌}
-use Rattle.xc_dance.proofs.TableAnswers.{next_contained}
+use Rattle.xc_moves.proofs.PlaceAnswers.{next_contained}
 use Rattle.library_tests.proofs.dance.keepers.is_list.Goals as goal
 
 pub loop-o-init : goal.loop-o-init

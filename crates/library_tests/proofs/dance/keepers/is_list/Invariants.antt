@@ -1,6 +1,6 @@
 use Rattle.std.proofs.Common.{◌≡◌, ℕ, Some}
 use Rattle.std.specs.Prelude.{Contains}
-use Rattle.xc_dance.specs.Moves.{listed_numbers}
+use Rattle.xc_moves.specs.Moves.{listed_numbers}
 use Rattle.library_tests.proofs.dance.keepers.is_list.Given as goal
 
 abbrev pub invariant-loop-o : goal.invariant-loop-o

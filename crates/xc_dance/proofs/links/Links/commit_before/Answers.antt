@@ -1,8 +1,9 @@
 use Rattle.xc_dance.proofs.TableAnswers.{along_first, before_at, Leads, leads, IsNext, nodes_told, whole, may, one_more}
 use Rattle.std.proofs.Common.{◌≡◌, ◌-◌, ℕ, get_or, ap, ◌∙◌, arith, refl}
 use Rattle.std.proofs.lemmas.List.{length-map}
-use Rattle.xc_dance.specs.inner.Tables.{Nodes, nodes_after, start_at, uses_before}
-use Rattle.xc_dance.specs.Commits.{IsUseAt}
+use Rattle.xc_dance.specs.inner.Tables.{Nodes, nodes_after, uses_before}
+use Rattle.xc_moves.specs.inner.Uses.{start_at}
+use Rattle.xc_moves.specs.Commits.{IsUseAt}
 use Rattle.xc_dance.proofs.links.Links.commit_before.Goals as goal
 use Rattle.xc_dance.proofs.links.Links.commit_before.Goals.{After-self, After-self-in-loop-q}
 

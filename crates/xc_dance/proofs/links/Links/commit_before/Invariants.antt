@@ -1,6 +1,7 @@
 use Rattle.std.proofs.Common.{◌-◌}
-use Rattle.xc_dance.specs.Commits.{IsUseAt}
-use Rattle.xc_dance.specs.inner.Tables.{start_at, uses_before}
+use Rattle.xc_moves.specs.Commits.{IsUseAt}
+use Rattle.xc_moves.specs.inner.Uses.{start_at}
+use Rattle.xc_dance.specs.inner.Tables.{uses_before}
 use Rattle.xc_dance.proofs.TableAnswers.{IsCommitting}
 use Rattle.xc_dance.proofs.links.Links.commit_before.Given as goal
 

@@ -2,7 +2,7 @@ use Rattle.xc_dance.specs.inner.Walks.{IsFitted}
 use Rattle.xc_dance.specs.inner.Tables.{spans_of, Nodes, nodes_after, IsLaid, uses_behind}
 use Rattle.std.proofs.Common.{◌≡◌, ◌<◌, ◌+◌, ℕ, length, get_or, ap, subst, ◌∙◌, arith, refl}
 use Rattle.std.proofs.lemmas.List.{length-map}
-use Rattle.xc_dance.specs.Commits.{IsUseAt}
+use Rattle.xc_moves.specs.Commits.{IsUseAt}
 use Rattle.xc_dance.specs.Linked.{Linked}
 use Rattle.xc_dance.proofs.TableAnswers.{along_first, Behind, behind_at, IsNext, top_at, nodes_told, whole, may}
 use Rattle.xc_dance.proofs.TableAnswers.{one_more}

@@ -1,6 +1,6 @@
 use Rattle.std.proofs.Common.{◌+◌, ◌-◌, length}
-use Rattle.xc_dance.specs.Commits.{IsUseAt}
-use Rattle.xc_dance.specs.Fields.{layout}
+use Rattle.xc_moves.specs.Commits.{IsUseAt}
+use Rattle.xc_moves.specs.Places.{layout}
 use Rattle.xc_dance.specs.inner.Tables.{uses_behind}
 use Rattle.xc_dance.proofs.TableAnswers.{IsCommitting}
 use Rattle.xc_dance.proofs.links.Links.commit_behind.Given as goal

@@ -3,14 +3,14 @@ use Rattle.std.proofs.Common.{◌∙◌, arith}
 use Rattle.std.specs.Prelude.{slice_get}
 use Rattle.xc_input.specs.declared.problem.Use.{Use}
 use Rattle.xc_input.specs.Problem.{IsItem, primary_count}
-use Rattle.xc_dance.specs.declared.dance.Move.{Move}
-use Rattle.xc_dance.specs.declared.dance.Move.TheVariants.{Cover, Purify}
+use Rattle.xc_moves.specs.declared.dance.Move.{Move}
+use Rattle.xc_moves.specs.declared.dance.Move.TheVariants.{Cover, Purify}
 use Rattle.xc_dance.specs.inner.Tables.{Nodes}
-use Rattle.xc_dance.specs.Commits.{after_use}
-use Rattle.xc_dance.specs.Dancing.{Dancing}
+use Rattle.xc_moves.specs.Commits.{after_use}
+use Rattle.xc_moves.specs.Dancing.{Dancing}
 use Rattle.xc_dance.specs.Linked.{Linked}
-use Rattle.xc_dance.specs.Moves.{is_open}
-use Rattle.xc_dance.specs.Fields.{layout, used}
+use Rattle.xc_moves.specs.Moves.{is_open}
+use Rattle.xc_moves.specs.Places.{layout, used}
 use Rattle.xc_dance.proofs.TableAnswers.{use_item, colour_within, committed_open, still_covers}
 use Rattle.xc_dance.proofs.links.Links.enter_node.Goals as goal
 use Rattle.xc_dance.proofs.links.Links.enter_node.Goals.{After-self}

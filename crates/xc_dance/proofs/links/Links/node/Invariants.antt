@@ -1,6 +1,6 @@
 use Rattle.std.proofs.Common.{◌≤◌, ◌-◌}
-use Rattle.xc_dance.specs.Fields.{link_place}
-use Rattle.xc_dance.specs.inner.Tables.{start_at}
+use Rattle.xc_moves.specs.Places.{link_place}
+use Rattle.xc_moves.specs.inner.Uses.{start_at}
 use Rattle.xc_dance.proofs.links.Links.node.Given as goal
 
 -- from the option's first node to the one that is sought

@@ -1,6 +1,6 @@
 use Rattle.std.proofs.Common.{ℕ, ◌≡◌, ◌≤◌, ◌-◌, length}
-use Rattle.xc_dance.specs.Fields.{layout, link_place, spacer_place}
-use Rattle.xc_dance.specs.inner.Tables.{HoldsItem}
+use Rattle.xc_moves.specs.Places.{layout, link_place, spacer_place}
+use Rattle.xc_moves.specs.inner.Uses.{HoldsItem}
 use Rattle.xc_dance.proofs.links.Links.option_at.Given as goal
 
 -- from the node up to the spacer

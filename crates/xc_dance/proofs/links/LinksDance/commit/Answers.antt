@@ -1,8 +1,8 @@
 use Rattle.std.proofs.Common.{arith}
 use Rattle.std.proofs.Common.{subst}
-use Rattle.xc_dance.specs.Commits.{CanStand}
+use Rattle.xc_moves.specs.Commits.{CanStand}
 use Rattle.xc_dance.specs.inner.Tables.{uses_behind, uses_before}
-use Rattle.xc_dance.proofs.StateLemmas.{stood_before, after_uses-append}
+use Rattle.xc_moves.proofs.LeftLemmas.{stood_before, after_uses-append}
 use Rattle.xc_dance.proofs.links.LinksDance.commit.Goals as goal
 
 pub commit_behind-end-requires : goal.commit_behind-end-requires

@@ -1,11 +1,12 @@
 use Rattle.std.proofs.Common.{ℕ, reverse, get_or, ap, sym, subst, ◌∙◌}
 use Rattle.xc_input.specs.Problem.{IsItem}
 use Rattle.xc_dance.specs.inner.Tables.{Nodes}
-use Rattle.xc_dance.specs.Commits.{IsListedAt}
+use Rattle.xc_moves.specs.Commits.{IsListedAt}
 use Rattle.xc_dance.specs.Linked.{Linked, dancing_of}
-use Rattle.xc_dance.proofs.TableAnswers.{place_tells, listed_within, listed_down}
-use Rattle.xc_dance.specs.Moves.{listed_numbers}
-use Rattle.xc_dance.specs.Fields.{link_place, first_above}
+use Rattle.xc_moves.proofs.PlaceAnswers.{place_tells}
+use Rattle.xc_dance.proofs.TableAnswers.{listed_within, listed_down}
+use Rattle.xc_moves.specs.Moves.{listed_numbers}
+use Rattle.xc_moves.specs.Places.{link_place, first_above}
 use Rattle.xc_dance.proofs.links.LinksDance.node_below.Goals as goal
 use Rattle.xc_dance.proofs.links.LinksDance.node_below.Goals.{After-self}
 

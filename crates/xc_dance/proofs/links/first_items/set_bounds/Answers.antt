@@ -1,4 +1,5 @@
-use Rattle.xc_dance.proofs.WholeTables.{filled_all, column_len, column_more, low_most}
+use Rattle.xc_dance.proofs.WholeTables.{filled_all, column_len, column_more}
+use Rattle.xc_moves.proofs.PlaceLemmas.{low_most}
 use Rattle.std.proofs.lemmas.List.FromFn.{length-range_with_len}
 use Rattle.std.proofs.Common.{ne_eqb}
 use Rattle.std.proofs.Common.{arith, ◌+◌, ◌≡◌}
@@ -7,7 +8,7 @@ use Rattle.xc_input.specs.ItemBounds.{bounds_of}
 use Rattle.std.specs.Prelude.{Some}
 use Rattle.xc_dance.proofs.links.first_items.set_bounds.Goals as goal
 use Rattle.xc_dance.proofs.links.first_items.set_bounds.Goals.{After-item-item}
-use Rattle.xc_dance.proofs.PlaceLemmas.{same_items}
+use Rattle.xc_dance.proofs.TableLemmas.{same_items}
 
 -- the item has the bounds of its number
 bounds_here : (c : After-item-item)

@@ -1,7 +1,7 @@
 use Rattle.std.proofs.Common.{◌≡◌}
-use Rattle.xc_dance.specs.Fields.{spacer}
+use Rattle.xc_moves.specs.Places.{spacer}
 use Rattle.xc_dance.specs.inner.Tables.{fixed_up, laid_to}
-use Rattle.xc_dance.specs.Fields.{spacer_place}
+use Rattle.xc_moves.specs.Places.{spacer_place}
 use Rattle.xc_dance.proofs.links.first_nodes.lay_options.Given as goal
 
 abbrev pub invariant-loop-o : goal.invariant-loop-o

@@ -1,7 +1,7 @@
 use Rattle.std.proofs.Common.{◌∙◌, ap}
 use Rattle.std.specs.Prelude.{slice_get}
-use Rattle.xc_dance.specs.Fields.{layout}
-use Rattle.xc_dance.proofs.PlaceLemmas.{spacer_here}
+use Rattle.xc_moves.specs.Places.{layout}
+use Rattle.xc_moves.proofs.PlaceLemmas.{spacer_here}
 use Rattle.xc_dance.proofs.WholeTables.{laid_room, laid_more, spacer_row}
 use Rattle.xc_dance.proofs.links.first_nodes.lay_spacer.Goals as goal
 

@@ -1,9 +1,9 @@
 use Rattle.std.proofs.Common.{arith, ◌≡◌, ◌∙◌, ◌+◌, ap, refl, get_or, ℕ, Some}
 use Rattle.std.proofs.lemmas.Option.{slice_get-get_or}
 use Rattle.xc_input.specs.declared.problem.Use.{Use}
-use Rattle.xc_dance.specs.Fields.{used, spacer_place, layout}
+use Rattle.xc_moves.specs.Places.{used, spacer_place, layout}
 use Rattle.xc_dance.specs.inner.Tables.{laid_to}
-use Rattle.xc_dance.proofs.PlaceLemmas.{uses_here, use_here, option_fits}
+use Rattle.xc_moves.proofs.PlaceLemmas.{uses_here, use_here, option_fits}
 use Rattle.xc_dance.proofs.WholeTables.{laid_room, laid_more}
 use Rattle.xc_dance.proofs.links.first_nodes.lay_uses.Goals as goal
 use Rattle.xc_dance.proofs.links.first_nodes.lay_uses.Goals.{In-loop-u}

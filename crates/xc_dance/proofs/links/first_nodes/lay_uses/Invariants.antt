@@ -1,5 +1,5 @@
 use Rattle.std.proofs.Common.{◌≡◌, ◌+◌}
-use Rattle.xc_dance.specs.Fields.{spacer_place}
+use Rattle.xc_moves.specs.Places.{spacer_place}
 use Rattle.xc_dance.specs.inner.Tables.{laid_to}
 use Rattle.xc_dance.proofs.links.first_nodes.lay_uses.Given as goal
 

@@ -6,9 +6,9 @@ use Rattle.std.specs.Prelude.{slice_get, slice_index}
 use Rattle.xc_input.specs.declared.problem.Use.{Use}
 use Rattle.xc_input.specs.Problem.{Puzzle, item_count, IsWithinLimits}
 use Rattle.xc_dance.specs.inner.Tables.{Nodes, NodeTable, IsFit, nodes_from, color_in, entered}
-use Rattle.xc_dance.specs.Fields.{Node, unused, own, spacer, used, layout}
+use Rattle.xc_moves.specs.Places.{Node, unused, own, spacer, used, layout}
 use Rattle.std.proofs.lemmas.Option.{slice_get-get_or}
-use Rattle.xc_dance.proofs.PlaceLemmas.{is_at}
+use Rattle.xc_dance.proofs.TableLemmas.{is_at}
 use Rattle.xc_dance.proofs.links.first_nodes.link_uses.Goals as goal
 use Rattle.xc_dance.proofs.links.first_nodes.link_uses.Goals.{Then-top-lt-SPACER, then-top-lt-SPACER}
 use Rattle.xc_dance.proofs.links.first_nodes.link_uses.Goals.{else-top-lt-SPACER}

@@ -1,5 +1,5 @@
 use Rattle.std.proofs.Common.{◌≡◌, [], take}
-use Rattle.xc_dance.specs.Fields.{layout}
+use Rattle.xc_moves.specs.Places.{layout}
 use Rattle.xc_dance.specs.inner.Tables.{nodes_from, color_in}
 use Rattle.xc_dance.proofs.WholeTables.{lines_of}
 use Rattle.xc_dance.proofs.links.first_nodes.link_uses.Given as goal

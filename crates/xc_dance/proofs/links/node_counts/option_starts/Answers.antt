@@ -1,7 +1,7 @@
 use Rattle.std.proofs.Common.{arith}
 use Rattle.std.proofs.lemmas.List.FromFn.{map-range_with_len_more}
-use Rattle.xc_dance.specs.inner.Tables.{start_at}
-use Rattle.xc_dance.proofs.PlaceLemmas.{OptionFits, option_fits, uses_here}
+use Rattle.xc_moves.specs.inner.Uses.{start_at}
+use Rattle.xc_moves.proofs.PlaceLemmas.{OptionFits, option_fits, uses_here}
 use Rattle.xc_dance.proofs.links.node_counts.option_starts.Goals.{After-option}
 use Rattle.xc_dance.proofs.links.node_counts.option_starts.Goals as goal
 

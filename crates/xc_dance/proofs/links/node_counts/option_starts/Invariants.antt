@@ -1,6 +1,6 @@
 use Rattle.std.proofs.Common.{◌≡◌}
-use Rattle.xc_dance.specs.inner.Tables.{start_at}
-use Rattle.xc_dance.proofs.PlaceLemmas.{starts_to}
+use Rattle.xc_moves.specs.inner.Uses.{start_at}
+use Rattle.xc_dance.proofs.TableLemmas.{starts_to}
 use Rattle.xc_dance.proofs.links.node_counts.option_starts.Given as goal
 
 abbrev pub invariant-loop-o : goal.invariant-loop-o

@@ -1,4 +1,4 @@
-use Rattle.xc_dance.proofs.MoveLemmas.{list_at-numbers_of, enlisted_none, enlisted_more, new_use, length-enlisted_from}
+use Rattle.xc_dance.proofs.LosingLists.{list_at-numbers_of, enlisted_none, enlisted_more, new_use, length-enlisted_from}
 use Rattle.std.proofs.Common.{arith, sym}
 use Rattle.std.proofs.lemmas.Grind.{common_steps}
 use Rattle.std.proofs.lemmas.List.{map-set}

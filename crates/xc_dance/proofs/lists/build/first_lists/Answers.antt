@@ -3,7 +3,7 @@ use Rattle.std.proofs.lemmas.List.{length-map, take_more, length-take-le}
 use Rattle.std.proofs.lemmas.List.FromFn.{length-map-range_with_len}
 use Rattle.std.proofs.lemmas.Option.{unwrap_or-slice_get}
 use Rattle.xc_input.proofs.TokenLemmas.{numbered_get-at}
-use Rattle.xc_dance.proofs.MoveLemmas.{lists_none, lists_more}
+use Rattle.xc_dance.proofs.LosingLists.{lists_none, lists_more}
 use Rattle.std.specs.Prelude.{unwrap_or}
 use Rattle.xc_dance.proofs.lists.build.first_lists.Goals as goal
 

@@ -1,6 +1,6 @@
 use Rattle.std.proofs.Common.{◌≡◌, take}
 use Rattle.xc_dance.specs.inner.Lists.{numbers_of}
-use Rattle.xc_dance.proofs.MoveLemmas.{lists_of}
+use Rattle.xc_dance.proofs.LosingLists.{lists_of}
 use Rattle.xc_dance.proofs.lists.build.first_lists.Given as goal
 
 abbrev pub invariant-loop-o : goal.invariant-loop-o

@@ -1,8 +1,8 @@
 use Rattle.std.proofs.Common.{arith}
 use Rattle.std.proofs.lemmas.Grind.{common_steps}
 use Rattle.std.proofs.lemmas.List.{take_more}
-use Rattle.xc_dance.proofs.MoveLemmas.{hidden_none, hidden_more, hidden_same, hidden_all, length-hidden_from}
-use Rattle.xc_dance.proofs.MoveLemmas.{lists-hidden_from, list_of}
+use Rattle.xc_dance.proofs.LosingLists.{hidden_none, hidden_more, hidden_same, hidden_all, length-hidden_from}
+use Rattle.xc_dance.proofs.LosingLists.{lists-hidden_from, list_of}
 use Rattle.xc_dance.proofs.lists.hide.hide.Goals as goal
 
 pub loop-u-init : goal.loop-u-init

@@ -1,5 +1,5 @@
 use Rattle.std.proofs.Common.{◌≡◌, take}
-use Rattle.xc_dance.proofs.MoveLemmas.{hidden_from}
+use Rattle.xc_dance.proofs.LosingLists.{hidden_from}
 use Rattle.xc_dance.proofs.lists.hide.hide.Given as goal
 
 abbrev pub invariant-loop-u : goal.invariant-loop-u

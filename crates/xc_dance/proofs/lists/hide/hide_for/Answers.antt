@@ -1,9 +1,9 @@
 use Rattle.std.proofs.Common.{◌≡◌, arith, sym, subst, not, filter, List, ℕ, Some, ◌∷◌, ◌-◌}
-use Rattle.xc_dance.specs.declared.dance.Move.{Move}
+use Rattle.xc_moves.specs.declared.dance.Move.{Move}
 use Rattle.std.specs.Prelude.{Option}
 use Rattle.xc_input.specs.Problem.{Puzzle}
 use Rattle.xc_dance.specs.inner.Lists.{Versions, list_at, lose, keeps_colour, AreLists, lists_after}
-use Rattle.xc_dance.proofs.MoveLemmas.{lists_hold, list_after, length_numbers, lists_covered, lists_purified}
+use Rattle.xc_dance.proofs.LosingLists.{lists_hold, list_after, length_numbers, lists_covered, lists_purified}
 use Rattle.xc_dance.proofs.lists.hide.hide_for.Goals as goal
 
 -- what is left of the lists without the options of item i that don't keep its colour

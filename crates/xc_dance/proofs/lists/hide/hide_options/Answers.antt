@@ -4,7 +4,7 @@ use Rattle.std.specs.Prelude.{Option}
 use Rattle.xc_input.specs.Problem.{Puzzle}
 use Rattle.std.proofs.lemmas.List.{take_more}
 use Rattle.xc_dance.specs.inner.Lists.{list_at, keeps_colour}
-use Rattle.xc_dance.proofs.MoveLemmas.{lose_none, lose_more, length-lose_from, lists-lose_from, read_option}
+use Rattle.xc_dance.proofs.LosingLists.{lose_none, lose_more, length-lose_from, lists-lose_from, read_option}
 use Rattle.xc_dance.proofs.lists.hide.hide_options.Goals as goal
 
 abbrev gone : Puzzle → ℕ → Option ℕ → List ℕ → List ℕ

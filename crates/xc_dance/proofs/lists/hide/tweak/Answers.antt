@@ -1,8 +1,9 @@
 use Rattle.std.proofs.Common.{arith, get_or, ◌-◌}
 use Rattle.std.proofs.lemmas.Grind.{common_steps}
 use Rattle.xc_dance.specs.inner.Lists.{lists_after}
-use Rattle.xc_dance.proofs.MoveLemmas.{list_of, known_option, lists_hold, list_after, length_numbers}
-use Rattle.xc_dance.proofs.MoveLemmas.{first_hidden_lists, lists_tweaked}
+use Rattle.xc_dance.proofs.LosingLists.{list_of, lists_hold, list_after, length_numbers}
+use Rattle.xc_moves.proofs.MoveLemmas.{known_option}
+use Rattle.xc_dance.proofs.LosingLists.{first_hidden_lists, lists_tweaked}
 use Rattle.xc_dance.proofs.lists.hide.tweak.Goals as goal
 
 pub hide_if_open-requires-clause-option : goal.hide_if_open-requires-clause-option

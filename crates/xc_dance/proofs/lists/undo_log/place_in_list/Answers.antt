@@ -1,6 +1,6 @@
 use Rattle.std.proofs.Common.{Err}
 use Rattle.std.proofs.lemmas.List.Sorted.{searched}
-use Rattle.xc_dance.proofs.MoveLemmas.{less-not_found, rises_weakly}
+use Rattle.xc_dance.proofs.LosingLists.{less-not_found, rises_weakly}
 use Rattle.xc_dance.proofs.lists.undo_log.place_in_list.Goals as goal
 
 pub returns-in-Err : goal.returns-in-Err

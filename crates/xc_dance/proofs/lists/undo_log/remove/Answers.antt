@@ -1,5 +1,5 @@
 use Rattle.std.proofs.Common.{arith}
-use Rattle.xc_dance.proofs.MoveLemmas.{less-remove, row_removed}
+use Rattle.xc_dance.proofs.LosingLists.{less-remove, row_removed}
 use Rattle.std.proofs.lemmas.List.{map-set, get_or-map}
 use Rattle.xc_dance.proofs.lists.undo_log.remove.Goals as goal
 use Rattle.std.proofs.Common.{vec_capacity}

@@ -1,7 +1,7 @@
 use Rattle.std.proofs.Common.{ne_eqb}
 use Rattle.std.proofs.Common.{arith}
 use Rattle.std.proofs.Common.{◌≡◌, None, Some, subst}
-use Rattle.xc_dance.specs.Commits.{option_at, IsUseAt}
+use Rattle.xc_moves.specs.Commits.{option_at, IsUseAt}
 use Rattle.xc_search.specs.inner.Levels.{CanBranch}
 use Rattle.xc_search.proofs.LoopSteps.{at_own}
 use Rattle.xc_search.proofs.position.Position.commit_branch.Goals as goal

@@ -3,9 +3,9 @@ use Rattle.std.proofs.Math.Seq.{take-length}
 use Rattle.std.proofs.lemmas.Grind.{common_steps}
 use Rattle.xc_input.specs.declared.problem.Use.{Use}
 use Rattle.xc_input.specs.Problem.{uses_of}
-use Rattle.xc_dance.specs.Dancing.{Dancing}
-use Rattle.xc_dance.specs.Commits.{CanStand, IsUseAt, others}
-use Rattle.xc_dance.proofs.StateLemmas.{committed, stood_before, after_uses-append}
+use Rattle.xc_moves.specs.Dancing.{Dancing}
+use Rattle.xc_moves.specs.Commits.{CanStand, IsUseAt, others}
+use Rattle.xc_moves.proofs.LeftLemmas.{committed, stood_before, after_uses-append}
 use Rattle.xc_search.proofs.position.Position.commit_uses.Goals.{After-place_in-at}
 use Rattle.xc_search.proofs.position.Position.commit_uses.Goals as goal
 

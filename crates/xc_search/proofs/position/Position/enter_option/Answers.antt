@@ -1,5 +1,5 @@
 use Rattle.std.proofs.Common.{ap}
-use Rattle.xc_dance.specs.Dancing.{Dancing}
+use Rattle.xc_moves.specs.Dancing.{Dancing}
 use Rattle.xc_search.proofs.BranchLemmas.{entered}
 use Rattle.xc_search.proofs.position.Position.enter_option.Goals as goal
 

@@ -1,6 +1,6 @@
 use Rattle.std.proofs.Common.{◌≡◌, length, sym, ap, ◌∙◌, arith}
-use Rattle.xc_dance.specs.Dancing.{Dancing}
-use Rattle.xc_dance.specs.Moves.{open_items, IsOpenPrimary}
+use Rattle.xc_moves.specs.Dancing.{Dancing}
+use Rattle.xc_moves.specs.Moves.{open_items, IsOpenPrimary}
 use Rattle.xc_search.specs.inner.Levels.{IsEven}
 use Rattle.xc_search.proofs.BranchLemmas.{last_counted}
 use Rattle.xc_search.proofs.position.Position.last_choices.Goals as goal

@@ -1,9 +1,9 @@
 use Rattle.std.proofs.Common.{arith}
 use Rattle.std.proofs.Common.{◌≡◌, subst}
-use Rattle.xc_dance.specs.Dancing.{Dancing}
-use Rattle.xc_dance.specs.Fields.{link_place, first_above}
-use Rattle.xc_dance.specs.Moves.{listed_numbers}
-use Rattle.xc_dance.specs.Commits.{IsListedAt}
+use Rattle.xc_moves.specs.Dancing.{Dancing}
+use Rattle.xc_moves.specs.Places.{link_place, first_above}
+use Rattle.xc_moves.specs.Moves.{listed_numbers}
+use Rattle.xc_moves.specs.Commits.{IsListedAt}
 use Rattle.xc_search.proofs.position.Position.node_below.Goals as goal
 
 pub returns-clause-place : goal.returns-clause-place

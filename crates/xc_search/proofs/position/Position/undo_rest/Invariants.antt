@@ -1,5 +1,5 @@
 use Rattle.std.proofs.Common.{◌≡◌, length}
-use Rattle.xc_dance.specs.Dancing.{moves_made}
+use Rattle.xc_moves.specs.Dancing.{moves_made}
 use Rattle.xc_search.proofs.position.Position.undo_rest.Given as goal
 
 abbrev pub invariant-loop-self : goal.invariant-loop-self

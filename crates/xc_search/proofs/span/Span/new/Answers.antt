@@ -1,7 +1,7 @@
 use Rattle.std.proofs.Common.{ℕ, List, Option, ◌≡◌, true, false, not, sym, ap, ◌∙◌, arith}
 use Rattle.std.specs.Prelude.{option_map, ◌||◌}
 use Rattle.std.proofs.lemmas.Bool.Decides.{nat_tests}
-use Rattle.xc_dance.specs.Dancing.{Dancing}
+use Rattle.xc_moves.specs.Dancing.{Dancing}
 use Rattle.xc_search.specs.Spans.{is_before}
 use Rattle.xc_search.specs.Cover.{members}
 use Rattle.xc_search.specs.inner.Levels.{Levels, coming, most_levels}

@@ -1,5 +1,5 @@
 use Rattle.std.proofs.Common.{arith, true, false, None, subst, refl, ap, inl}
-use Rattle.xc_dance.specs.Dancing.{Dancing}
+use Rattle.xc_moves.specs.Dancing.{Dancing}
 use Rattle.xc_search.specs.inner.Ahead.{Pays}
 use Rattle.xc_search.specs.inner.Spanning.{RunsTo}
 use Rattle.xc_search.proofs.BranchLemmas.{solved_moved}

@@ -1,5 +1,5 @@
 use Rattle.std.proofs.Common.{arith, ap, ◌∙◌}
-use Rattle.xc_dance.specs.Dancing.{Dancing, moves_made}
+use Rattle.xc_moves.specs.Dancing.{Dancing, moves_made}
 use Rattle.xc_search.specs.inner.Levels.{Levels}
 use Rattle.xc_search.proofs.LoopSteps.{starts_standing, starts_coming, starts_ends}
 use Rattle.xc_search.proofs.Completeness.{each_member_covers, each_cover_is_listed_once}

@@ -1,5 +1,5 @@
 use Rattle.std.proofs.Common.{◌≡◌}
-use Rattle.xc_dance.specs.Moves.{next_above, open_items}
+use Rattle.xc_moves.specs.Moves.{next_above, open_items}
 use Rattle.xc_dance.proofs.lists.trail.Trail.open_after.Given as goal
 
 abbrev pub invariant-loop-at : goal.invariant-loop-at

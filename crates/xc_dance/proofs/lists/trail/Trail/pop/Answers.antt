@@ -3,8 +3,8 @@ use Rattle.std.proofs.Common.{arith, ◌≡◌, reverse, [], ◌∷◌, List, eq
 use Rattle.std.proofs.lemmas.Grind.{common_steps, get_or_default_zero}
 use Rattle.xc_input.specs.Problem.{Puzzle}
 use Rattle.std.proofs.lemmas.Bool.{ne_eqb}
-use Rattle.xc_dance.specs.declared.dance.Move.{Move}
-use Rattle.xc_dance.specs.Moves.{AreLegal}
+use Rattle.xc_moves.specs.declared.dance.Move.{Move}
+use Rattle.xc_moves.specs.Moves.{AreLegal}
 use Rattle.xc_dance.specs.inner.Lists.{AreStates, AreLeft}
 use Rattle.xc_dance.proofs.lists.trail.Trail.pop.Goals as goal
 use Rattle.xc_dance.specs.declared.lists.state.ItemState.TheVariants.{Open}

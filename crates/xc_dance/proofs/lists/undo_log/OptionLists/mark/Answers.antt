@@ -1,6 +1,6 @@
 use Rattle.std.proofs.Common.{arith}
 use Rattle.std.proofs.lemmas.Grind.{common_steps}
-use Rattle.xc_dance.proofs.MoveLemmas.{length-lists_at_marks, marks_weaker, restored_at}
+use Rattle.xc_dance.proofs.LosingLists.{length-lists_at_marks, marks_weaker, restored_at}
 use Rattle.xc_dance.proofs.lists.undo_log.OptionLists.mark.Goals as goal
 
 pub push_reserved-requires : goal.push_reserved-requires

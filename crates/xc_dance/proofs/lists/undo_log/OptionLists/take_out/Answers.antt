@@ -2,7 +2,7 @@ use Rattle.std.proofs.lemmas.List.Edits.{length-insert}
 use Rattle.std.proofs.Common.{arith, reverse, length}
 use Rattle.std.proofs.lemmas.Grind.{common_steps}
 use Rattle.xc_dance.specs.inner.Lists.{rooms_of}
-use Rattle.xc_dance.proofs.MoveLemmas.{marks_more, marks_weaker}
+use Rattle.xc_dance.proofs.LosingLists.{marks_more, marks_weaker}
 use Rattle.xc_dance.proofs.lists.undo_log.OptionLists.take_out.Goals as goal
 
 pub invariant_of-self : goal.invariant_of-self

@@ -1,7 +1,0 @@
-use Rattle.std.proofs.Common.{◌≡◌, drop}
-use Rattle.xc_dance.proofs.StateLemmas.{committed}
-use Rattle.xc_dance.proofs.dance.Dance.commit_uses.Given as goal
-
-abbrev pub invariant-loop-u : goal.invariant-loop-u
-invariant-loop-u g l =
-    committed (drop l.u-index l.uses) (g.Self.Dance.state l.self) ≡ committed l.uses (g.Self.Dance.state l.initial.self)

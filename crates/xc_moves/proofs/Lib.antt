@@ -1,0 +1,4 @@
+pub mod MoveLemmas
+pub mod LeftLemmas
+pub mod PlaceLemmas
+pub mod PlaceAnswers

@@ -1,0 +1,6 @@
+pub mod Counted
+pub mod Moves
+pub mod Dancing
+pub mod Places
+pub mod Commits
+pub mod inner
