@@ -25,8 +25,8 @@ from typing import NamedTuple
 
 TOP = Path(__file__).resolve().parent.parent
 # Each uses some of those before it.
-CRATES = ["xc_input", "xc_moves", "xc_dance", "xc_search", "xc_list", "xc_tools", "xc_c", "natural", "xc_count"]
-CRATES += ["xc_count_run"]
+CRATES = ["xc_input", "xc_moves", "xc_streams", "xc_dance", "xc_search", "xc_list", "xc_tools", "xc_c", "natural"]
+CRATES += ["xc_count", "xc_count_run"]
 AT_ONCE = 12
 # A header of methods, or a function with its attributes.
 FUNCTION = re.compile(

@@ -2,7 +2,7 @@
 ghost use Rattle.std.specs.Prelude.{◌≡◌, map, length, codes};
 ghost use Rattle.xc_input.specs.Named.{Named};
 ghost use Rattle.xc_search.specs.Cover.{members};
-ghost use Rattle.xc_list.specs.Texts.{seen, WasTold};
+ghost use Rattle.xc_streams.specs.Texts.{seen, WasTold};
 ghost use Rattle.xc_tools.specs.WholeRuns.{no_problem, sinks};
 ghost use Rattle.xc_count_run.specs.Counts.{DidAnswer, DidCount, DidCountWords, DidWarnAndAnswer, Reports};
 ghost use Rattle.xc_count_run.specs.LastLine.{Concludes};

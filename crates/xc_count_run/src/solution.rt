@@ -2,7 +2,7 @@
 ghost use Rattle.std.specs.Prelude.{◌≡◌, ◌⊎◌, ◌++◌, All, IfOk, codes, flat_map};
 ghost use Rattle.std.specs.Str.Parse.{digits_value};
 ghost use Rattle.natural.specs.Numerals.{numeral};
-ghost use Rattle.xc_list.specs.Texts.{WasTold, Writes};
+ghost use Rattle.xc_streams.specs.Texts.{WasTold, Writes};
 ghost use Rattle.xc_list.specs.Output.{choice_text};
 ghost use Rattle.xc_list.specs.Known.{IsKnownChoice};
 ghost use Rattle.xc_tools.specs.WholeRuns.{sinks, Prints};
@@ -49,7 +49,7 @@ fn tell_fewer<E: Sink>(alloc: Global, number: &Natural, err: &mut E) -> u8
 }
 
 /// Writes a solution after the line of its number.
-#[tactic(auto, using(xc_list::proofs::Writing::then_writes))]
+#[tactic(auto, using(xc_streams::proofs::SinkLemmas::then_writes))]
 fn write_numbered<O: Sink>(
     header: &[u8],
     choices: &[Choice],

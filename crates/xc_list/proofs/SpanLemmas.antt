@@ -32,7 +32,7 @@ use Rattle.xc_search.specs.Nodes.{IsRowOf}
 use Rattle.xc_search.proofs.RowLemmas.{not_itself, not_before_before, before_either_way, spans_meet}
 use Rattle.xc_search.proofs.SpanRuns.{none_long}
 use Rattle.xc_search.proofs.EndLemmas.{ends_on}
-use Rattle.xc_list.specs.Texts.{SinkState, Took, BrokeOff}
+use Rattle.xc_streams.specs.Texts.{SinkState, Took, BrokeOff}
 use Rattle.xc_list.specs.SpanTexts.{row_text, end_at, branches_text, record_text, span_text, problem_part}
 use Rattle.xc_list.specs.inner.Writing.{dotted, numbers_text, text_at, row_in, branches_in, left_at, WentOn, GoesFew}
 use Rattle.xc_list.specs.inner.Writing.{until_text, counts_text, told_text, written_text, BeginsAt}
@@ -41,7 +41,8 @@ use Rattle.xc_list.specs.SpanWords.{AskedSpan, is_span}
 use Rattle.xc_list.specs.Known.{IsKnownChoice}
 use Rattle.xc_list.specs.Digests.{digest_of}
 use Rattle.xc_list.specs.SearchedSpans.{AreSmall, IsSpan}
-use Rattle.xc_list.proofs.Writing.{then_took, then_broke, broke_before, first_texts, texts_broke, within_next}
+use Rattle.xc_streams.proofs.SinkLemmas.{then_took, then_broke, broke_before}
+use Rattle.xc_list.proofs.Writing.{first_texts, texts_broke, within_next}
 use Rattle.xc_list.proofs.Writing.{take_next, rest_next, all_done, branches_small, numbers_small}
 use Rattle.xc_list.proofs.OutputLemmas.{members_known}
 

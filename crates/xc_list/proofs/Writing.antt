@@ -4,14 +4,12 @@ use Rattle.std.proofs.Common.{append_assoc, arith, ◌+◌, ◌<◌, [], ◌∷�
 use Rattle.std.proofs.Common.{suc, refl, ◌*◌, ◌^◌, cond, ◌&&◌, nat_lt, le_trans, le-ltb, true, false, map, take_all}
 use Rattle.std.proofs.Common.{filter, sym, add-one, lt-ltb, ◌/◌, ◌%◌, Bool}
 use Rattle.std.proofs.lemmas.Grind.{common_steps}
-use Rattle.std.specs.Io.KnownBytes.{Appends, Keeps}
-use Rattle.std.specs.Prelude.{MatchResult, flat_map, IsErr, codes, All, ◌==◌, decimal, fold, slice_get, slice_set, ◌||◌}
+use Rattle.std.specs.Prelude.{flat_map, codes, All, ◌==◌, decimal, fold, slice_get, slice_set, ◌||◌}
 use Rattle.std.specs.Prelude.{nat_le}
-use Rattle.std.proofs.KnownBytes.{Appends-nil}
 use Rattle.std.proofs.lemmas.Bool.Decides.{nat_tests}
 use Rattle.std.proofs.lemmas.List.Concat.{flat_map-append}
 use Rattle.std.proofs.Math.Seq.{take-append-add, take-add, drop-cons, drop-append-add}
-use Rattle.std.proofs.lemmas.List.{take-append-le, drop_more, drop-drop, take-take, take-append-drop, length-drop}
+use Rattle.std.proofs.lemmas.List.{drop_more, drop-drop, take-take, take-append-drop, length-drop}
 use Rattle.std.proofs.lemmas.List.{drop-set-lt, drop-append-le, length-take, length-take-le, drop-set, drop-set-add}
 use Rattle.std.proofs.lemmas.List.{length-map}
 use Rattle.std.specs.Char.{is_ascii_digit}
@@ -28,7 +26,6 @@ use Rattle.std.specs.Int.{byte_at, bytes_high_first, to_be_bytes, w64}
 use Rattle.std.proofs.lemmas.List.Folds.{list_all_at}
 use Rattle.xc_input.specs.declared.problem.Use.{Use}
 use Rattle.xc_input.specs.UsePlaces.{place_in}
-use Rattle.xc_input.specs.Calls.{Rose}
 use Rattle.xc_input.specs.Named.{Named, IsSound}
 use Rattle.xc_input.proofs.TokenLemmas.{value_from, digits_read}
 use Rattle.xc_input.proofs.ListLemmas.{drop_at, slice_get-drop, by_option, in-slice_get, each_in, by_bool}
@@ -43,9 +40,10 @@ use Rattle.xc_search.specs.Nodes.{IsRowOf}
 use Rattle.xc_search.specs.inner.Levels.{size_of}
 use Rattle.xc_search.proofs.LoopSteps.{drop_past, shown_next, shown_past}
 use Rattle.xc_search.proofs.ListingLemmas.{few_branches, branches_less}
+use Rattle.xc_streams.proofs.SinkLemmas.{then_took, then_broke, broke_before}
 use Rattle.xc_list.specs.inner.Writing.{colour_text, printed_text, StandsAt, Puts, held_text, digest_start}
 use Rattle.xc_list.specs.Output.{bytes_at, from_item, output, is_printed, member_text}
-use Rattle.xc_list.specs.Texts.{SinkState, Took, BrokeOff, Writes}
+use Rattle.xc_streams.specs.Texts.{SinkState, Took, BrokeOff}
 use Rattle.xc_list.specs.Settings.{long_number, read_word}
 use Rattle.xc_list.specs.SpanTexts.{row_text}
 use Rattle.xc_list.specs.SpanWords.{row_numbers, row_word}
@@ -60,85 +58,15 @@ use lib.Lanes.{put_chunk, chunk}
 use Rattle.hex.specs.Hex.{encode_with, lower_digits}
 use Rattle.hex.proofs.HexLemmas.{length-encode_with}
 
--- ======== What follows when a sink takes one text after another.
-
-pub appends_more : (a b c : Option (List ℕ)) (xs ys : List ℕ) → Appends a b xs → Appends b c ys → Appends a c (xs ++ ys)
-appends_more None b c xs ys p q = tt
-appends_more (Some x) None c xs ys p q = absurd p
-appends_more (Some x) (Some y) None xs ys p q = absurd q
-appends_more (Some x) (Some y) (Some z) xs ys p q = q ∙ ap (λ l. l ++ ys) p ∙ append_assoc x xs ys
-
-pub appends_kept : (a b c : Option (List ℕ)) (xs : List ℕ) → Appends a b xs → Keeps b c → Appends a c xs
-appends_kept None b c xs p q = tt
-appends_kept (Some x) None c xs p q = absurd p
-appends_kept (Some x) (Some y) None xs p q = absurd q
-appends_kept (Some x) (Some y) (Some z) xs p q = q ∙ p
-
--- the front that was taken, and then all of the rest but its own front
-pub front_more : (written rest : List ℕ) (n : ℕ) → n ≤ length rest
-    → written ++ rest ≡ (written ++ take n rest) ++ take (length rest - n) (drop n rest)
-front_more written rest n h = grind (arith, common_steps)
-
--- ======== What a sink has taken, text after text.
-
-pub flat_map-take-more : {X : Type 0} (f : X → List ℕ) (xs : List X) (i : ℕ) (d : X) → i < length xs
-    → flat_map f (take (i + 1) xs) ≡ flat_map f (take i xs) ++ f (get_or xs i d)
-flat_map-take-more f xs i d h = grind (arith, common_steps, flat_map-append, append-nil)
-
-pub flat_map-parts : {X : Type 0} (f : X → List ℕ) (xs : List X) (i : ℕ) (d : X) → i < length xs
-    → flat_map f xs ≡ flat_map f (take i xs) ++ f (get_or xs i d) ++ flat_map f (drop (i + 1) xs)
-flat_map-parts f xs i d h =
-    let all : xs ≡ take (i + 1) xs ++ drop (i + 1) xs = grind (arith, common_steps) in
-    cc (all, flat_map-append f (take (i + 1) xs) (drop (i + 1) xs), flat_map-take-more f xs i d h)
+-- ======== The texts of a list, one after another.
 
 pub one_more : {X A : Type 0} (f : X → List A) (xs : List X) (x : X)
     → flat_map f (xs ++ x ∷ []) ≡ flat_map f xs ++ f x
 one_more f xs x = flat_map-append f xs (x ∷ []) ∙ ap (λ ys. flat_map f xs ++ ys) (append-nil (f x))
 
-pub took_nothing : (s : SinkState) → Took s s []
-took_nothing s = record { no_failure = refl; whole = Appends-nil s.taken; unflushed = refl }
-
-pub then_took : {a b c : SinkState} {s t : List ℕ} → Took a b s → Took b c t → Took a c (s ++ t)
-then_took {a = a} {b = b} {c = c} {s = s} {t = t} p q = grind (arith, nat_tests, appends_more)
-
--- it broke off behind a text that it took
-pub then_broke : {a b c : SinkState} {s t : List ℕ} → Took a b s → BrokeOff b c t → BrokeOff a c (s ++ t)
-then_broke {a = a} {b = b} {c = c} {s = s} {t = t} p q = record {
-  failure = subst (λ n. Rose n c.failures) p.no_failure q.failure;
-  last = q.last;
-  many = length s + q.many;
-  part = grind (arith, common_steps, q.part);
-  begun = rw (take-append-add s t q.many) (appends_more a.taken b.taken c.taken s (take q.many t) p.whole q.begun);
-  unflushed = q.unflushed ∙ p.unflushed;
-}
-
--- it broke off before a text
-pub broke_before : {a b : SinkState} {s : List ℕ} (t : List ℕ) → BrokeOff a b s → BrokeOff a b (s ++ t)
-broke_before {a = a} {b = b} {s = s} t p = grind (arith, common_steps, nat_tests, take-append-le)
-
-pub then_writes : {E : Type 0} {a b : SinkState} {s : List ℕ} (c : SinkState) (t : List ℕ) (r : Result (Unit {0}) E)
-    → Took a b s → Writes b c r t → Writes a c r (s ++ t)
-then_writes c t (Ok u) p q = then_took p q
-then_writes c t (Err e) p q = then_broke p q
-
--- what is so where a call failed
-pub if_failed : {X E Q : Type 0} (P : X → Type 0) (r : Result X E) → IsErr r → Q → MatchResult r P (λ _. Q)
-if_failed P (Ok x) is q = absurd (cc is)
-if_failed P (Err e) is q = q
-
-pub failed : {E : Type 0} {a b : SinkState} {s : List ℕ} (r : Result (Unit {0}) E) → IsErr r → BrokeOff a b s
-    → Writes a b r s
-failed {a = a} {b = b} {s = s} r is broke = if_failed (λ _. Took a b s) r is broke
-
 pub colour_text-some : (cs : List (List ℕ)) (c : ℕ) → 0 < c → colour_text cs c ≡ codes ":" ++ bytes_at cs c
 colour_text-some cs zero h = absurd (omega (arith, h))
 colour_text-some cs (suc c) h = grind (arith, nat_tests)
-
--- a loop over elements ended where a text was not taken
-pub loop_failed : {X E : Type 0} {a b c : SinkState} (f : X → List ℕ) (xs : List X) (i : ℕ) (d : X)
-    (r : Result (Unit {0}) E) → IsErr r → i < length xs → Took a b (flat_map f (take i xs))
-    → BrokeOff b c (f (get_or xs i d)) → Writes a c r (flat_map f xs)
-loop_failed f xs i d r is h p q = rw (flat_map-parts f xs i d h) (failed r is (broke_before _ (then_broke p q)))
 
 pub option_texts : (f : Use → List ℕ) (item : ℕ) (all us before after : List Use) (p : ℕ) → us ≡ all
     → p ≡ place_in item us

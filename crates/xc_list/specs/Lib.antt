@@ -10,6 +10,5 @@ pub mod Settings
 pub mod SpanRuns
 pub mod SpanTexts
 pub mod SpanWords
-pub mod Texts
 pub mod Worked
 pub mod inner

@@ -1,6 +1,6 @@
 //! What the definitions say of worked problems and words.
 ghost use Rattle.std.specs.Prelude.{ℕ, ◌≡◌, ◌↔◌, true, ◌<◌, ◌-◌, ◌^◌, All, List, [], ◌∷◌, ◌++◌, codes, Ok, Err, Some};
-ghost use Rattle.xc_input.specs.Laws.{DecidesEquality, IsEqualClone};
+ghost use Rattle.xc_input.specs.Laws.{IsEqualClone};
 ghost use Rattle.xc_input.specs.Named.{Named, IsSound};
 ghost use Rattle.xc_list.specs.Digests.{problem_numbers};
 ghost use Rattle.xc_list.specs.Messages.{summary_text};
@@ -14,10 +14,9 @@ ghost use Rattle.xc_list.specs.declared.ends.End.TheVariants.{Done, Limit};
 ghost use Rattle.xc_list.specs.declared.words.WordFault.TheVariants.{Unknown, BadNumber, ZeroLimit};
 
 use crate::ends::{End, SpanFault};
-use crate::sink::WriteFailed;
 use crate::verdict::{ListingFault, Verdict};
 use crate::words::{WordFault, Words};
-use crate::write::SinkFault;
+pub use xc_streams::laws::equal_failures;
 
 /// Two ends of runs are equal exactly if they are the same.
 pub fn equal_ends(a: &End, b: &End) -> bool
@@ -60,12 +59,6 @@ pub fn equal_span_faults(a: &SpanFault, b: &SpanFault) -> bool
 {
     a == b
 }
-
-/// Two failures of a sink are equal.
-pub fn equal_failures()
-    ensures writes { DecidesEquality ⟦<WriteFailed as PartialEq>⟧.eq }
-    ensures sinks { DecidesEquality ⟦<SinkFault as PartialEq>⟧.eq }
-{}
 
 /// A clone of a value of any of these types is equal to it.
 pub fn clones()

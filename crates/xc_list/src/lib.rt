@@ -20,34 +20,29 @@ mod digest;
 mod ends;
 mod judged_line;
 pub mod laws;
-mod line;
 mod messages;
 mod page;
 mod places;
 mod print;
 mod runs;
-mod sink;
 mod span_words;
 mod spans;
 mod uses;
-mod vec_sink;
 mod verdict;
 mod words;
-mod write;
 
 pub use asked::SpanWords;
 pub use checker::{branch_number, check};
 pub use cover_test::is_cover;
 pub use digest::problem_digest;
 pub use ends::{End, SpanFault};
-pub use line::write_line;
 pub use messages::{summary, warnings, word_fault};
 pub use print::{write_choices, write_solution};
 pub use runs::{run, run_over, run_over_links};
-pub use sink::{Sink, Tray, WriteFailed};
 pub use spans::{list_span, list_span_over};
-pub use vec_sink::VecSink;
 pub use verdict::{ListingFault, Verdict};
 pub use words::{WordFault, Words};
-pub use write::{SinkFault, write_all, write_number};
 pub use xc_dance::Tally as Flushes;
+pub use xc_streams::{
+    Sink, SinkFault, Tray, VecSink, WriteFailed, write_all, write_line, write_number,
+};

@@ -4,7 +4,7 @@
 //! is made by a call that the programs use.
 ghost use Rattle.std.specs.Prelude.{◌≡◌, ℕ, ◌+◌, ◌-◌, ◌<◌, ◌≤◌, false, [], All, IfOk, IsTrue, MatchResult};
 ghost use Rattle.std.specs.Prelude.{OnErr, length};
-ghost use Rattle.xc_list.specs.Texts.{seen, Writes};
+ghost use Rattle.xc_streams.specs.Texts.{seen, Writes};
 ghost use Rattle.xc_search.specs.Cover.{members, EachMemberCovers, EachCoverIsListedOnce};
 ghost use Rattle.xc_search.specs.Room.{room_for};
 ghost use Rattle.xc_search.specs.Listing.{whole};
@@ -21,13 +21,12 @@ use crate::bodies::Bodies;
 use crate::ends::End;
 use crate::page::Page;
 use crate::print::write_by_page;
-use crate::sink::Sink;
 use crate::words::Words;
-use crate::write::SinkFault;
 use std::alloc::Global;
 use xc_dance::{Dance, Links, Memory};
 use xc_input::Problem;
 use xc_search::{Walk, most_moves};
+use xc_streams::{Sink, SinkFault};
 
 /// Whether the solution with this number is printed.
 fn is_printed(spacing: u64, number: u64) -> bool

@@ -1,14 +1,13 @@
 //! Uses as text.
 ghost use Rattle.std.specs.Prelude.{◌≡◌, ◌≤◌, length, All, flat_map, OnErr, IsTrue};
-ghost use Rattle.xc_list.specs.Texts.{Writes};
+ghost use Rattle.xc_streams.specs.Texts.{Writes};
 ghost use Rattle.xc_input.specs.Problem.{IsItem, uses_of, IsOption};
 ghost use Rattle.xc_input.specs.Named.{IsKnownUse, IsSound};
 ghost use Rattle.xc_list.specs.Output.{bytes_at, from_item};
 ghost use Rattle.xc_list.specs.inner.Writing.{colour_text, use_text};
 
-use crate::sink::Sink;
-use crate::write::{SinkFault, write_all};
 use xc_input::{Problem, Use, place_in};
+use xc_streams::{Sink, SinkFault, write_all};
 
 /// The name of item `i`.
 pub fn name_of<'a>(problem: &'a Problem, i: u32) -> &'a [u8]

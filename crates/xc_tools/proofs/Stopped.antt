@@ -15,7 +15,7 @@ use Rattle.xc_input.specs.Pieces.{SourceState, Gave, GaveAll}
 use Rattle.xc_input.specs.Named.{Named, IsSound}
 use Rattle.xc_input.specs.Lines.{lines_of}
 use Rattle.xc_input.proofs.LineLemmas.{came-gave, gave_then, ended-append, gave_none}
-use Rattle.xc_list.specs.Texts.{SinkState, Took, BrokeOff, WasTold}
+use Rattle.xc_streams.specs.Texts.{SinkState, Took, BrokeOff, WasTold}
 use Rattle.xc_list.specs.SpanTexts.{most_counted}
 use Rattle.xc_list.specs.Messages.{summary_text}
 use Rattle.xc_list.specs.Runs.{end_of}
@@ -24,7 +24,7 @@ use Rattle.xc_list.specs.declared.ends.End.TheVariants.{Done, Limit}
 use Rattle.xc_list.specs.SearchedSpans.{SearchedSpan, IsSpan, text_of}
 use Rattle.xc_list.specs.SpanRuns.{searched}
 use Rattle.xc_list.specs.SpanWords.{is_span}
-use Rattle.xc_list.proofs.Writing.{then_broke, then_took, took_nothing, appends_kept}
+use Rattle.xc_streams.proofs.SinkLemmas.{then_broke, then_took, took_nothing, appends_kept}
 use Rattle.xc_tools.specs.declared.outcomes.Stop.{Stop}
 use Rattle.xc_tools.specs.declared.outcomes.Stop.TheVariants.{NotText, Other, Gap, Device, Memory, WriteFailed}
 use Rattle.xc_tools.specs.declared.joint.Joint.{Joint}
@@ -38,7 +38,7 @@ use Rattle.xc_tools.specs.Joins.{IsFirstGap, AreOfOneProblem, AreTexts, DidJoin,
 use Rattle.xc_tools.specs.Joins.{IsBeginning, OfInput, spans_in, joined, ListsWhole}
 use Rattle.xc_tools.specs.WholeRuns.{Sinks, TookAll, FailedBehind}
 use Rattle.xc_tools.specs.SpanShapes.{AreShapes, SpanText, HasShape, bytes_of}
-use Rattle.xc_tools.specs.inner.Streams.{FlushFailed, WasFlushed}
+use Rattle.xc_streams.specs.inner.Streams.{FlushFailed, WasFlushed}
 use Rattle.xc_tools.specs.SpanRuns.{AreWritten, IsWritten}
 use Rattle.xc_tools.proofs.SpanLines.{after-append, wrote-append, whole-append, shape-short, shape_of, span-short}
 use Rattle.xc_tools.proofs.SpanLines.{text-shape}

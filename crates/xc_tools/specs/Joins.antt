@@ -11,10 +11,10 @@ use Rattle.xc_list.specs.Messages.{summary_text}
 use Rattle.xc_list.specs.Output.{output}
 use Rattle.xc_list.specs.Runs.{end_of}
 use Rattle.xc_list.specs.SearchedSpans.{SearchedSpan, IsSpan, text_of}
-use Rattle.xc_list.specs.Texts.{Seen, Took, BrokeOff, WasTold}
+use Rattle.xc_streams.specs.Texts.{Seen, Took, BrokeOff, WasTold}
 use Rattle.xc_list.specs.declared.ends.End.{End}
 use Rattle.xc_tools.specs.SpanShapes.{AreShapes, SpanText}
-use Rattle.xc_tools.specs.ShownNames.{source_text, OfSource}
+use Rattle.xc_streams.specs.ShownNames.{source_text, OfSource}
 use Rattle.xc_tools.specs.WholeRuns.{Sinks, TookAll, FailedBehind, IsRefused}
 
 -- These are the texts of spans of a problem, one after another.

@@ -1,11 +1,7 @@
-pub mod Arguments
 pub mod Joins
 pub mod Judges
-pub mod Outputs
-pub mod ShownNames
 pub mod Solves
 pub mod SpanRuns
 pub mod SpanShapes
-pub mod Streams
 pub mod WholeRuns
 pub mod inner

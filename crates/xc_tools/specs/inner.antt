@@ -1,4 +1,3 @@
--- What only contracts of private functions cite: how a whole text is read.
+-- What only contracts of private functions cite: how the texts of spans are read and joined.
 pub mod SpanLines
 pub mod Joining
-pub mod Streams

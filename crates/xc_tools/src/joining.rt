@@ -11,29 +11,28 @@ ghost use Rattle.xc_input.specs.Pieces.{GaveAll};
 ghost use Rattle.xc_input.specs.LinesRead.{IsLine};
 ghost use Rattle.xc_input.specs.Words.{has};
 ghost use Rattle.xc_input.specs.inner.Feeding.{ended};
-ghost use Rattle.xc_list.specs.Texts.{seen, Took, WasTold, Writes};
+ghost use Rattle.xc_streams.specs.Texts.{seen, Took, WasTold, Writes};
 ghost use Rattle.xc_tools.specs.Joins.{asked_join, gap_text, at_line, no_text, other_text, unread_text, DidJoin};
 ghost use Rattle.xc_tools.specs.Joins.{DidJoinWords};
 ghost use Rattle.xc_tools.specs.WholeRuns.{sinks};
 ghost use Rattle.xc_tools.specs.inner.Joining.{joined_text, fed_lines, Adds, EndsAt, IsAfter, JoinsAll};
 ghost use Rattle.xc_tools.specs.inner.Joining.{StopsIn};
-ghost use Rattle.xc_tools.specs.inner.Streams.{FlushFailed, WasFlushed};
+ghost use Rattle.xc_streams.specs.inner.Streams.{FlushFailed, WasFlushed};
 ghost use Rattle.xc_tools.specs.inner.Joining.{StopsReading, ToldStop};
 ghost use Rattle.xc_tools.specs.inner.SpanLines.{act_text};
 
 use crate::joint::{Joint, Lines};
-use crate::located::Located;
 use crate::outcomes::{Act, Stop};
-use crate::shown_names::{source_at, source_text};
 use crate::solving::finish;
 use crate::span_lines::put_word;
-use crate::status::{
-    BAD_INPUT, BAD_WORDS, COMPLETE, FAILED, GAP, NO_MEMORY, flush_and_refuse, refuse, write_failed,
-};
 use itoa::Buffer;
 use std::alloc::{AllocError, Global};
 use xc_input::{Given, LineReader};
 use xc_list::{End, Sink, SinkFault, write_all, write_line};
+use xc_streams::status::{
+    BAD_INPUT, BAD_WORDS, COMPLETE, FAILED, GAP, NO_MEMORY, flush_and_refuse, refuse, write_failed,
+};
+use xc_streams::{Located, source_at, source_text};
 
 /// Writes what is to be written for a line, which comes with its line feed.
 fn write_act<O: Sink>(act: Act, with_feed: &[u8], out: &mut O) -> Result<(), SinkFault>

@@ -5,21 +5,21 @@ ghost use Rattle.std.specs.List.{list_all};
 ghost use Rattle.std.specs.Io.KnownBytes.{Keeps};
 ghost use Rattle.xc_input.specs.Named.{Named};
 ghost use Rattle.xc_input.specs.Pieces.{IsWhole};
-ghost use Rattle.xc_list.specs.Texts.{seen, Writes, Begins};
+ghost use Rattle.xc_streams.specs.Texts.{seen, Writes, Begins};
 ghost use Rattle.xc_list.specs.declared.verdict.Verdict.{Verdict};
 ghost use Rattle.xc_tools.specs.WholeRuns.{sinks, Prints};
 ghost use Rattle.xc_tools.specs.Judges.{asked_kind, numbered_kind, verdict_text, HasVerdicts};
 ghost use Rattle.xc_tools.specs.Judges.{DidJudgeListing, DidJudge};
 
 use crate::failures::{listing_fault, no_problem};
-use crate::status::{
-    BAD_INPUT, BAD_WORDS, COMPLETE, FAILED, NO_MEMORY, NOT_ALL_COVERS, flushed, out_of_memory,
-    refuse, write_failed,
-};
-use crate::whole_text::{TextError, read_text};
 use std::alloc::Global;
 use xc_input::{Kind, Problem, Source, read_problem};
 use xc_list::{ListingFault, Sink, SinkFault, Verdict, check, write_all, write_number};
+use xc_streams::status::{
+    BAD_INPUT, BAD_WORDS, COMPLETE, FAILED, NO_MEMORY, NOT_ALL_COVERS, flushed, out_of_memory,
+    refuse, write_failed,
+};
+use xc_streams::{TextError, read_text};
 
 /// The kind of problem that a number stands for.
 pub(crate) fn numbered_kind(word: &[u8]) -> Option<Kind>

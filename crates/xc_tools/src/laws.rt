@@ -1,6 +1,5 @@
-//! What a join of the texts that runs over spans wrote is, and that answers of the system are compared as they are.
+//! What a join of the texts that runs over spans wrote is.
 ghost use Rattle.std.specs.Prelude.{ℕ, ◌≡◌, Bool, List, [], flat_map};
-ghost use Rattle.xc_input.specs.Laws.{DecidesEquality, IsEqualClone};
 ghost use Rattle.xc_input.specs.Named.{Named, IsSound};
 ghost use Rattle.xc_list.specs.Runs.{end_of};
 ghost use Rattle.xc_list.specs.declared.ends.End.{End};
@@ -10,7 +9,7 @@ ghost use Rattle.xc_tools.specs.Joins.{joined, spans_in, AreTexts, DoMeet, Lists
 ghost use Rattle.xc_tools.specs.SpanRuns.{AreWritten};
 ghost use Rattle.xc_tools.specs.SpanShapes.{AreShapes, SpanText};
 
-use crate::system::Answer;
+pub use xc_streams::laws::answers;
 
 /// Texts that runs over spans of one problem wrote, each from where the one before it stopped, are the texts of spans
 /// that meet.
@@ -31,10 +30,4 @@ pub fn texts_have_shapes()
     ensures { (a : Named) (listed : Bool) (spans : List SearchedSpan) (bytes : List ℕ) → IsSound a →
         AreTexts a listed spans bytes →
         (texts : List SpanText) × AreShapes listed texts bytes × (spans_in texts ≡ spans) }
-{}
-
-/// Two answers of the system are equal exactly if they are the same, and a clone of one is the same.
-pub fn answers()
-    ensures equality { DecidesEquality ⟦<Answer as PartialEq>⟧.eq }
-    ensures clones { IsEqualClone ⟦<Answer as Clone>⟧.is_clone }
 {}

@@ -8,47 +8,29 @@
 //! ```
 #![tactic(auto)]
 
-mod arguments;
-mod closed_streams;
-mod direct;
 mod failures;
 mod headings;
-mod incoming;
 mod joining;
 mod joint;
 mod judging;
 pub mod laws;
-mod lazy_file;
-mod located;
 mod outcomes;
-mod outgoing;
 mod programs;
 mod rising;
-mod seeding;
-mod shown_names;
 mod solving;
 mod span_lines;
 mod span_run;
-mod span_source;
 mod span_words;
-mod status;
-mod system;
-mod whole_text;
 
-pub use arguments::{Arguments, CommandLine, named_file, read_words, words};
-pub use closed_streams::{StandardStream, closed_stream};
-pub use direct::Direct;
 pub use failures::{input_error, listing_fault};
-pub use incoming::Incoming;
 pub use joining::{asked_join, join_spans};
 pub use judging::{asked_kind, judge};
-pub use lazy_file::NamedFile;
-pub use located::{Located, Place};
-pub use outgoing::Outgoing;
 pub use programs::{exit_code, run_solver};
-pub use seeding::{RandomBytes, random_seed};
 pub use solving::solve;
 pub use span_run::solve_span;
-pub use span_source::{SpanFiles, span_files};
-pub use status::{flushed, out_of_memory, write_failed};
-pub use system::{Answer, System, SystemReader, SystemWriter};
+pub use xc_streams::status::{flushed, out_of_memory, write_failed};
+pub use xc_streams::{
+    Answer, Arguments, CommandLine, Direct, Incoming, Located, NamedFile, Outgoing, Place,
+    RandomBytes, SpanFiles, StandardStream, System, SystemReader, SystemWriter, closed_stream,
+    named_file, random_seed, read_words, span_files, words,
+};

@@ -2,17 +2,13 @@
 ghost use Rattle.std.specs.Prelude.{◌≡◌, MatchResult};
 ghost use Rattle.std.specs.Process.{exit_status};
 
-use crate::arguments::words;
-use crate::direct::Direct;
-use crate::incoming::Incoming;
-use crate::outgoing::Outgoing;
-use crate::seeding::random_seed;
 use crate::solving::solve;
-use crate::status::out_of_memory;
 use std::alloc::AllocError;
 use std::io::IsTerminal;
 use std::process::ExitCode;
 use xc_input::Kind;
+use xc_streams::status::out_of_memory;
+use xc_streams::{Direct, Incoming, Outgoing, random_seed, words};
 
 /// The exit code of a program with this status, or 4, which is reported, if there was no memory for its words and
 /// streams.

@@ -2,16 +2,16 @@
 ghost use Rattle.std.specs.Prelude.{◌≡◌, IfOk, IsTrue, OnErr, map, option_map, codes};
 ghost use Rattle.xc_input.specs.Named.{IsSound};
 ghost use Rattle.xc_list.specs.SpanWords.{asked_of};
-ghost use Rattle.xc_list.specs.Texts.{seen, WasTold};
+ghost use Rattle.xc_streams.specs.Texts.{seen, WasTold};
 ghost use Rattle.xc_tools.specs.WholeRuns.{sinks};
 ghost use Rattle.xc_tools.specs.SpanRuns.{asked_span, take_memory_of, DidSpan, DidSpanWords};
 
 use crate::failures::no_problem;
 use crate::judging::numbered_kind;
-use crate::status::{BAD_WORDS, COMPLETE, flushed, out_of_memory, refuse, write_failed};
 use std::alloc::{AllocError, Global};
 use xc_input::{Kind, Problem, Source, read_problem};
 use xc_list::{Sink, SpanFault, SpanWords, list_span};
+use xc_streams::status::{BAD_WORDS, COMPLETE, flushed, out_of_memory, refuse, write_failed};
 
 /// Reports which words there are.
 fn refuse_words<E: Sink>(err: &mut E) -> u8

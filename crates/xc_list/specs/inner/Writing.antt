@@ -22,7 +22,7 @@ use Rattle.xc_search.specs.declared.went.Halt.TheVariants.{Member, End, Steps}
 use Rattle.xc_list.specs.Output.{bytes_at, use_word, choice_text, member_text, is_printed}
 use Rattle.xc_list.specs.declared.places.TheConstants.{PADDING, LINES}
 use Rattle.xc_list.specs.declared.places.Line.{Line}
-use Rattle.xc_list.specs.Texts.{SinkState, Took, BrokeOff}
+use Rattle.xc_streams.specs.Texts.{SinkState, Took, BrokeOff}
 use Rattle.xc_list.specs.declared.places.Held.{Held}
 use Rattle.xc_list.specs.Digests.{length_first}
 use Rattle.xc_list.specs.declared.ends.End.{End as RunEnd}

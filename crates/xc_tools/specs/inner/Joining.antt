@@ -6,9 +6,9 @@ use Rattle.xc_input.specs.inner.Feeding.{ended, AreWhole}
 use Rattle.xc_input.specs.Pieces.{SourceState, Gave, GaveAll}
 use Rattle.xc_input.specs.declared.line_reader.Unread.{Unread}
 use Rattle.xc_input.specs.declared.line_reader.Unread.TheVariants as unread
-use Rattle.xc_list.specs.Texts.{SinkState, Took, BrokeOff, WasTold}
+use Rattle.xc_streams.specs.Texts.{SinkState, Took, BrokeOff, WasTold}
 use Rattle.xc_tools.specs.Joins.{ToldGap, ToldOther, no_text, unread_text}
-use Rattle.xc_tools.specs.ShownNames.{OfSource}
+use Rattle.xc_streams.specs.ShownNames.{OfSource}
 use Rattle.std.specs.Prelude.{codes}
 use Rattle.xc_tools.specs.declared.joint.Lines.{Lines}
 use Rattle.xc_tools.specs.declared.outcomes.Stop.{Stop}
@@ -16,7 +16,7 @@ use Rattle.xc_tools.specs.declared.outcomes.Stop.TheVariants.{NotText, Other, Ga
 use Rattle.xc_tools.specs.declared.joint.Joint.{Joint}
 use Rattle.xc_tools.specs.declared.outcomes.Refusal.{Refusal}
 use Rattle.xc_tools.specs.declared.outcomes.Refusal.TheVariants as refusals
-use Rattle.xc_tools.specs.inner.Streams.{FlushFailed, WasFlushed}
+use Rattle.xc_streams.specs.inner.Streams.{FlushFailed, WasFlushed}
 use Rattle.xc_tools.specs.inner.SpanLines.{Stand, goes, faulty, mixed, apart, stand_after, join_of, start, wrote}
 
 -- the state after lines from the beginning on

@@ -1,5 +1,6 @@
 use Rattle.std.proofs.lemmas.Grind.{common_steps}
-use Rattle.xc_list.proofs.Writing.{took_nothing, if_failed, line_put, lines_broke}
+use Rattle.xc_streams.proofs.SinkLemmas.{took_nothing, if_failed}
+use Rattle.xc_list.proofs.Writing.{line_put, lines_broke}
 use Rattle.std.proofs.Common.{arith, refl, []}
 use Rattle.std.proofs.lemmas.List.Elements.{All-tail}
 use Rattle.xc_list.specs.Known.{IsKnownChoice}

@@ -1,6 +1,6 @@
 use Rattle.xc_list.specs.SpanWords.{asked_of}
-use Rattle.xc_list.specs.Texts.{Took, BrokeOff}
-use Rattle.xc_list.proofs.Writing.{then_took, then_broke, if_failed}
+use Rattle.xc_streams.specs.Texts.{Took, BrokeOff}
+use Rattle.xc_streams.proofs.SinkLemmas.{then_took, then_broke, if_failed}
 use Rattle.xc_list.proofs.SpanLemmas.{AreSmallWords, known_left, of_span, of_broken}
 use Rattle.xc_list.proofs.spans.write_span.Goals as goal
 use Rattle.xc_list.proofs.spans.write_span.Goals.{After-write_wanted}

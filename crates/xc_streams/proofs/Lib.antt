@@ -1,0 +1,2 @@
+pub mod SinkLemmas
+pub mod StreamLemmas

@@ -1,0 +1,18 @@
+//! That failures of sinks and answers of the system are compared as they are.
+ghost use Rattle.xc_input.specs.Laws.{DecidesEquality, IsEqualClone};
+
+use crate::sink::WriteFailed;
+use crate::system::Answer;
+use crate::write::SinkFault;
+
+/// Two failures of a sink are equal.
+pub fn equal_failures()
+    ensures writes { DecidesEquality ⟦<WriteFailed as PartialEq>⟧.eq }
+    ensures sinks { DecidesEquality ⟦<SinkFault as PartialEq>⟧.eq }
+{}
+
+/// Two answers of the system are equal exactly if they are the same, and a clone of one is the same.
+pub fn answers()
+    ensures equality { DecidesEquality ⟦<Answer as PartialEq>⟧.eq }
+    ensures clones { IsEqualClone ⟦<Answer as Clone>⟧.is_clone }
+{}

@@ -1,0 +1,61 @@
+//! Reads a whole text.
+ghost use Rattle.std.specs.Prelude.{◌≡◌, length, IfOk};
+ghost use Rattle.xc_input.specs.Pieces.{GaveAll};
+ghost use Rattle.xc_streams.specs.inner.Streams.{IsCounted};
+ghost use Rattle.xc_streams.specs.declared.whole_text.TextError.TheVariants.{Device, Memory};
+
+use std::alloc::{AllocError, Global};
+use xc_input::{ReadFailed, Source};
+
+/// How many bytes are read at once.
+const PIECE: usize = 65536;
+
+/// Why a text was not read.
+// Its two conversions are as those of `InputError`: that one has faults too, which reading a whole text can't answer.
+#[derive(Clone, Copy)]
+pub enum TextError {
+    Device,
+    Memory,
+}
+
+impl From<ReadFailed> for TextError {
+    ghost from_gives = { λ _ e. e ≡ Device };
+
+    fn from(_: ReadFailed) -> TextError {
+        TextError::Device
+    }
+}
+
+impl From<AllocError> for TextError {
+    ghost from_gives = { λ _ e. e ≡ Memory };
+
+    fn from(_: AllocError) -> TextError {
+        TextError::Memory
+    }
+}
+
+/// All that comes from a source.
+#[tactic(auto, using(std::proofs::lemmas::Grind::common_steps, xc_input::proofs::LineLemmas::gave_more))]
+pub fn read_text<S: Source>(alloc: Global, source: &mut S) -> Result<Vec<u8>, TextError>
+    ensures whole { IfOk result (λ text. GaveAll (S.state source.old) (S.state source.new) text.items) }
+    ensures counted { IsCounted (S.state source.old).failures (S.state source.new).failures result }
+{
+    let mut text = Vec::new(alloc);
+    let mut store = buffer(alloc)?;
+    let buf = store.as_mut_slice();
+    'reading: loop {
+        let n = source.read(buf)?;
+        if n == 0 {
+            return Ok(text);
+        }
+        text.extend_from_slice(&buf[..n])?;
+    }
+}
+
+/// A buffer of zeros.
+// `xc_input/src/line_reader.rt` has the same in its reader: a vector made where it is read into gets no proof.
+fn buffer(alloc: Global) -> Result<Vec<u8>, AllocError>
+    ensures { IfOk result (λ v. length v.items ≡ PIECE) }
+{
+    vec![in alloc; 0; PIECE]
+}
