@@ -1,4 +1,4 @@
-//! Listings of exact cover problems: words, texts, runs, and the checker of listings.
+//! Listings of exact cover problems: words, texts, runs, and listings judged.
 //!
 //! ```text
 //! let words = Words { spacing: 1, limit: 10 };
@@ -13,12 +13,10 @@
 
 mod asked;
 mod bodies;
-mod checker;
+mod checked;
 mod choices;
-mod cover_test;
 mod digest;
 mod ends;
-mod judged_line;
 pub mod laws;
 mod line;
 mod messages;
@@ -31,13 +29,11 @@ mod span_words;
 mod spans;
 mod uses;
 mod vec_sink;
-mod verdict;
 mod words;
 mod write;
 
 pub use asked::SpanWords;
-pub use checker::{branch_number, check};
-pub use cover_test::is_cover;
+pub use checked::check;
 pub use digest::problem_digest;
 pub use ends::{End, SpanFault};
 pub use line::write_line;
@@ -47,7 +43,7 @@ pub use runs::{run, run_over, run_over_links};
 pub use sink::{Sink, Tray, WriteFailed};
 pub use spans::{list_span, list_span_over};
 pub use vec_sink::VecSink;
-pub use verdict::{ListingFault, Verdict};
 pub use words::{WordFault, Words};
 pub use write::{SinkFault, write_all, write_number};
+pub use xc_check::{ListingFault, Verdict, branch_number, is_cover};
 pub use xc_dance::Tally as Flushes;

@@ -1,6 +1,7 @@
 use Rattle.std.proofs.Common.{arith, ◌<◌}
 use Rattle.std.proofs.lemmas.Bool.Decides.{nat_tests}
-use Rattle.xc_list.proofs.Writing.{then_writes, colour_text-some}
+use Rattle.xc_list.proofs.Writing.{then_writes}
+use Rattle.xc_check.proofs.ClassLemmas.{colour_text-some}
 use Rattle.xc_list.proofs.uses.write_colour.Goals as goal
 
 pub returns : goal.returns
