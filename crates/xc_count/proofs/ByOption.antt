@@ -21,12 +21,14 @@ use Rattle.xc_input.proofs.ListLemmas.{EachTwo-map, EachTwo-weaker, IsIn, append
 use Rattle.xc_input.proofs.ListLemmas.{contains-in, in-append, list_all-each, in-map, map-in, each_in, each_from}
 use Rattle.xc_input.proofs.ListLemmas.{AllPairs-from_each_two, each_two_from_AllPairs, in-filter, filter-in}
 use Rattle.std.proofs.Math.Bool.{or-true}
-use Rattle.xc_search.specs.Cover.{times_held, SameSet}
+use Rattle.xc_input.specs.Cover.{times_held}
+use Rattle.xc_search.specs.Cover.{SameSet}
 use Rattle.xc_search.proofs.Completeness.{is_listed, listed_in, in_listed, option_of}
 use Rattle.xc_count.specs.inner.ByOption.{Marks, may_hold, may_take, taking, all_met, ways, sets}
 use Rattle.std.proofs.lemmas.List.Elements.{All-from_recursion, recursion_from_All}
 use Rattle.xc_input.specs.Problem.{IsValid, IsSoundUse}
-use Rattle.xc_search.specs.Cover.{IsCover, members}
+use Rattle.xc_input.specs.Cover.{IsCover}
+use Rattle.xc_search.specs.Cover.{members}
 use Rattle.xc_search.proofs.ListingLemmas.{proper_whole, sound_item}
 use Rattle.xc_count.specs.inner.ByOption.{IsEachOnce}
 use Rattle.xc_count.proofs.LeftBy.{sound_uses}

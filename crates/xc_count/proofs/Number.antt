@@ -3,7 +3,8 @@ use Rattle.std.proofs.Common.{ℕ, ◌≡◌, ◌≤◌, List, length, map, arit
 use Rattle.std.proofs.lemmas.List.{length-map}
 use Rattle.std.proofs.lemmas.List.Elements.{All-from_recursion, recursion_from_All}
 use Rattle.xc_input.specs.Problem.{Puzzle, IsValid}
-use Rattle.xc_search.specs.Cover.{IsCover, SameSet, options_of, members}
+use Rattle.xc_input.specs.Cover.{IsCover}
+use Rattle.xc_search.specs.Cover.{SameSet, options_of, members}
 use Rattle.xc_input.proofs.ListLemmas.{each-map, EachTwo-map, EachTwo-weaker, AllPairs-from_each_two}
 use Rattle.xc_input.proofs.ListLemmas.{each_two_from_AllPairs, in-contains, contains-in, map-in, in-slice_get, each_in}
 use Rattle.xc_moves.proofs.MoveLemmas.{options_rise}

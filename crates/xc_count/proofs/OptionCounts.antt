@@ -14,7 +14,8 @@ use Rattle.xc_input.specs.Problem.{Puzzle, Numbered, option_count}
 use Rattle.xc_input.proofs.ListLemmas.{by_bool, EachTwo, AllPairs-from_each_two, each_two_from_AllPairs, IsIn, each_in}
 use Rattle.xc_input.proofs.OptionLemmas.{numbered_from}
 use Rattle.xc_search.specs.declared.choice.Choice.{Choice}
-use Rattle.xc_search.specs.Cover.{IsCover, members, options_of}
+use Rattle.xc_input.specs.Cover.{IsCover}
+use Rattle.xc_search.specs.Cover.{members, options_of}
 use Rattle.xc_search.specs.Outlook.{shown_after}
 use Rattle.xc_count.specs.Occurrences.{occurrences, occurrences_of, takes}
 

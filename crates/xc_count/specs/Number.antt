@@ -1,7 +1,8 @@
 -- How many covers a problem has.
 use Rattle.std.specs.Prelude.{ℕ, ◌≡◌, List, All, AllPairs, Contains, length}
 use Rattle.xc_input.specs.Problem.{Puzzle}
-use Rattle.xc_search.specs.Cover.{IsCover, SameSet}
+use Rattle.xc_input.specs.Cover.{IsCover}
+use Rattle.xc_search.specs.Cover.{SameSet}
 
 -- sets of options that are covers, no two of them the same, and every cover is one of them
 pub record AreTheCovers (p : Puzzle) (sets : List (List ℕ)) : Type 0 where

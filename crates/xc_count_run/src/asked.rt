@@ -3,33 +3,15 @@ ghost use Rattle.std.specs.Prelude.{◌≡◌, ◌==◌, map, option_map};
 ghost use Rattle.std.specs.Char.{is_ascii_digit};
 ghost use Rattle.std.specs.List.{list_all};
 ghost use Rattle.std.specs.Str.{byte};
-ghost use Rattle.xc_list.specs.Settings.{long_number};
 ghost use Rattle.xc_tools.specs.Judges.{numbered_kind};
 ghost use Rattle.xc_count_run.specs.Words.{asked_count, asked_more, bound_word, is_positive, question_word};
 ghost use Rattle.xc_count_run.specs.inner.{meaning};
 
+use xc_check::long_number;
 use xc_input::Kind;
 
 /// How many megabytes the states may take if no word says so.
 const MEGABYTES: u64 = 512;
-
-/// The number that is here in decimal.
-#[tactic(auto, using(xc_list::proofs::Writing::too_large))]
-fn long_number(digits: &[u8]) -> Option<u64>
-    ensures { result ≡ long_number digits.now }
-{
-    if digits.is_empty() {
-        return None;
-    }
-    let mut value: u64 = 0;
-    for b in digits {
-        if !b.is_ascii_digit() {
-            return None;
-        }
-        value = value.checked_mul(10)?.checked_add(u64::from(*b - b'0'))?;
-    }
-    Some(value)
-}
 
 /// Whether these are digits.
 fn are_digits(text: &[u8]) -> bool

@@ -1,6 +1,7 @@
 pub mod Limits
 pub mod Problem
 pub mod Named
+pub mod Cover
 pub mod UsePlaces
 pub mod ItemBounds
 pub mod Hashing

@@ -5,7 +5,8 @@ use Rattle.std.proofs.Common.{get_or, Some, refl, sym, ap, ◌∙◌, arith, len
 use Rattle.std.proofs.Common.{append-nil, ◌^◌, ◌<◌, true, false, None, ◌≢◌, ◌||◌, Option, inl, inr, subst, filter}
 use Rattle.std.proofs.lemmas.Option.{slice_get-map, get_or_from_slice_get}
 use Rattle.std.specs.Prelude.{option_map, flat_map, unwrap_or, codes, decimal, slice_get, All, is_some, MatchOption}
-use Rattle.std.specs.Prelude.{IsTrue}
+use Rattle.std.specs.Prelude.{IsTrue, IfOk, IfErr, MatchResult, Result, Ok, Err, Vec}
+use Rattle.std.specs.declared.alloc.Global.{Global}
 use Rattle.std.proofs.lemmas.Bool.Decides.{nat_tests}
 use Rattle.std.proofs.Math.Seq.{take-append_seam, drop-append_seam, get_or-append_seam}
 use Rattle.std.proofs.lemmas.List.{drop-append-le, drop-take, drop-drop, take-take, length-take, length-map, map-append}
@@ -36,28 +37,33 @@ use Rattle.xc_input.proofs.LineLemmas.{at_number, known_option, lines_of-ended}
 use Rattle.xc_moves.proofs.MoveLemmas.{length-numbered_from}
 use Rattle.xc_search.specs.declared.choice.Choice.{Choice}
 use Rattle.xc_search.specs.Listing.{Wanted, Residual, whole, branch_count, pick, none, Branch, branches_of, listing}
-use Rattle.xc_search.specs.Cover.{members, IsCover, options_of}
+use Rattle.xc_search.specs.Cover.{members, options_of}
+use Rattle.xc_input.specs.Cover.{IsCover}
 use Rattle.xc_search.specs.inner.Levels.{take_branch}
 use Rattle.xc_search.proofs.ListingLemmas.{in-nones, by_branches, listing_at, with_bounds, numbered_at, uses_known}
 use Rattle.xc_search.proofs.ListingLemmas.{in-level, branch_item-in, nones, item-spend_one, goes_on}
 use Rattle.xc_search.proofs.Completeness.{each_member_covers}
 use Rattle.xc_list.specs.declared.places.TheConstants.{PADDING}
-use Rattle.xc_list.specs.inner.Writing.{use_text, AreLaid, ArePadded, first_item, uses_text, colour_text}
-use Rattle.xc_list.specs.Output.{from_item, bytes_at, use_word, body_text, choice_text, member_text, is_printed, output}
-use Rattle.xc_list.specs.ListingLines.{words_in, before_last, header_number, is_word, is_ending, body_of_words}
-use Rattle.xc_list.specs.ListingLines.{branch_number, number_in_words}
-use Rattle.xc_list.specs.Settings.{long_number}
-use Rattle.xc_list.specs.inner.Listings.{Header, Body, read, Listing, listing_of}
-use Rattle.xc_list.specs.Listed.{stands_for, is_known, is_none, Solution, IsVerdictOn, AreVerdicts, IsListingFault}
-use Rattle.xc_list.specs.Listed.{fault_in_lines, solutions_of, IsListedCover}
+use Rattle.xc_list.specs.inner.Writing.{use_text, AreLaid, ArePadded, first_item, uses_text}
+use Rattle.xc_check.specs.UseTexts.{colour_text}
+use Rattle.xc_check.specs.UseTexts.{from_item, bytes_at, use_word}
+use Rattle.xc_list.specs.Output.{body_text, choice_text, member_text, is_printed, output}
+use Rattle.xc_check.specs.ListingLines.{words_in, before_last, header_number, is_word, is_ending, body_of_words}
+use Rattle.xc_check.specs.ListingLines.{branch_number, number_in_words}
+use Rattle.xc_check.specs.LongNumbers.{long_number}
+use Rattle.xc_check.specs.inner.Listings.{Header, Body, read, Listing, listing_of}
+use Rattle.xc_check.specs.Listed.{stands_for, is_known, is_none, Solution, IsVerdictOn, AreVerdicts, IsListingFault}
+use Rattle.xc_check.specs.Listed.{fault_in_lines, solutions_of, IsListedCover}
 use Rattle.xc_list.specs.Known.{IsKnownChoice}
-use Rattle.xc_list.specs.declared.verdict.Verdict.{Verdict}
-use Rattle.xc_list.specs.declared.verdict.ListingFault.{ListingFault}
-use Rattle.xc_list.specs.declared.verdict.ListingFault.TheVariants.{Memory}
-use Rattle.xc_list.proofs.ClassLemmas.{numbered_some, place_held, All-turned, is-body, any-in, at_bytes, plain-word}
-use Rattle.xc_list.proofs.ClassLemmas.{uses-in}
-use Rattle.xc_list.proofs.CheckLemmas.{before_three, known-as, listed_solutions, lines-cons}
-use Rattle.xc_list.proofs.Writing.{some_digits, number_read, colour_text-some}
+use Rattle.xc_check.specs.declared.verdict.Verdict.{Verdict}
+use Rattle.xc_check.specs.declared.verdict.ListingFault.{ListingFault}
+use Rattle.xc_check.specs.declared.verdict.ListingFault.TheVariants.{Memory}
+use Rattle.xc_check.proofs.ClassLemmas.{numbered_some, place_held, All-turned, is-body, any-in, at_bytes, plain-word}
+use Rattle.xc_check.proofs.ClassLemmas.{uses-in}
+use Rattle.xc_check.proofs.CheckLemmas.{before_three, known-as, listed_solutions, lines-cons}
+use Rattle.xc_check.proofs.NumberLemmas.{some_digits}
+use Rattle.xc_list.proofs.Writing.{number_read}
+use Rattle.xc_check.proofs.ClassLemmas.{colour_text-some}
 
 -- ======== Texts of options laid out one behind another.
 
@@ -553,13 +559,20 @@ module _ (p : Named) (sound : IsSound p) (none : All (λ n. n ≢ codes "null") 
               (each-map _ _ _ (each_weaker _ _ _ listed_cover all)),
         )
 
-    pub wants_memory : (listing : List ℕ) (e : ListingFault) → listing ≡ output p spacing limit
+    wants_memory : (listing : List ℕ) (e : ListingFault) → listing ≡ output p spacing limit
         → IsListingFault p (lines_of listing) e → e ≡ Memory
     wants_memory listing e is first = grind (arith, nat_tests, outputs_are_covers)
 
-    pub all_yes : (listing : List ℕ) (vs : List Verdict) → listing ≡ output p spacing limit
+    all_yes : (listing : List ℕ) (vs : List Verdict) → listing ≡ output p spacing limit
         → AreVerdicts p (lines_of listing) vs → All (λ v. IsTrue v.cover) vs
     all_yes listing vs is verdicts =
         All-from_recursion (λ v. IsTrue v.cover) vs
         (each_yes p (solutions_of (lines_of (output p spacing limit))) vs outputs_are_covers.1
         (subst (λ text. AreVerdicts p (lines_of text) vs) is verdicts))
+
+    -- what the checker may answer
+    pub judged : (listing : List ℕ) (r : Result (Vec Verdict Global) ListingFault) → listing ≡ output p spacing limit
+        → IfOk r (λ vs. AreVerdicts p (lines_of listing) vs.items) → IfErr r (IsListingFault p (lines_of listing))
+        → MatchResult r (λ vs. All (λ v. IsTrue v.cover) vs.items) (λ e. e ≡ Memory)
+    judged listing (Ok vs) is verdicts fault = all_yes listing vs.items is verdicts
+    judged listing (Err e) is verdicts fault = wants_memory listing e is fault

@@ -1,7 +1,7 @@
 -- What is written: texts, words, numbers and the members of a search, one after another.
 use Rattle.std.proofs.Common.{◌≡◌, ℕ, ◌≤◌, ◌-◌, List, ◌++◌, Option, None, Some, length, take, drop, ap, ◌∙◌}
 use Rattle.std.proofs.Common.{append_assoc, arith, ◌+◌, ◌<◌, [], ◌∷◌, Result, Ok, Err, get_or, append-nil, subst, zero}
-use Rattle.std.proofs.Common.{suc, refl, ◌*◌, ◌^◌, cond, ◌&&◌, nat_lt, le_trans, le-ltb, true, false, map, take_all}
+use Rattle.std.proofs.Common.{suc, refl, ◌^◌, ◌&&◌, true, false, map, take_all}
 use Rattle.std.proofs.Common.{filter, sym, add-one, lt-ltb, ◌/◌, ◌%◌, Bool}
 use Rattle.std.proofs.lemmas.Grind.{common_steps}
 use Rattle.std.specs.Prelude.{flat_map, codes, All, ◌==◌, decimal, fold, slice_get, slice_set, ◌||◌}
@@ -27,7 +27,7 @@ use Rattle.std.proofs.lemmas.List.Folds.{list_all_at}
 use Rattle.xc_input.specs.declared.problem.Use.{Use}
 use Rattle.xc_input.specs.UsePlaces.{place_in}
 use Rattle.xc_input.specs.Named.{Named, IsSound}
-use Rattle.xc_input.proofs.TokenLemmas.{value_from, digits_read}
+use Rattle.xc_input.proofs.TokenLemmas.{digits_read}
 use Rattle.xc_input.proofs.ListLemmas.{drop_at, slice_get-drop, by_option, in-slice_get, each_in, by_bool}
 use Rattle.xc_input.proofs.FaultLemmas.{COLON}
 use Rattle.xc_search.specs.declared.choice.Choice.{Choice}
@@ -41,10 +41,13 @@ use Rattle.xc_search.specs.inner.Levels.{size_of}
 use Rattle.xc_search.proofs.LoopSteps.{drop_past, shown_next, shown_past}
 use Rattle.xc_search.proofs.ListingLemmas.{few_branches, branches_less}
 use Rattle.xc_streams.proofs.SinkLemmas.{then_took, then_broke, broke_before}
-use Rattle.xc_list.specs.inner.Writing.{colour_text, printed_text, StandsAt, Puts, held_text, digest_start}
-use Rattle.xc_list.specs.Output.{bytes_at, from_item, output, is_printed, member_text}
+use Rattle.xc_check.specs.UseTexts.{colour_text}
+use Rattle.xc_list.specs.inner.Writing.{printed_text, StandsAt, Puts, held_text, digest_start}
+use Rattle.xc_check.specs.UseTexts.{bytes_at, from_item}
+use Rattle.xc_list.specs.Output.{output, is_printed, member_text}
 use Rattle.xc_streams.specs.Texts.{SinkState, Took, BrokeOff}
-use Rattle.xc_list.specs.Settings.{long_number, read_word}
+use Rattle.xc_check.specs.LongNumbers.{long_number}
+use Rattle.xc_list.specs.Settings.{read_word}
 use Rattle.xc_list.specs.SpanTexts.{row_text}
 use Rattle.xc_list.specs.SpanWords.{row_numbers, row_word}
 use Rattle.xc_list.specs.declared.words.Words.{Words}
@@ -64,33 +67,11 @@ pub one_more : {X A : Type 0} (f : X → List A) (xs : List X) (x : X)
     → flat_map f (xs ++ x ∷ []) ≡ flat_map f xs ++ f x
 one_more f xs x = flat_map-append f xs (x ∷ []) ∙ ap (λ ys. flat_map f xs ++ ys) (append-nil (f x))
 
-pub colour_text-some : (cs : List (List ℕ)) (c : ℕ) → 0 < c → colour_text cs c ≡ codes ":" ++ bytes_at cs c
-colour_text-some cs zero h = absurd (omega (arith, h))
-colour_text-some cs (suc c) h = grind (arith, nat_tests)
 
 pub option_texts : (f : Use → List ℕ) (item : ℕ) (all us before after : List Use) (p : ℕ) → us ≡ all
     → p ≡ place_in item us
     → before ≡ take p us → after ≡ drop p us → flat_map f (from_item item all) ≡ flat_map f after ++ flat_map f before
 option_texts f item all us before after p e at b a = grind (arith, flat_map-append)
-
--- ======== Numbers in decimal, digit by digit.
-
--- the number of digits behind those of a value, where it fits
-abbrev pub digits_in : ℕ → List ℕ → Option ℕ
-digits_in v bs = cond (list_all is_ascii_digit bs && nat_lt (value_from v bs) (2 ^ 64)) (Some (value_from v bs)) None
-
-value_from-le : (v : ℕ) (bs : List ℕ) → v ≤ value_from v bs
-value_from-le v [] = omega arith
-value_from-le v (b ∷ bs) = omega (arith, value_from-le (v * 10 + (b - 48)) bs)
-
-pub too_large : (bs : List ℕ) (i v : ℕ) → digits_in 0 bs ≡ digits_in v (drop i bs) → i < length bs
-    → 2 ^ 64 ≤ v * 10 + (get_or bs i 0 - 48) → long_number bs ≡ None
-too_large [] i v e l h = refl
-too_large (b ∷ bs) i v e l h = grind (arith, value_from-le, drop_more, le_trans, le-ltb)
-
-pub some_digits : (bs : List ℕ) → 0 < length bs → long_number bs ≡ digits_in 0 bs
-some_digits [] h = absurd (omega (arith, h))
-some_digits (b ∷ bs) h = refl
 
 -- ======== A row is told by its text.
 

@@ -1,7 +1,5 @@
 pub mod Digests
 pub mod Known
-pub mod Listed
-pub mod ListingLines
 pub mod Messages
 pub mod Output
 pub mod Runs

@@ -1,29 +1,12 @@
 -- The listing as text.
-use Rattle.std.specs.Prelude.{ℕ, ◌%◌, Bool, not, ◌&&◌, ◌==◌, List, [], ◌++◌, filter, take, drop, flat_map, decimal}
-use Rattle.std.specs.Prelude.{codes, Option, Some, None, if◌then◌else◌, unwrap_or}
+use Rattle.std.specs.Prelude.{ℕ, ◌%◌, Bool, not, ◌&&◌, ◌==◌, List, ◌++◌, filter, take, flat_map, decimal}
+use Rattle.std.specs.Prelude.{codes, Option, Some, None}
 use Rattle.std.specs.List.{enumerate_from}
-use Rattle.xc_input.specs.declared.problem.Use.{Use}
-use Rattle.xc_input.specs.UsePlaces.{place_in}
 use Rattle.xc_search.specs.declared.choice.Choice.{Choice}
-use Rattle.xc_input.specs.Problem.{numbered_get, uses_of}
+use Rattle.xc_input.specs.Problem.{uses_of}
 use Rattle.xc_input.specs.Named.{Named}
+use Rattle.xc_check.specs.UseTexts.{bytes_at, from_item, use_word}
 use Rattle.xc_search.specs.Cover.{members}
-
--- the bytes numbered i, counted from 1; none where there are none
-abbrev pub bytes_at : List (List ℕ) → ℕ → List ℕ
-bytes_at texts i = unwrap_or (numbered_get texts i) []
-
--- a list cyclically from place k on
-abbrev pub rotated_at : {X : Type 0} → ℕ → List X → List X
-rotated_at k xs = drop k xs ++ take k xs
-
--- uses cyclically from item i's on
-abbrev pub from_item : ℕ → List Use → List Use
-from_item i us = rotated_at (place_in i us) us
-
--- the word of a use: its item's name, and its colour after a colon
-abbrev pub use_word : Named → Use → List ℕ
-use_word a u = bytes_at a.names u.item ++ (if u.colour == 0 then [] else codes ":" ++ bytes_at a.colours u.colour)
 
 -- the body of a choice line: the words of its option's uses from the item's on, or that no option is taken
 abbrev pub body_text : Named → ℕ → Option ℕ → List ℕ

@@ -1,18 +1,12 @@
 -- What the words of a command line mean.
-use Rattle.std.specs.Prelude.{ℕ, fold, ◌-◌, ◌^◌, List, [], ◌∷◌, ◌&&◌, ◌==◌, nat_lt, Option, Some, None, Result, Ok, Err}
+use Rattle.std.specs.Prelude.{ℕ, fold, ◌-◌, ◌^◌, List, [], ◌∷◌, ◌==◌, Some, None, Result, Ok, Err}
 use Rattle.std.specs.Prelude.{if◌then◌else◌}
-use Rattle.std.specs.Char.{is_ascii_digit}
-use Rattle.std.specs.List.{list_all, enumerate_from}
+use Rattle.std.specs.List.{enumerate_from}
 use Rattle.std.specs.Str.{byte}
-use Rattle.xc_input.specs.Words.{number}
+use Rattle.xc_check.specs.LongNumbers.{long_number}
 use Rattle.xc_list.specs.declared.words.Words.{Words}
 use Rattle.xc_list.specs.declared.words.WordFault.{WordFault}
 use Rattle.xc_list.specs.declared.words.WordFault.TheVariants.{Unknown, BadNumber, ZeroLimit}
-
--- the number that one or more digits stand for, where it fits
-abbrev pub long_number : List ℕ → Option ℕ
-long_number [] = None
-long_number bs = if list_all is_ascii_digit bs && nat_lt (number bs) (2 ^ 64) then Some (number bs) else None
 
 -- what is made of the number after a word's letter; a bad one is a fault
 abbrev pub read_number : ℕ → List ℕ → (ℕ → Result Words WordFault) → Result Words WordFault

@@ -11,7 +11,7 @@ ghost use Rattle.xc_input.specs.Problem.{uses_of, IsOption};
 ghost use Rattle.xc_input.specs.UsePlaces.{place_in};
 ghost use Rattle.xc_input.specs.Named.{IsKnownUse};
 ghost use Rattle.xc_streams.specs.Texts.{Writes};
-ghost use Rattle.xc_list.specs.Output.{from_item};
+ghost use Rattle.xc_check.specs.UseTexts.{from_item};
 ghost use Rattle.xc_list.specs.inner.Writing.{use_text, AreLaid, ArePadded, first_item, uses_text};
 ghost use Rattle.xc_list.specs.declared.places.TheConstants.{PADDING, ROOM};
 

@@ -14,19 +14,12 @@ ghost use Rattle.xc_list.specs.declared.ends.End.TheVariants.{Done, Limit};
 ghost use Rattle.xc_list.specs.declared.words.WordFault.TheVariants.{Unknown, BadNumber, ZeroLimit};
 
 use crate::ends::{End, SpanFault};
-use crate::verdict::{ListingFault, Verdict};
 use crate::words::{WordFault, Words};
+pub use xc_check::laws::{equal_listing_faults, equal_verdicts};
 pub use xc_streams::laws::equal_failures;
 
 /// Two ends of runs are equal exactly if they are the same.
 pub fn equal_ends(a: &End, b: &End) -> bool
-    ensures { result ≡ true ↔ a.now ≡ b.now }
-{
-    a == b
-}
-
-/// Two verdicts are equal exactly if they are the same.
-pub fn equal_verdicts(a: &Verdict, b: &Verdict) -> bool
     ensures { result ≡ true ↔ a.now ≡ b.now }
 {
     a == b
@@ -46,13 +39,6 @@ pub fn equal_word_faults(a: &WordFault, b: &WordFault) -> bool
     a == b
 }
 
-/// Two faults of listings are equal exactly if they are the same.
-pub fn equal_listing_faults(a: &ListingFault, b: &ListingFault) -> bool
-    ensures { result ≡ true ↔ a.now ≡ b.now }
-{
-    a == b
-}
-
 /// Two faults of runs over spans are equal exactly if they are the same.
 pub fn equal_span_faults(a: &SpanFault, b: &SpanFault) -> bool
     ensures { result ≡ true ↔ a.now ≡ b.now }
@@ -63,10 +49,8 @@ pub fn equal_span_faults(a: &SpanFault, b: &SpanFault) -> bool
 /// A clone of a value of any of these types is equal to it.
 pub fn clones()
     ensures ends { IsEqualClone ⟦<End as Clone>⟧.is_clone }
-    ensures verdicts { IsEqualClone ⟦<Verdict as Clone>⟧.is_clone }
     ensures words { IsEqualClone ⟦<Words as Clone>⟧.is_clone }
     ensures word_faults { IsEqualClone ⟦<WordFault as Clone>⟧.is_clone }
-    ensures listing_faults { IsEqualClone ⟦<ListingFault as Clone>⟧.is_clone }
     ensures span_faults { IsEqualClone ⟦<SpanFault as Clone>⟧.is_clone }
 {}
 

@@ -1,4 +1,4 @@
-//! Listings of exact cover problems: words, texts, runs, and the checker of listings.
+//! Listings of exact cover problems: words, texts, runs, and listings judged.
 //!
 //! ```text
 //! let words = Words { spacing: 1, limit: 10 };
@@ -13,12 +13,10 @@
 
 mod asked;
 mod bodies;
-mod checker;
+mod checked;
 mod choices;
-mod cover_test;
 mod digest;
 mod ends;
-mod judged_line;
 pub mod laws;
 mod messages;
 mod page;
@@ -28,20 +26,18 @@ mod runs;
 mod span_words;
 mod spans;
 mod uses;
-mod verdict;
 mod words;
 
 pub use asked::SpanWords;
-pub use checker::{branch_number, check};
-pub use cover_test::is_cover;
+pub use checked::check;
 pub use digest::problem_digest;
 pub use ends::{End, SpanFault};
 pub use messages::{summary, warnings, word_fault};
 pub use print::{write_choices, write_solution};
 pub use runs::{run, run_over, run_over_links};
 pub use spans::{list_span, list_span_over};
-pub use verdict::{ListingFault, Verdict};
 pub use words::{WordFault, Words};
+pub use xc_check::{ListingFault, Verdict, branch_number, is_cover};
 pub use xc_dance::Tally as Flushes;
 pub use xc_streams::{
     Sink, SinkFault, Tray, VecSink, WriteFailed, write_all, write_line, write_number,

@@ -15,7 +15,8 @@ ghost use Rattle.std.specs.Prelude.{◌≡◌, ◌+◌, ◌<◌, ◌≤◌, ◌+
 ghost use Rattle.std.specs.Prelude.{IfOk, IfSome, IsNone, MatchResult};
 ghost use Rattle.xc_streams.specs.Texts.{Writes};
 ghost use Rattle.xc_input.specs.Problem.{IsItem};
-ghost use Rattle.xc_list.specs.Output.{bytes_at, body_text, choice_text, member_text};
+ghost use Rattle.xc_check.specs.UseTexts.{bytes_at};
+ghost use Rattle.xc_list.specs.Output.{body_text, choice_text, member_text};
 ghost use Rattle.xc_list.specs.inner.Writing.{branch_text, IsPut, held_text, AreKept, MatchMark, lines_end};
 ghost use Rattle.xc_search.specs.Marks.{marked, IsMark};
 ghost use Rattle.xc_list.specs.Known.{IsKnownChoice};

@@ -8,8 +8,8 @@ ghost use Rattle.xc_list.specs.SpanWords.{asked_of, listing_word, row_number, ro
 ghost use Rattle.xc_list.specs.SpanWords.{asked_rows, asked_words, read_span_words, take_memory};
 
 use crate::asked::SpanWords;
-use crate::words::long_number;
 use std::alloc::{AllocError, Global};
+use xc_check::long_number;
 
 /// Whether a word means a listing, or a count alone.
 fn listing_word(word: &[u8]) -> Option<bool>

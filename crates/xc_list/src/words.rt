@@ -1,8 +1,9 @@
 //! The words of a command line.
 ghost use Rattle.std.specs.Prelude.{◌≡◌, ℕ, ◌+◌, ◌-◌, ◌<◌, ◌≤◌, [], Ok, map, length};
-ghost use Rattle.xc_list.specs.Settings.{long_number, read_word, read_words};
+ghost use Rattle.xc_list.specs.Settings.{read_word, read_words};
 
 use thiserror::Error;
+use xc_check::long_number;
 
 /// What a run is to do: print each solution whose number is a multiple of `spacing`, none where that
 /// is 0, and stop after `limit` solutions.
@@ -21,24 +22,6 @@ pub enum WordFault {
     BadNumber(usize),
     #[error("word {0}: limit must be at least 1")]
     ZeroLimit(usize),
-}
-
-/// The number that is here in decimal.
-#[tactic(auto, using(crate::proofs::Writing::too_large))]
-pub(crate) fn long_number(bytes: &[u8]) -> Option<u64>
-    ensures { result ≡ long_number bytes.now }
-{
-    if bytes.is_empty() {
-        return None;
-    }
-    let mut value: u64 = 0;
-    for b in bytes {
-        if !b.is_ascii_digit() {
-            return None;
-        }
-        value = value.checked_mul(10)?.checked_add(u64::from(*b - b'0'))?;
-    }
-    Some(value)
 }
 
 /// What one word makes of the words before it.

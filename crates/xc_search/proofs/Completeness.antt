@@ -25,7 +25,8 @@ use Rattle.xc_moves.proofs.MoveLemmas.{Rises, numbers, rises_filter, options_ris
 use Rattle.xc_search.specs.declared.choice.Choice.{Choice}
 use Rattle.xc_search.specs.Listing.{Wanted, Residual, Branch, spend_one, may_stay, stays, pick, none, branch_count}
 use Rattle.xc_search.specs.Listing.{branches_of, listing, whole}
-use Rattle.xc_search.specs.Cover.{options_of, IsCover, SameSet, HasSetAt, times_held, members, EachMemberCovers}
+use Rattle.xc_search.specs.Cover.{options_of, SameSet, HasSetAt, members, EachMemberCovers}
+use Rattle.xc_input.specs.Cover.{IsCover, times_held}
 use Rattle.xc_search.specs.Cover.{EachCoverIsListedOnce}
 use Rattle.xc_search.specs.inner.Levels.{item_left, take_branch, none_branch}
 use Rattle.xc_search.proofs.ListingLemmas.{above_in, IsProper, find-in, in-find, goes_on, same_wanted, use_passes}

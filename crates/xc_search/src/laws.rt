@@ -8,7 +8,8 @@ ghost use Rattle.xc_search.specs.Ends.{ends};
 ghost use Rattle.xc_search.specs.Worked.{choice, seven_items, two_colours, once_or_twice, equal_options};
 ghost use Rattle.xc_search.specs.Worked.{missing_item, one_colour, up_to_twice, no_options, largest_bound};
 ghost use Rattle.xc_search.specs.Worked.{both_options, blank_secondary, bounds_and_colours, bound_beside_one};
-ghost use Rattle.xc_search.specs.Cover.{members, IsCover, HasSetAt, EachMemberCovers, EachCoverIsListedOnce};
+ghost use Rattle.xc_search.specs.Cover.{members, HasSetAt, EachMemberCovers, EachCoverIsListedOnce};
+ghost use Rattle.xc_input.specs.Cover.{IsCover};
 ghost use Rattle.xc_search.specs.Spans.{row_of, precedes, between, spans_from, RowsRise};
 ghost use Rattle.xc_search.specs.Nodes.{IsRowOf, RowsGoOn, row_count};
 

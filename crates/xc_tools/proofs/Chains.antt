@@ -19,7 +19,7 @@ use Rattle.xc_search.specs.declared.choice.Choice.{Choice}
 use Rattle.xc_search.specs.Cover.{members}
 use Rattle.xc_search.specs.Spans.{between}
 use Rattle.xc_search.proofs.RowLemmas.{all_between, keep_none, spans_meet}
-use Rattle.xc_list.specs.ListingLines.{words_in}
+use Rattle.xc_check.specs.ListingLines.{words_in}
 use Rattle.xc_list.specs.SpanTexts.{end_at, row_text, most_counted}
 use Rattle.xc_list.specs.Digests.{digest_of}
 use Rattle.xc_list.specs.Output.{member_text, is_printed}

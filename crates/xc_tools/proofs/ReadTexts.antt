@@ -14,7 +14,7 @@ use Rattle.xc_input.specs.Words.{has}
 use Rattle.xc_input.specs.inner.Feeding.{ended, AreWhole}
 use Rattle.xc_input.proofs.ListLemmas.{each-append}
 use Rattle.xc_search.specs.Spans.{precedes}
-use Rattle.xc_list.specs.ListingLines.{branch_number, words_in, before_last}
+use Rattle.xc_check.specs.ListingLines.{branch_number, words_in, before_last}
 use Rattle.xc_list.specs.SpanTexts.{row_text}
 use Rattle.xc_list.specs.SearchedSpans.{SearchedSpan}
 use Rattle.xc_list.proofs.OutputLemmas.{header_line}

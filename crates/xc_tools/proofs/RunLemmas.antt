@@ -16,7 +16,7 @@ use Rattle.xc_list.specs.Messages.{summary_text}
 use Rattle.xc_list.specs.Output.{output}
 use Rattle.xc_list.specs.Runs.{end_of}
 use Rattle.xc_streams.specs.Texts.{Seen, SinkState, Took, BrokeOff, WasTold, Begins}
-use Rattle.xc_list.specs.declared.verdict.Verdict.{Verdict}
+use Rattle.xc_check.specs.declared.verdict.Verdict.{Verdict}
 use Rattle.xc_list.specs.SpanRuns.{OfSpan}
 use Rattle.xc_list.specs.SpanWords.{AskedSpan}
 use Rattle.xc_list.proofs.Writing.{stopped_broke}

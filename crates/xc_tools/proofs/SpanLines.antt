@@ -24,7 +24,7 @@ use Rattle.xc_search.specs.declared.choice.Choice.{Choice}
 use Rattle.xc_search.specs.Listing.{whole}
 use Rattle.xc_search.specs.Cover.{members}
 use Rattle.xc_search.proofs.RowLemmas.{is_within, listing_rises}
-use Rattle.xc_list.specs.ListingLines.{branch_number, words_in}
+use Rattle.xc_check.specs.ListingLines.{branch_number, words_in}
 use Rattle.xc_list.specs.SpanTexts.{most_counted, row_text, branches_text, end_at, heading_text, record_text}
 use Rattle.xc_list.specs.Output.{choice_text, member_text}
 use Rattle.xc_list.specs.Digests.{digest_of}
@@ -32,7 +32,7 @@ use Rattle.xc_list.specs.SearchedSpans.{AreSmall, IsSpan, SearchedSpan, members_
 use Rattle.xc_list.proofs.OutputLemmas.{header_line, before_last-last, body_words, plain-name, plain-use, AreCounted}
 use Rattle.xc_list.proofs.OutputLemmas.{member_counted, choice-ended, choice_line, IsPlain, no_feed-header}
 use Rattle.xc_list.proofs.OutputLemmas.{number-choice, read-choice}
-use Rattle.xc_list.proofs.ClassLemmas.{All-turned, numbered_some, place_held}
+use Rattle.xc_check.proofs.ClassLemmas.{All-turned, numbered_some, place_held}
 use Rattle.xc_list.proofs.Writing.{digest-digits, digest-length}
 use Rattle.xc_tools.specs.SpanShapes.{IsSolution, LieIn, Rise, ListedSolution, SpanText, TellsCount, solution_text}
 use Rattle.xc_tools.specs.SpanShapes.{is_digest, HasShape, bytes_of}

@@ -21,7 +21,7 @@ use Rattle.xc_input.proofs.WrittenTexts.{split-front}
 use Rattle.xc_input.proofs.FaultLemmas.{not_false}
 use Rattle.xc_search.specs.Spans.{precedes}
 use Rattle.xc_search.proofs.RowLemmas.{before_first, less_before, less_behind, same_beginning}
-use Rattle.xc_list.specs.ListingLines.{words_in}
+use Rattle.xc_check.specs.ListingLines.{words_in}
 use Rattle.xc_list.specs.SpanTexts.{row_text, branches_text, most_counted}
 use Rattle.xc_tools.specs.inner.SpanLines.{Risen, risen_after, has_risen, heading_of, is_number, is_row, numbers_in}
 use Rattle.xc_tools.specs.inner.SpanLines.{record_of, saturating_number}

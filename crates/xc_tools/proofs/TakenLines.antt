@@ -8,7 +8,7 @@ use Rattle.std.proofs.lemmas.List.Splits.{join_with_byte-slice_split}
 use Rattle.std.proofs.lemmas.Slice.Eq.{bytes_eq-Decides}
 use Rattle.std.proofs.lemmas.Bool.Decides.{nat_tests}
 use Rattle.xc_input.proofs.ListLemmas.{by_bool}
-use Rattle.xc_list.specs.ListingLines.{words_in, branch_number}
+use Rattle.xc_check.specs.ListingLines.{words_in, branch_number}
 use Rattle.xc_list.specs.SpanTexts.{most_counted, row_text}
 use Rattle.xc_tools.specs.SpanShapes.{is_digest}
 use Rattle.xc_tools.specs.inner.SpanLines.{ToldCounts, Headed, Told, are_counts, are_ends, begins, counts_of}

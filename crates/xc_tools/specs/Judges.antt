@@ -9,11 +9,11 @@ use Rattle.xc_input.specs.Named.{Named}
 use Rattle.xc_input.specs.Lines.{lines_of}
 use Rattle.xc_input.specs.Calls.{Rose}
 use Rattle.xc_input.specs.Pieces.{SourceState, GaveAll}
-use Rattle.xc_list.specs.Listed.{fault_in_lines, AreVerdicts}
+use Rattle.xc_check.specs.Listed.{fault_in_lines, AreVerdicts}
 use Rattle.xc_streams.specs.Texts.{Seen}
-use Rattle.xc_list.specs.declared.verdict.Verdict.{Verdict}
-use Rattle.xc_list.specs.declared.verdict.ListingFault.{ListingFault}
-use Rattle.xc_list.specs.declared.verdict.ListingFault.TheVariants.{BadLine, UnknownOption, Memory}
+use Rattle.xc_check.specs.declared.verdict.Verdict.{Verdict}
+use Rattle.xc_check.specs.declared.verdict.ListingFault.{ListingFault}
+use Rattle.xc_check.specs.declared.verdict.ListingFault.TheVariants.{BadLine, UnknownOption, Memory}
 use Rattle.xc_tools.specs.WholeRuns.{Sinks, Prints, IsRefused, ReadsProblem}
 
 -- the kind of problem that a number stands for

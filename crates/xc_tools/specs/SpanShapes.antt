@@ -7,7 +7,7 @@ use Rattle.std.specs.List.{enumerate_from, list_all}
 use Rattle.std.specs.Str.{byte}
 use Rattle.xc_input.specs.Words.{has}
 use Rattle.xc_search.specs.Spans.{is_before, precedes}
-use Rattle.xc_list.specs.ListingLines.{branch_number}
+use Rattle.xc_check.specs.ListingLines.{branch_number}
 use Rattle.xc_list.specs.SearchedSpans.{AreSmall, SearchedSpan}
 use Rattle.xc_list.specs.SpanTexts.{end_at, heading_text, record_text}
 

@@ -6,7 +6,7 @@ ghost use Rattle.std.specs.Io.KnownBytes.{Keeps};
 ghost use Rattle.xc_input.specs.Named.{Named};
 ghost use Rattle.xc_input.specs.Pieces.{IsWhole};
 ghost use Rattle.xc_streams.specs.Texts.{seen, Writes, Begins};
-ghost use Rattle.xc_list.specs.declared.verdict.Verdict.{Verdict};
+ghost use Rattle.xc_check.specs.declared.verdict.Verdict.{Verdict};
 ghost use Rattle.xc_tools.specs.WholeRuns.{sinks, Prints};
 ghost use Rattle.xc_tools.specs.Judges.{asked_kind, numbered_kind, verdict_text, HasVerdicts};
 ghost use Rattle.xc_tools.specs.Judges.{DidJudgeListing, DidJudge};

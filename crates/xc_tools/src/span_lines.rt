@@ -2,7 +2,7 @@
 ghost use Rattle.std.specs.Prelude.{IsTrue, ℕ, List, ◌==◌, ◌||◌, ◌≡◌, ◌+◌, ◌≤◌, MatchResult, IfOk, OnOk, decimal};
 ghost use Rattle.std.specs.Prelude.{option_map};
 ghost use Rattle.std.specs.Str.{byte, bytes_eq};
-ghost use Rattle.xc_list.specs.ListingLines.{before_last, words_in};
+ghost use Rattle.xc_check.specs.ListingLines.{before_last, words_in};
 ghost use Rattle.xc_tools.specs.inner.SpanLines.{act_text, begins_with, by_choice, by_header, by_heading, by_last};
 ghost use Rattle.xc_tools.specs.inner.SpanLines.{by_line, by_record, closed, ends_well, inside, is_header, goes};
 ghost use Rattle.xc_tools.specs.inner.SpanLines.{join_of, meets, start, KeepsProblem, TakesLine, Unmet};

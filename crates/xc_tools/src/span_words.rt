@@ -3,7 +3,7 @@ ghost use Rattle.std.specs.Prelude.{◌==◌, ◌++◌, ◌≡◌, IfOk, OnOk, c
 ghost use Rattle.std.specs.Char.{is_ascii_digit};
 ghost use Rattle.std.specs.List.{list_all, slice_split};
 ghost use Rattle.std.specs.Str.{byte, bytes_eq};
-ghost use Rattle.xc_list.specs.ListingLines.{words_in};
+ghost use Rattle.xc_check.specs.ListingLines.{words_in};
 ghost use Rattle.xc_tools.specs.SpanShapes.{is_digest, is_hex};
 ghost use Rattle.xc_tools.specs.inner.SpanLines.{are_counts, are_ends, begins, is_problem, row_parts, counted_of};
 ghost use Rattle.xc_tools.specs.inner.SpanLines.{counts_of, heading_of, is_number, is_row, headed_of, numbers_in};

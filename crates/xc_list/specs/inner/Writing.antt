@@ -19,7 +19,8 @@ use Rattle.xc_search.specs.InSpan.{InSpan, left_of, row_or_end, branches_along}
 use Rattle.xc_search.specs.declared.went.Halt.{Halt}
 use Rattle.xc_search.specs.declared.went.Went.{Went}
 use Rattle.xc_search.specs.declared.went.Halt.TheVariants.{Member, End, Steps}
-use Rattle.xc_list.specs.Output.{bytes_at, use_word, choice_text, member_text, is_printed}
+use Rattle.xc_check.specs.UseTexts.{use_word}
+use Rattle.xc_list.specs.Output.{choice_text, member_text, is_printed}
 use Rattle.xc_list.specs.declared.places.TheConstants.{PADDING, LINES}
 use Rattle.xc_list.specs.declared.places.Line.{Line}
 use Rattle.xc_streams.specs.Texts.{SinkState, Took, BrokeOff}
@@ -32,10 +33,6 @@ use Rattle.xc_list.specs.SpanWords.{AskedSpan}
 use Rattle.xc_list.specs.SpanRuns.{OfSpan}
 
 -- ======== The parts of lines, each as it is written.
-
--- a colour after a colon; nothing for colour 0
-abbrev pub colour_text : List (List ℕ) → ℕ → List ℕ
-colour_text colours c = if c == 0 then [] else codes ":" ++ bytes_at colours c
 
 -- a space and the word of a use
 abbrev pub use_text : Named → Use → List ℕ

@@ -7,7 +7,7 @@ use Rattle.std.specs.List.{list_all, slice_split}
 use Rattle.std.specs.Str.{byte, bytes_eq}
 use Rattle.xc_search.specs.Spans.{precedes}
 use Rattle.xc_list.specs.SpanTexts.{most_counted}
-use Rattle.xc_list.specs.ListingLines.{before_last, branch_number, words_in}
+use Rattle.xc_check.specs.ListingLines.{before_last, branch_number, words_in}
 use Rattle.xc_tools.specs.declared.joint.Rising.{Rising}
 use Rattle.xc_tools.specs.SpanShapes.{is_digest}
 use Rattle.xc_tools.specs.declared.headings.Counts.{Counts}

@@ -2,7 +2,7 @@ use Rattle.std.proofs.lemmas.Grind.{common_steps}
 use Rattle.std.proofs.Common.{arith}
 use Rattle.xc_input.proofs.FaultLemmas.{has-all}
 use Rattle.xc_input.proofs.LineLemmas.{lines_of-part}
-use Rattle.xc_list.proofs.CheckLemmas.{first_cut, first_line}
+use Rattle.xc_check.proofs.CheckLemmas.{first_cut, first_line}
 use Rattle.xc_c.proofs.texts.cut_line.Goals as goal
 
 pub returns-in-Some-clause-whole : goal.returns-in-Some-clause-whole

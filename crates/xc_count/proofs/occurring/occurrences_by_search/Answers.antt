@@ -1,7 +1,8 @@
 use Rattle.std.proofs.Common.{◌≡◌, ◌≢◌, ◌+◌, ◌-◌, ◌≤◌, ◌∙◌, arith, ap, ap₂, sym, subst, get_or, length}
 use Rattle.std.specs.Prelude.{All, AllPairs, IfSome, count_by, min}
 use Rattle.xc_input.specs.Problem.{Puzzle}
-use Rattle.xc_search.specs.Cover.{IsCover, options_of}
+use Rattle.xc_input.specs.Cover.{IsCover}
+use Rattle.xc_search.specs.Cover.{options_of}
 use Rattle.xc_search.specs.InSpan.{left_of}
 use Rattle.xc_search.specs.Listing.{whole}
 use Rattle.xc_search.specs.Nodes.{IsRowOf}

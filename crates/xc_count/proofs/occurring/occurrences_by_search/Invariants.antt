@@ -1,7 +1,8 @@
 use Rattle.std.proofs.Common.{ℕ, ◌≡◌, ◌≤◌, ◌+◌, ◌-◌, length, get_or}
 use Rattle.std.specs.Prelude.{All, IfSome, count_by}
 use Rattle.xc_input.specs.Problem.{option_count}
-use Rattle.xc_search.specs.Cover.{IsCover, options_of}
+use Rattle.xc_input.specs.Cover.{IsCover}
+use Rattle.xc_search.specs.Cover.{options_of}
 use Rattle.xc_search.specs.InSpan.{left_of}
 use Rattle.xc_search.specs.Listing.{whole}
 use Rattle.xc_search.specs.Nodes.{IsRowOf}

@@ -1,0 +1,4 @@
+pub mod NumberLemmas
+pub mod CheckLemmas
+pub mod ClassLemmas
+pub mod CountedCovers

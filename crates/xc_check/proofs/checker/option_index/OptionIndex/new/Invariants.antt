@@ -1,0 +1,5 @@
+use Rattle.xc_check.specs.inner.Classes.{AreClassesTo, key_uses}
+use Rattle.xc_check.proofs.checker.option_index.OptionIndex.new.Given as goal
+
+abbrev pub invariant-loop-o : goal.invariant-loop-o
+invariant-loop-o l = AreClassesTo l.problem.puzzle l.o (key_uses l.classes.keys) l.sizes.items

@@ -1,0 +1,5 @@
+pub mod LongNumbers
+pub mod ListingLines
+pub mod UseTexts
+pub mod Listed
+pub mod inner

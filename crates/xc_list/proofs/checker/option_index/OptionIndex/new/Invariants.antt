@@ -1,5 +1,0 @@
-use Rattle.xc_list.specs.inner.Classes.{AreClassesTo, key_uses}
-use Rattle.xc_list.proofs.checker.option_index.OptionIndex.new.Given as goal
-
-abbrev pub invariant-loop-o : goal.invariant-loop-o
-invariant-loop-o l = AreClassesTo l.problem.puzzle l.o (key_uses l.classes.keys) l.sizes.items

@@ -1,6 +1,0 @@
-use Rattle.std.proofs.Common.{arith}
-use Rattle.xc_list.proofs.CheckLemmas.{known-uses}
-use Rattle.xc_list.proofs.checker.option_index.OptionIndex.uses.Goals as goal
-
-pub returns-clause-known : goal.returns-clause-known
-returns-clause-known c = grind (arith, known-uses)

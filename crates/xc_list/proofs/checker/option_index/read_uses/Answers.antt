@@ -1,6 +1,0 @@
-use Rattle.std.proofs.Common.{arith}
-use Rattle.xc_list.proofs.ClassLemmas.{first_word, read-none}
-use Rattle.xc_list.proofs.checker.option_index.read_uses.Goals as goal
-
-pub returns-in-None : goal.returns-in-None
-returns-in-None c = grind (arith, first_word, read-none)
