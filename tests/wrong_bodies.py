@@ -24,9 +24,12 @@ from pathlib import Path
 from typing import NamedTuple
 
 TOP = Path(__file__).resolve().parent.parent
-# Each uses some of those before it.
-CRATES = ["xc_input", "xc_moves", "xc_streams", "xc_dance", "xc_search", "xc_list", "xc_tools", "xc_c", "natural"]
-CRATES += ["xc_count", "xc_count_run"]
+# Those that have mutants, each after those that it uses.
+CRATES = [
+    it
+    for it in re.findall(r"^\w+", (TOP / "crates.txt").read_text(), re.MULTILINE)
+    if (TOP / "crates" / it / "mutants.edits").exists()
+]
 AT_ONCE = 12
 # A header of methods, or a function with its attributes.
 FUNCTION = re.compile(
