@@ -23,7 +23,7 @@ use xc_list::{End, Tray, Words, run};
 use xc_search::Search;
 
 /// The first line of a text, and what is left after it.
-// `xc_list/src/checker/listing_lines.rt` has the same, since it isn't public.
+// `xc_check/src/checker/listing_lines.rt` has the same, since it isn't public.
 fn cut_line(text: &[u8]) -> (&[u8], &[u8])
     requires { 0 < length text.now }
     ensures lines { lines_of text.now ≡ result.0.now ∷ lines_of result.1.now }

@@ -31,9 +31,9 @@ use Rattle.xc_input.proofs.ListLemmas.{in-slice_get, in-contains, AllPairs-from_
 use Rattle.xc_input.proofs.LineLemmas.{at_number, known_option}
 use Rattle.xc_input.proofs.FaultLemmas.{cut-at, no-cut, COLON}
 use Rattle.xc_input.specs.Cover.{times_held, IsCover}
-use Rattle.xc_check.specs.UseTexts.{bytes_at, rotated_at, from_item, use_word, colour_text}
+use Rattle.xc_check.specs.UseTexts.{bytes_at, rotated_at, from_item, use_word}
 use Rattle.xc_check.specs.inner.Classes.{class_of, least_of, IsUseOfWord, HaveWords, same_uses, class_at, alike}
-use Rattle.xc_check.specs.inner.Classes.{option_numbers, IsCoverOfClasses}
+use Rattle.xc_check.specs.inner.Classes.{option_numbers, IsCoverOfClasses, colour_text}
 use Rattle.xc_check.specs.ListingLines.{words_in}
 use Rattle.xc_check.specs.Listed.{is_body, is_known, IsListedCover, stands_for}
 

@@ -20,7 +20,3 @@ from_item i us = rotated_at (place_in i us) us
 -- the word of a use: its item's name, and its colour after a colon
 abbrev pub use_word : Named → Use → List ℕ
 use_word a u = bytes_at a.names u.item ++ (if u.colour == 0 then [] else codes ":" ++ bytes_at a.colours u.colour)
-
--- a colour after a colon; nothing for colour 0
-abbrev pub colour_text : List (List ℕ) → ℕ → List ℕ
-colour_text colours c = if c == 0 then [] else codes ":" ++ bytes_at colours c

@@ -18,7 +18,6 @@ use Rattle.xc_input.specs.Problem.{Puzzle, uses_of, item_count, option_count, us
 use Rattle.xc_input.specs.Problem.{IsWithinLimits, IsValid, IsSoundOption, high_at}
 use Rattle.xc_input.specs.inner.Stored.{pieces, AreStarts}
 use Rattle.xc_input.specs.UsePlaces.{place_in}
-use Rattle.xc_input.specs.Named.{Named, IsSound}
 use Rattle.xc_input.proofs.TokenLemmas.{pieces-snoc}
 use Rattle.xc_input.proofs.ListLemmas.{get_left, each_at}
 use Rattle.xc_moves.specs.Places.{Node, unused, own, spacer, used, layout, spacer_place, link_place, first_above}
@@ -36,9 +35,9 @@ use Rattle.xc_moves.specs.Moves.{spends, is_covered}
 use Rattle.xc_moves.proofs.MoveLemmas.{holds_use}
 use Rattle.xc_dance.proofs.StateLemmas.{high_within}
 use Rattle.xc_dance.proofs.LineLemmas.{get_map, map_put, map_same}
-use Rattle.xc_moves.proofs.PlaceLemmas.{get_dropped, place_first, place_grows, tail_from, spacer_here, sizes}
+use Rattle.xc_moves.proofs.PlaceLemmas.{get_dropped, place_first, tail_from, spacer_here, sizes}
 use Rattle.xc_moves.proofs.PlaceLemmas.{layout_len, layout_small, place_is, option_nodes, held_node, at_option}
-use Rattle.xc_moves.proofs.PlaceLemmas.{items_within, place_at_use, use_between}
+use Rattle.xc_moves.proofs.PlaceLemmas.{items_within, place_at_use}
 
 -- ======== A problem that is copied part by part.
 
@@ -53,8 +52,8 @@ pub same_puzzle : (bounds : List Bounds) (secondary : ℕ) (options : List (List
     let copy : Puzzle = record { bounds = bounds; secondary = secondary; options = options } in copy ≡ p
 same_puzzle bounds secondary options p e f g = grind (arith, e, f, g)
 
--- ======== Where the nodes of each option stand in the node table, between which spacers, and its span; what a node
--- tells of its place: for all functions that lay nodes, walk over them or ask for a place.
+-- ======== Where nodes stand in the node table, what each tells of its place, and the spans of options: for all
+-- functions that lay nodes or walk over them.
 
 -- ---- lists in two parts
 
@@ -305,20 +304,6 @@ behind_all {p} {i} {x} held = grind (arith, length-drop, place_at_use held, opti
 -- and those before at it
 pub before_all : {p : Puzzle} {i x q : ℕ} → IsUseAt p i x q → start_at p (x - 1) + length (uses_before p i x) ≡ q
 before_all {p} {i} {x} held = grind (arith, length-take, place_at_use)
-
--- ======== Which option's node stands at a place, by the spacers that a walk over the options passes.
-
--- a problem that was read is fit
-pub sound_fit : (a : Named) → IsSound a → IsFit a.puzzle
-sound_fit a s = known_fit a.colours a.puzzle s.valid s.limits s.coloured s.few_colours
-
--- behind the first spacer
-pub behind_first : (p : Puzzle) (i x q : ℕ) → IsUseAt p i x q → spacer_place p 0 ≤ q
-behind_first p i x q u = omega (arith, (use_between p i x q u).0, place_grows p 0 (x - 1) (omega arith))
-
--- and before the last
-pub before_last : (p : Puzzle) (i x q : ℕ) → IsUseAt p i x q → q < spacer_place p (option_count p)
-before_last p i x q u = omega (arith, (use_between p i x q u).1, place_grows p x (option_count p) u.known.1)
 
 -- ======== Cover and Spend on the item table.
 

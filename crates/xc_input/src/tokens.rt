@@ -22,7 +22,7 @@ use crate::written::Token;
 use bstr::ByteSlice;
 
 /// Whether a byte is white space.
-// `xc_list/src/checker/listing_lines.rt` has the same, since it isn't public: five lines twice are less than a public
+// `xc_check/src/checker/listing_lines.rt` has the same, since it isn't public: five lines twice are less than a public
 // call, with its wrong body and test, and both say by `is_space` what white space is.
 #[inline]
 pub fn is_white(b: u8) -> bool

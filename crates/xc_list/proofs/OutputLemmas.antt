@@ -45,7 +45,7 @@ use Rattle.xc_search.proofs.ListingLemmas.{in-level, branch_item-in, nones, item
 use Rattle.xc_search.proofs.Completeness.{each_member_covers}
 use Rattle.xc_list.specs.declared.places.TheConstants.{PADDING}
 use Rattle.xc_list.specs.inner.Writing.{use_text, AreLaid, ArePadded, first_item, uses_text}
-use Rattle.xc_check.specs.UseTexts.{colour_text}
+use Rattle.xc_check.specs.inner.Classes.{colour_text}
 use Rattle.xc_check.specs.UseTexts.{from_item, bytes_at, use_word}
 use Rattle.xc_list.specs.Output.{body_text, choice_text, member_text, is_printed, output}
 use Rattle.xc_check.specs.ListingLines.{words_in, before_last, header_number, is_word, is_ending, body_of_words}

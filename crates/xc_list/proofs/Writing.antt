@@ -41,7 +41,7 @@ use Rattle.xc_search.specs.inner.Levels.{size_of}
 use Rattle.xc_search.proofs.LoopSteps.{drop_past, shown_next, shown_past}
 use Rattle.xc_search.proofs.ListingLemmas.{few_branches, branches_less}
 use Rattle.xc_streams.proofs.SinkLemmas.{then_took, then_broke, broke_before}
-use Rattle.xc_check.specs.UseTexts.{colour_text}
+use Rattle.xc_check.specs.inner.Classes.{colour_text}
 use Rattle.xc_list.specs.inner.Writing.{printed_text, StandsAt, Puts, held_text, digest_start}
 use Rattle.xc_check.specs.UseTexts.{bytes_at, from_item}
 use Rattle.xc_list.specs.Output.{output, is_printed, member_text}
@@ -66,7 +66,6 @@ use Rattle.hex.proofs.HexLemmas.{length-encode_with}
 pub one_more : {X A : Type 0} (f : X → List A) (xs : List X) (x : X)
     → flat_map f (xs ++ x ∷ []) ≡ flat_map f xs ++ f x
 one_more f xs x = flat_map-append f xs (x ∷ []) ∙ ap (λ ys. flat_map f xs ++ ys) (append-nil (f x))
-
 
 pub option_texts : (f : Use → List ℕ) (item : ℕ) (all us before after : List Use) (p : ℕ) → us ≡ all
     → p ≡ place_in item us

@@ -3,7 +3,8 @@ ghost use Rattle.std.specs.Prelude.{◌≡◌, ◌≤◌, length, All, flat_map,
 ghost use Rattle.xc_streams.specs.Texts.{Writes};
 ghost use Rattle.xc_input.specs.Problem.{IsItem, uses_of, IsOption};
 ghost use Rattle.xc_input.specs.Named.{IsKnownUse, IsSound};
-ghost use Rattle.xc_check.specs.UseTexts.{bytes_at, from_item, colour_text};
+ghost use Rattle.xc_check.specs.UseTexts.{bytes_at, from_item};
+ghost use Rattle.xc_check.specs.inner.Classes.{colour_text};
 ghost use Rattle.xc_list.specs.inner.Writing.{use_text};
 
 use xc_input::{Problem, Use, place_in};

@@ -21,7 +21,7 @@ use Rattle.xc_moves.specs.Dancing.{Dancing}
 use Rattle.xc_moves.specs.Commits.{CanStand, after_use, after_uses}
 use Rattle.xc_moves.proofs.MoveLemmas.{by_test, rises_filter, options_rise, Rises, Rises-weaker, numbers}
 
--- ======== The states of items after moves.
+-- ======== Open items.
 
 -- an item is open where it is neither covered nor purified
 pub open_is : (t : List Move) (i : ℕ) → (not (is_covered i t) && not (is_some (purified i t))) ≡ is_open i t

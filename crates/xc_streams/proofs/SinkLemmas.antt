@@ -4,7 +4,7 @@ use Rattle.std.proofs.Common.{append_assoc, arith, ◌+◌, ◌<◌, [], Result,
 use Rattle.std.proofs.Common.{refl}
 use Rattle.std.proofs.lemmas.Grind.{common_steps}
 use Rattle.std.specs.Io.KnownBytes.{Appends, Keeps}
-use Rattle.std.specs.Prelude.{MatchResult, flat_map, IsErr, ◌==◌}
+use Rattle.std.specs.Prelude.{MatchResult, flat_map, IsErr}
 use Rattle.std.proofs.KnownBytes.{Appends-nil}
 use Rattle.std.proofs.lemmas.Bool.Decides.{nat_tests}
 use Rattle.std.proofs.lemmas.List.Concat.{flat_map-append}

@@ -1,6 +1,8 @@
 pub mod Arguments
+pub mod Flushes
 pub mod Outputs
 pub mod ShownNames
 pub mod Streams
 pub mod Texts
+pub mod WholeTexts
 pub mod inner

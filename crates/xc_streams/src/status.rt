@@ -3,7 +3,7 @@ ghost use Rattle.std.specs.Prelude.{◌≡◌, ◌⊎◌, ◌+◌, IfErr, IsTrue
 ghost use Rattle.std.specs.Io.KnownBytes.{Keeps};
 ghost use Rattle.xc_input.specs.Calls.{Rose};
 ghost use Rattle.xc_streams.specs.Texts.{WasTold};
-ghost use Rattle.xc_streams.specs.inner.Streams.{FlushFailed, WasFlushed};
+ghost use Rattle.xc_streams.specs.Flushes.{FlushFailed, WasFlushed};
 
 use crate::sink::Sink;
 use crate::write::write_all;

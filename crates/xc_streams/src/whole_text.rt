@@ -1,7 +1,7 @@
 //! Reads a whole text.
 ghost use Rattle.std.specs.Prelude.{◌≡◌, length, IfOk};
 ghost use Rattle.xc_input.specs.Pieces.{GaveAll};
-ghost use Rattle.xc_streams.specs.inner.Streams.{IsCounted};
+ghost use Rattle.xc_streams.specs.WholeTexts.{IsCounted};
 ghost use Rattle.xc_streams.specs.declared.whole_text.TextError.TheVariants.{Device, Memory};
 
 use std::alloc::{AllocError, Global};

@@ -38,7 +38,7 @@ use Rattle.xc_tools.specs.Joins.{IsFirstGap, AreOfOneProblem, AreTexts, DidJoin,
 use Rattle.xc_tools.specs.Joins.{IsBeginning, OfInput, spans_in, joined, ListsWhole}
 use Rattle.xc_tools.specs.WholeRuns.{Sinks, TookAll, FailedBehind}
 use Rattle.xc_tools.specs.SpanShapes.{AreShapes, SpanText, HasShape, bytes_of}
-use Rattle.xc_streams.specs.inner.Streams.{FlushFailed, WasFlushed}
+use Rattle.xc_streams.specs.Flushes.{FlushFailed, WasFlushed}
 use Rattle.xc_tools.specs.SpanRuns.{AreWritten, IsWritten}
 use Rattle.xc_tools.proofs.SpanLines.{after-append, wrote-append, whole-append, shape-short, shape_of, span-short}
 use Rattle.xc_tools.proofs.SpanLines.{text-shape}

@@ -17,7 +17,7 @@ ghost use Rattle.xc_tools.specs.Joins.{DidJoinWords};
 ghost use Rattle.xc_tools.specs.WholeRuns.{sinks};
 ghost use Rattle.xc_tools.specs.inner.Joining.{joined_text, fed_lines, Adds, EndsAt, IsAfter, JoinsAll};
 ghost use Rattle.xc_tools.specs.inner.Joining.{StopsIn};
-ghost use Rattle.xc_streams.specs.inner.Streams.{FlushFailed, WasFlushed};
+ghost use Rattle.xc_streams.specs.Flushes.{FlushFailed, WasFlushed};
 ghost use Rattle.xc_tools.specs.inner.Joining.{StopsReading, ToldStop};
 ghost use Rattle.xc_tools.specs.inner.SpanLines.{act_text};
 

@@ -1,4 +1,4 @@
-//! Whole runs of the programs, and the system's streams as sources and sinks.
+//! Whole runs of the programs, over the system's streams of `xc_streams`.
 //!
 //! ```text
 //! let mut input = Incoming::new(Some(rt.stdin()), random_seed(&rt));

@@ -2,7 +2,7 @@
 use Rattle.std.specs.Prelude.{ℕ, ◌<◌, ◌≤◌, ◌≡◌, ◌≢◌, Bool, false, ◌&&◌, ◌==◌, min, AllPairs, Contains, IsTrue, List}
 use Rattle.std.specs.Prelude.{length, map, count_by, slice_get, Option, Some, None, unwrap_or, ◌+◌, ◌-◌, ◌||◌, not}
 use Rattle.std.specs.Prelude.{nat_le, nat_lt, [], ◌∷◌, flat_map, slice_set, slice_index, slice_index_or, if◌then◌else◌}
-use Rattle.std.specs.Prelude.{Vec, true, All}
+use Rattle.std.specs.Prelude.{Vec, true, All, ◌++◌, codes}
 use Rattle.std.specs.Cmp.Lexicographic.{pointwise}
 use Rattle.std.specs.List.{reduce, range_with_len, list_all}
 use Rattle.std.specs.declared.alloc.Global.{Global}
@@ -12,7 +12,7 @@ use Rattle.xc_input.specs.Problem.{Puzzle, option_count, bounds_at, uses_of, col
 use Rattle.xc_input.specs.Problem.{item_count, primary_count}
 use Rattle.xc_input.specs.Named.{Named, IsSound, IsKnownUse}
 use Rattle.xc_input.specs.Cover.{times_held}
-use Rattle.xc_check.specs.UseTexts.{from_item, use_word}
+use Rattle.xc_check.specs.UseTexts.{bytes_at, from_item, use_word}
 use Rattle.xc_check.specs.Listed.{stands_for, is_known}
 
 -- ======== Options whose uses are rotations of each other are of one class. When options, of which some may be of
@@ -217,3 +217,9 @@ is_within None times = true
 -- whether options hold a primary item as often as its bounds say
 abbrev pub is_held_within : Puzzle → List ℕ → ℕ → Bool
 is_held_within p s i = is_within (bounds_at p i) (times_held p i s)
+
+-- ======== The text of a colour.
+
+-- a colour after a colon; nothing for colour 0
+abbrev pub colour_text : List (List ℕ) → ℕ → List ℕ
+colour_text colours c = if c == 0 then [] else codes ":" ++ bytes_at colours c

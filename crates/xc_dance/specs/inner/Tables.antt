@@ -444,7 +444,7 @@ uses_behind p i x = drop (place_in i (uses_of p x) + 1) (uses_of p x)
 abbrev pub uses_before : Puzzle → ℕ → ℕ → List Use
 uses_before p i x = take (place_in i (uses_of p x)) (uses_of p x)
 
--- ======== What the linked tables answer by option numbers, with 0 for none.
+-- ======== Where the nodes of an item are.
 
 -- a node of item i is there
 pub record IsNodeOf (p : Puzzle) (i place : ℕ) : Type 0 where

@@ -16,7 +16,7 @@ use Rattle.xc_tools.specs.declared.outcomes.Stop.TheVariants.{NotText, Other, Ga
 use Rattle.xc_tools.specs.declared.joint.Joint.{Joint}
 use Rattle.xc_tools.specs.declared.outcomes.Refusal.{Refusal}
 use Rattle.xc_tools.specs.declared.outcomes.Refusal.TheVariants as refusals
-use Rattle.xc_streams.specs.inner.Streams.{FlushFailed, WasFlushed}
+use Rattle.xc_streams.specs.Flushes.{FlushFailed, WasFlushed}
 use Rattle.xc_tools.specs.inner.SpanLines.{Stand, goes, faulty, mixed, apart, stand_after, join_of, start, wrote}
 
 -- the state after lines from the beginning on
