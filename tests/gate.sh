@@ -1,11 +1,11 @@
 #!/bin/sh
 # gate.sh [--page PAGE]: `rt ci`, with its output and its status, on all processors. With --page, if it passes, the
 # page's row for as many processors gets the kit, the number of mutants, and the minutes (elapsed, of a processor).
-# `rt ci` gives most proofs one job. Each library needs the one below it, so these are proved before by a few runs of
-# their own, in which most get two jobs, on a copy without mutants, for which a run would wait. Beside the next
-# libraries come the mutants of the last ones, each in a copy with no other, and what else stands on them: with one job,
-# since two need up to half as much CPU time more, and the tests a minute later, so that they leave `xc_list` to the run
-# of `xc_tools`. `rt ci` takes what all kept. With CI=true the kit refuses a run of some crates, and `rt ci` is alone.
+# `rt ci` gives most proofs one job. Each library needs those below it, so the longest chain of them is proved ahead, by
+# runs of their own, which get two jobs, on a copy without mutants, for which a run would wait. Beside these stands what
+# needs none of the next ones, with one job: two need up to half as much CPU time more. `rt ci` starts when the chain is
+# proved up to `xc_list`, with a lane more than there are processors: the one for `xc_count` waits for the run that
+# proves it. It takes what all kept. With CI=true the kit refuses a run of some crates, and `rt ci` is alone.
 cd "$(dirname "$0")/.." || exit 2
 folder=$(mktemp -d) || exit 2
 ahead= whole=
@@ -14,44 +14,45 @@ trap 'exit 2' HUP INT TERM
 page=
 [ "${1-}" != --page ] || page=${2:?PAGE}
 jobs=${RT_JOBS:-$(nproc)}
+lanes=$jobs
 begun=$(date +%s)
 if [ "${CI-}" != true ]; then
     mkdir "$folder/tree"
     tar -c --exclude='crates/*/must-fail' --exclude='crates/*/mutants.edits' --exclude='crates/*/out' \
         crates crates.txt HANDLES | tar -x -C "$folder/tree"
     (unset RT_JOBS && exec setsid sh -ec '
+        trap "touch \"$0-ready\"" EXIT
         library() { (cd "$0" && rt ci "$1"); }
-        beside() { (cd "$0" && RT_JOBS=1 exec rt ci "$@") & others="$others $!"; }
-        mutant() {
-            cp -r "$0" "$0-$1" && cp -r "crates/$1/must-fail" "$0-$1/crates/$1"
-            (cd "$0-$1" && RT_JOBS=1 exec rt ci "$1") & others="$others $!"
+        beside() { (cd "${2-$0}" && RT_JOBS=1 exec rt ci $1) & }
+        # These crates, with their mutants.
+        mutants() {
+            copy=$(mktemp -d "$0-XXXXXX") && cp -r "$0/." "$copy"
+            for name in $1; do cp -r "crates/$name/must-fail" "$copy/crates/$name"; done
+            beside "$1" "$copy"
         }
-        others=
+        mutants natural
         library xc_input
-        mutant xc_input
-        mutant natural
-        library xc_search
-        mutant xc_dance
-        mutant xc_search
-        mutant xc_count
-        (sleep 60 && cd "$0" && RT_JOBS=1 exec rt ci library_tests) & others="$others $!"
-        library xc_tools
-        mutant xc_list
-        mutant xc_tools
-        mutant xc_c
-        mutant xc_count_run
-        beside upper_tests
-        beside dlx1 dlx2 dlx3
-        beside dlxcheck dlx_span dlx_join
-        beside dlx_count names_of_covers
-        wait $others' "$folder/tree") >"$folder/log" 2>&1 </dev/null &
+        mutants "xc_input xc_check"
+        library xc_moves
+        mutants "xc_moves xc_streams"
+        beside xc_search
+        search=$!
+        library xc_dance
+        wait $search
+        mutants "xc_dance xc_search"
+        beside xc_count
+        library xc_list
+        touch "$0-ready"
+        wait' "$folder/tree") >"$folder/log" 2>&1 </dev/null &
     ahead=$!
-    wait $ahead
+    until [ -e "$folder/tree-ready" ]; do sleep 1; done
+    lanes=$((jobs + 1))
 fi
-RT_JOBS=$jobs rt ci &
+RT_JOBS=$lanes rt ci &
 whole=$!
 wait $whole
 status=$?
+[ -z "$ahead" ] || wait $ahead
 # `make all` takes the programs that this built.
 [ $status != 0 ] || scripts/build --note dlx1 dlx2 dlx3 dlxcheck dlx_span dlx_join dlx_count
 if [ $status = 0 ] && [ -n "$page" ]; then
