@@ -65,6 +65,14 @@ def exports(top: Path, crate: str) -> tuple[set[str], set[str]]:
     return names, {f"crates/{crate}/src/{name}.rt" for name in re.findall(r"^pub mod (\w+);", text, re.M)}
 
 
+def passed_on(top: Path, crate: str) -> Iterator[tuple[str, Key]]:
+    """The names that a library exports of another one, with where it has them from."""
+    text = (top / "crates" / crate / "src" / "lib.rt").read_text(encoding="utf-8")
+    for home, names in imports("\n".join(re.findall(r"^pub use [^;]*;", text, re.M))):
+        if (top / "crates" / home).is_dir():
+            yield from ((name, (home, name)) for name in names)
+
+
 # ---- where things start and end
 
 def cut_blocks(lines: Sequence[str], indent: str) -> Iterator[Block]:

@@ -29,7 +29,8 @@ the members of a vector. Words that are not on this page are those of the toolch
 
 def page(repository: Repository) -> Iterator[str]:
     yield from (" ".join(paragraph.split("\n")) + "\n" for paragraph in HEAD.split("\n\n"))
-    calls = [call for name in CALLS for call in repository.calls_named(name)]
+    # Of two libraries that have a call of the name, the upper one.
+    calls = [repository.calls_named(name)[-1] for name in CALLS]
     for call in calls:
         yield f"- [`{call.name}`](#{call.name}) reaches {counted(figures(repository.reached([call])))}."
     yield ""

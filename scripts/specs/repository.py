@@ -3,7 +3,7 @@ import re
 from collections.abc import Iterable, Iterator, Sequence
 from pathlib import Path
 
-from specs.code import Code, exports, read_source
+from specs.code import Code, exports, passed_on, read_source
 from specs.definitions import Module, cited_by_definition, read_crate
 from specs.entries import Entry, Key
 
@@ -23,6 +23,7 @@ class Repository:
                 code.read(read_source(top, path, crate, self.crates))
         self.entries = {one.key: one for module in modules for one in module.definitions}
         self.entries.update(code.types)
+        self.passed_on = {(crate, name): home for crate in self.crates for name, home in passed_on(top, crate)}
         self.calls = [one for crate in self.crates for one in public_calls(top, crate, code)]
         self.link()
 
@@ -37,7 +38,9 @@ class Repository:
             one.cites = [key for key in homes if key in self.entries and key != one.key]
 
     def home(self, key: Key) -> Key:
-        """The home of a definition that a module may only pass on; a constructor's data type."""
+        """The home of a definition or a type that a module or a library may only pass on; a constructor's data type."""
+        if key in self.passed_on:
+            return self.home(self.passed_on[key])
         module = self.modules.get(key[0])
         if module is None or key in self.entries:
             return key
