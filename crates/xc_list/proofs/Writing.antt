@@ -1,5 +1,5 @@
 -- What is written: texts, words, numbers and the members of a search, one after another.
-use Rattle.std.proofs.Common.{◌≡◌, ℕ, ◌≤◌, ◌-◌, List, ◌++◌, Option, None, Some, length, take, drop, ap, ◌∙◌}
+use Rattle.std.proofs.Common.{◌≡◌, ℕ, ◌≤◌, ◌-◌, List, ◌++◌, Some, length, take, drop, ap, ◌∙◌}
 use Rattle.std.proofs.Common.{append_assoc, arith, ◌+◌, ◌<◌, [], ◌∷◌, Result, Ok, Err, get_or, append-nil, subst, zero}
 use Rattle.std.proofs.Common.{suc, refl, ◌^◌, ◌&&◌, true, false, map, take_all}
 use Rattle.std.proofs.Common.{filter, sym, add-one, lt-ltb, ◌/◌, ◌%◌, Bool}
@@ -41,9 +41,9 @@ use Rattle.xc_search.specs.inner.Levels.{size_of}
 use Rattle.xc_search.proofs.LoopSteps.{drop_past, shown_next, shown_past}
 use Rattle.xc_search.proofs.ListingLemmas.{few_branches, branches_less}
 use Rattle.xc_streams.proofs.SinkLemmas.{then_took, then_broke, broke_before}
-use Rattle.xc_check.specs.inner.Classes.{colour_text}
+use Rattle.xc_check.proofs.NumberLemmas.{some_digits}
 use Rattle.xc_list.specs.inner.Writing.{printed_text, StandsAt, Puts, held_text, digest_start}
-use Rattle.xc_check.specs.UseTexts.{bytes_at, from_item}
+use Rattle.xc_check.specs.UseTexts.{from_item}
 use Rattle.xc_list.specs.Output.{output, is_printed, member_text}
 use Rattle.xc_streams.specs.Texts.{SinkState, Took, BrokeOff}
 use Rattle.xc_check.specs.LongNumbers.{long_number}
