@@ -319,7 +319,7 @@ class Faults(unittest.TestCase):
             with open(wrong, "w") as file:
                 file.write("#!/bin/sh\nprintf '1:\\n'\necho Out of memory. >&2\nexit 4\n")
             os.chmod(wrong, stat.S_IRWXU)
-            # A dlx-count that were found elsewhere might end before it.
+            # A dlx-count from elsewhere could end first.
             with mock.patch.object(programs, "folders", lambda program: [folder]), mock.patch.dict(os.environ, PATH=""):
                 for run in (problem.count, lambda: list(problem.solve())):
                     with self.assertRaises(ProgramFailed) as raised:
