@@ -2,10 +2,9 @@
 # gate.sh [--page PAGE]: `rt ci`, with its output and its status, on all processors. With --page, if it passes, the
 # page's row for as many processors gets the kit, the number of mutants, and the minutes (elapsed, of a processor).
 # `rt ci` gives most proofs one job. Each library needs those below it, so the longest chain of them is proved ahead, by
-# runs of their own, which get two jobs, on a copy without mutants, for which a run would wait. Beside these stands what
-# needs none of the next ones, with one job: two need up to half as much CPU time more. `rt ci` starts when the chain is
-# proved up to `xc_list`, with a lane more than there are processors: the one for `xc_count` waits for the run that
-# proves it. It takes what all kept. With CI=true the kit refuses a run of some crates, and `rt ci` is alone.
+# runs of their own, which get two jobs, on a copy without mutants, for which a run would wait. Beside it stands what the
+# next ones need, with one job: two need up to half as much CPU time more. `rt ci` starts when `xc_count` is
+# proved, and takes what all kept. With CI=true the kit refuses a run of some crates, and `rt ci` is alone.
 cd "$(dirname "$0")/.." || exit 2
 folder=$(mktemp -d) || exit 2
 ahead= whole=
@@ -14,7 +13,6 @@ trap 'exit 2' HUP INT TERM
 page=
 [ "${1-}" != --page ] || page=${2:?PAGE}
 jobs=${RT_JOBS:-$(nproc)}
-lanes=$jobs
 begun=$(date +%s)
 if [ "${CI-}" != true ]; then
     mkdir "$folder/tree"
@@ -23,32 +21,27 @@ if [ "${CI-}" != true ]; then
     (unset RT_JOBS && exec setsid sh -ec '
         trap "touch \"$0-ready\"" EXIT
         library() { (cd "$0" && rt ci "$1"); }
-        beside() { (cd "${2-$0}" && RT_JOBS=1 exec rt ci $1) & }
-        # These crates, with their mutants.
-        mutants() {
-            copy=$(mktemp -d "$0-XXXXXX") && cp -r "$0/." "$copy"
-            for name in $1; do cp -r "crates/$name/must-fail" "$copy/crates/$name"; done
-            beside "$1" "$copy"
-        }
-        mutants natural
+        beside() { (cd "$0" && RT_JOBS=1 exec rt ci "$1") & }
+        beside natural
         library xc_input
-        mutants "xc_input xc_check"
+        beside xc_check
         library xc_moves
-        mutants "xc_moves xc_streams"
+        beside xc_streams
         beside xc_search
-        search=$!
         library xc_dance
-        wait $search
-        mutants "xc_dance xc_search"
-        beside xc_count
+        wait
+        library xc_count &
+        count=$!
         library xc_list
+        library library_tests &
+        beside xc_tools
+        wait $count
         touch "$0-ready"
         wait' "$folder/tree") >"$folder/log" 2>&1 </dev/null &
     ahead=$!
     until [ -e "$folder/tree-ready" ]; do sleep 1; done
-    lanes=$((jobs + 1))
 fi
-RT_JOBS=$lanes rt ci &
+RT_JOBS=$jobs rt ci &
 whole=$!
 wait $whole
 status=$?
