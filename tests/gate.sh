@@ -1,10 +1,11 @@
 #!/bin/sh
 # gate.sh [--page PAGE]: `rt ci`, with its output and its status, on all processors. With --page, if it passes, the
 # page's row for as many processors gets the kit, the number of mutants, and the minutes (elapsed, of a processor).
-# `rt ci` gives most proofs one job. Each library needs those below it, so the longest chain of them is proved ahead, by
-# runs of their own, which get two jobs, on a copy without mutants, for which a run would wait. Beside it stands what the
-# next ones need, with one job: two need up to half as much CPU time more. `rt ci` starts when `xc_count` is
-# proved, and takes what all kept. With CI=true the kit refuses a run of some crates, and `rt ci` is alone.
+# `rt ci` gives most proofs one job. Each library needs those below it, so those that others wait for longest are
+# proved ahead, by runs of their own, which get two jobs, on a copy without mutants, for which a run would wait. Beside
+# them stands what the next ones need, with one job (two need up to half as much CPU time more), and mutants where a
+# processor would stand idle. `rt ci` starts when `xc_count` is proved, and takes what all kept. With CI=true the kit
+# refuses a run of some crates, and `rt ci` is alone.
 cd "$(dirname "$0")/.." || exit 2
 folder=$(mktemp -d) || exit 2
 ahead= whole=
@@ -21,20 +22,29 @@ if [ "${CI-}" != true ]; then
     (unset RT_JOBS && exec setsid sh -ec '
         trap "touch \"$0-ready\"" EXIT
         library() { (cd "$0" && rt ci "$1"); }
-        beside() { (cd "$0" && RT_JOBS=1 exec rt ci "$1") & }
-        beside natural
+        # CRATES [LANES [TREE]]: one job in each lane.
+        beside() { (cd "${3-$0}" && RT_JOBS=${2-1} exec rt ci $1) & }
+        # These crates, with their mutants.
+        mutants() {
+            copy=$(mktemp -d "$0-XXXXXX") && cp -r "$0/." "$copy"
+            for name in $1; do cp -r "crates/$name/must-fail" "$copy/crates/$name"; done
+            beside "$1" 1 "$copy"
+        }
+        mutants natural
         library xc_input
-        beside xc_check
+        mutants xc_check
         library xc_moves
-        beside xc_streams
+        mutants "xc_moves xc_streams"
         beside xc_search
         library xc_dance
         wait
+        beside xc_list 2
+        list=$!
         library xc_count &
         count=$!
-        library xc_list
-        library library_tests &
-        beside xc_tools
+        mutants "xc_input xc_dance xc_search"
+        wait $list
+        beside "library_tests xc_tools" 3
         wait $count
         touch "$0-ready"
         wait' "$folder/tree") >"$folder/log" 2>&1 </dev/null &
