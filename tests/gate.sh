@@ -42,9 +42,10 @@ if [ "${CI-}" != true ]; then
         list=$!
         library xc_count &
         count=$!
+        beside library_tests
         mutants "xc_input xc_dance xc_search"
         wait $list
-        beside "library_tests xc_tools" 3
+        beside "search_tests xc_tools" 3
         wait $count
         touch "$0-ready"
         wait' "$folder/tree") >"$folder/log" 2>&1 </dev/null &

@@ -1,5 +1,5 @@
 //! Exact cover problems, read, searched and judged: what a caller needs of the libraries, under one name.
-//! The three programs below are in `examples.rt` of `library_tests` too, where they are run. Each is over a
+//! The three programs below are in `examples.rt` of `search_tests` too, where they are run. Each is over a
 //! problem as it was read:
 //!
 //! ```text

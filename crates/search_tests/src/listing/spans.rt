@@ -1,5 +1,5 @@
 //! Spans of listings, and the words that mean them.
-use crate::fixtures::{THREE_ALIKE, TWICE, Wanted, gathered, wrong_row};
+use library_tests::fixtures::{THREE_ALIKE, TWICE, Wanted, gathered, wrong_row};
 use std::alloc::Global;
 use xc_dance::Lists;
 use xc_input::{Kind, Problem};

@@ -1,7 +1,7 @@
 //! The calls that runs and spans make of a dance: those of a search that goes as far, and no more.
 
-use crate::fixtures::{ALONE, COLOURED, SEVEN, THREE_ALIKE, TWICE, Wanted, wrong_row};
 use crate::search::moves::{Calls, calls, calls_of_search, keeper};
+use library_tests::fixtures::{ALONE, COLOURED, SEVEN, THREE_ALIKE, TWICE, Wanted, wrong_row};
 use std::alloc::Global;
 use xc_input::{Kind, Problem};
 use xc_list::{SpanWords, Tray, VecSink, Words, list_span_over, run_over};

@@ -1,6 +1,6 @@
 //! Searches of spans: the rows at which they halt, and how many members they have.
-use crate::fixtures::{SEVEN, Wanted, wrong_row};
 use crate::search::made::are_undone;
+use library_tests::fixtures::{SEVEN, Wanted, wrong_row};
 use std::alloc::Global;
 use xc_dance::Lists;
 use xc_input::{Kind, Problem};

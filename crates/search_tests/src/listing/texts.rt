@@ -1,5 +1,5 @@
 //! Texts that are written by themselves, and choice lines that are read.
-use crate::fixtures::{SEVEN, Wanted, wrong_row};
+use library_tests::fixtures::{SEVEN, Wanted, wrong_row};
 use std::alloc::Global;
 use xc_input::{Kind, Problem};
 use xc_list::{VecSink, branch_number, write_choices, write_line, write_solution};

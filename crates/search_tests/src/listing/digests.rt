@@ -1,5 +1,5 @@
 //! The digests of problems.
-use crate::fixtures::{ALONE, COLOURED, SEVEN, THREE_ALIKE, TWICE, Wanted, wrong_row};
+use library_tests::fixtures::{ALONE, COLOURED, SEVEN, THREE_ALIKE, TWICE, Wanted, wrong_row};
 use std::alloc::Global;
 use xc_input::{Kind, Problem};
 use xc_list::problem_digest;

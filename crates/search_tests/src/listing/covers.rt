@@ -1,5 +1,5 @@
 //! Sets of options that are covers.
-use crate::fixtures::{ALONE, COLOURED, SEVEN, Wanted, wrong_row};
+use library_tests::fixtures::{ALONE, COLOURED, SEVEN, Wanted, wrong_row};
 use std::alloc::Global;
 use xc_input::{Kind, Problem};
 use xc_list::is_cover;

@@ -1,7 +1,7 @@
 //! A sink of a caller's own, which grows.
 ghost use Rattle.std.specs.Prelude.{None, true};
 
-use crate::fixtures::{SEVEN, SEVEN_LISTING, Wanted, wrong_row};
+use library_tests::fixtures::{SEVEN, SEVEN_LISTING, Wanted, wrong_row};
 use std::alloc::Global;
 use xc_input::{Kind, Problem};
 use xc_list::{End, Flushes, Sink, Words, WriteFailed, run};

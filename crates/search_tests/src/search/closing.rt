@@ -1,5 +1,5 @@
 //! A search that is closed after any number of steps returns its tables as they were built.
-use crate::fixtures::{ALONE, COLOURED, TWICE, Wanted, wrong_row};
+use library_tests::fixtures::{ALONE, COLOURED, TWICE, Wanted, wrong_row};
 use std::alloc::Global;
 use xc_dance::Links;
 use xc_input::{Kind, Problem};

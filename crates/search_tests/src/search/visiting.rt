@@ -1,6 +1,6 @@
 //! Visits to solutions, until one is enough.
-use crate::fixtures::{THREE_ALIKE, Wanted, wrong_row};
 use crate::search::made::are_undone;
+use library_tests::fixtures::{THREE_ALIKE, Wanted, wrong_row};
 use std::alloc::Global;
 use xc_dance::Lists;
 use xc_input::{Kind, Problem};

@@ -1,5 +1,5 @@
 //! What runs list, and how they end.
-use crate::fixtures::{
+use library_tests::fixtures::{
     ALONE, ALONE_LISTING, COLOURED, COLOURED_LISTING, SEVEN, SEVEN_LISTING, THREE_ALIKE,
     THREE_LISTING, TWICE, TWICE_LISTING, Wanted, wrong_row,
 };

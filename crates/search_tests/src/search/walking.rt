@@ -1,6 +1,6 @@
 //! A walk over live lists.
-use crate::fixtures::{SEVEN, Wanted, wrong_row};
 use crate::search::made::{SEVEN_CHOICES, are_undone};
+use library_tests::fixtures::{SEVEN, Wanted, wrong_row};
 use std::alloc::Global;
 use xc_dance::Lists;
 use xc_input::{Kind, Problem};

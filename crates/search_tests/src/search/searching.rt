@@ -1,6 +1,6 @@
 //! The solutions of a search, by each call that goes on to them.
-use crate::fixtures::{SEVEN, THREE_ALIKE, Wanted, wrong_row};
 use crate::search::made::{SEVEN_CHOICES, are_undone};
+use library_tests::fixtures::{SEVEN, THREE_ALIKE, Wanted, wrong_row};
 use std::alloc::Global;
 use xc_dance::Lists;
 use xc_input::{Kind, Problem};

@@ -5,7 +5,7 @@ ghost use Rattle.xc_moves.specs.Moves.{IsLegal, AreTweaks};
 ghost use Rattle.xc_dance.specs.Linked.{dancing_of};
 ghost use Rattle.xc_search.specs.Room.{room_for};
 
-use crate::fixtures::{ALONE, Wanted, wrong_row};
+use library_tests::fixtures::{ALONE, Wanted, wrong_row};
 use std::alloc::Global;
 use xc_dance::{Count, Dance, Full, Links, Move};
 use xc_input::{Kind, Problem};
