@@ -22,28 +22,23 @@ if [ "${CI-}" != true ]; then
     (unset RT_JOBS && exec setsid sh -ec '
         trap "touch \"$0-ready\"" EXIT
         library() { (cd "$0" && rt ci "$1"); }
-        # CRATES [LANES [TREE]]: one job in each lane.
-        beside() { (cd "${3-$0}" && RT_JOBS=${2-1} exec rt ci $1) & }
-        # These crates, with their mutants.
-        mutants() {
+        # CRATES LANES [MUTANTS]: one job in each lane, with the mutants of the crates MUTANTS.
+        beside() {
             copy=$(mktemp -d "$0-XXXXXX") && cp -r "$0/." "$copy"
-            for name in $1; do cp -r "crates/$name/must-fail" "$copy/crates/$name"; done
-            beside "$1" 1 "$copy"
+            for name in ${3-}; do cp -r "crates/$name/must-fail" "$copy/crates/$name"; done
+            (cd "$copy" && RT_JOBS=$2 exec rt ci $1) &
         }
-        mutants natural
+        beside natural 1 natural
         library xc_input
-        mutants xc_check
+        beside xc_check 1 xc_check
         library xc_moves
-        mutants "xc_moves xc_streams"
-        beside xc_search
+        beside "xc_streams xc_search" 2 "xc_moves xc_streams"
         library xc_dance
         wait
-        beside xc_list 2
+        beside "xc_list library_tests" 3 "xc_input xc_dance xc_search"
         list=$!
         library xc_count &
         count=$!
-        beside library_tests
-        mutants "xc_input xc_dance xc_search"
         wait $list
         beside "search_tests xc_tools" 3
         wait $count
