@@ -24,7 +24,8 @@ if [ "${CI-}" != true ]; then
         library() { (cd "$0" && rt ci "$1"); }
         # CRATES LANES [MUTANTS]: one job in each lane, with the mutants of the crates MUTANTS.
         beside() {
-            copy=$(mktemp -d "$0-XXXXXX") && cp -r "$0/." "$copy"
+            copy=$(mktemp -d "$0-XXXXXX")
+            cp -r "$0/." "$copy"
             for name in ${3-}; do cp -r "crates/$name/must-fail" "$copy/crates/$name"; done
             (cd "$copy" && RT_JOBS=$2 exec rt ci $1) &
         }
@@ -45,7 +46,7 @@ if [ "${CI-}" != true ]; then
         touch "$0-ready"
         wait' "$folder/tree") >"$folder/log" 2>&1 </dev/null &
     ahead=$!
-    until [ -e "$folder/tree-ready" ]; do sleep 1; done
+    while kill -0 $ahead 2>/dev/null && [ ! -e "$folder/tree-ready" ]; do sleep 1; done
 fi
 RT_JOBS=$jobs rt ci &
 whole=$!
