@@ -38,10 +38,10 @@ if [ "${CI-}" != true ]; then
         wait
         beside "xc_list library_tests" 3 "xc_input xc_dance xc_search"
         list=$!
-        library xc_count &
+        beside xc_count 1
         count=$!
         wait $list
-        beside "search_tests xc_tools" 3
+        beside "search_tests xc_tools" 3 "xc_list xc_tools"
         wait $count
         touch "$0-ready"
         wait' "$folder/tree") >"$folder/log" 2>&1 </dev/null &
