@@ -30,7 +30,7 @@ HERE = Path(__file__).resolve().parent
 TOP = HERE.parent.parent
 HEAD = "| Form | Instead | Where | Counted on | Ratio |"
 LINE = re.compile(r"(# (?:form|instead|set)|file|old|new):(?: (.*))?")
-NAMED = re.compile(r"\b(?:fn|struct|enum|impl|trait|const(?! fn)) +(\w+)")
+NAMED = re.compile(r"(?m)^ *(?:pub(?:\(crate\))? )?(?:const )?(?:fn|struct|enum|impl|trait|const) +(\w+)")
 
 
 class Change(NamedTuple):

@@ -171,7 +171,7 @@ pub fn next_token<'a>(
 }
 
 /// The same where the first token isn't at the front, or its name isn't a short one.
-#[inline(never)]
+#[inline(always)]
 fn other_token<'a>(
     names: &NameSet,
     guesses: &Guesses,
