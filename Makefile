@@ -92,7 +92,7 @@ test-bench: ## test the scripts that measure
 	@python3 scripts/bench/test_bench.py
 
 # What was built of these sources, here or by the gate, is taken as it is.
-all: ## build all programs, from nothing about a quarter of an hour
+all: ## build all programs, which proves the libraries first
 	@scripts/build $(PROGRAMS) $(DASHED_CRATES)
 	@$(MAKE) -s --no-print-directory bin
 $(PROGRAMS) $(DASHED_CRATES):

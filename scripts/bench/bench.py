@@ -6,11 +6,11 @@ Counts the solutions of the problems that problems.py wrote into FOLDER, by the 
 in the folder given by --ours and, beside them, by other solvers: C programs dlx1, dlx2 and dlx3 in each folder given
 by --c, and, where they are installed, clasp and Gecode (fzn-gecode), as 0-1 problems that are made from the same texts,
 and Sage's dancing links (sage), for problems of kind 1. All take turns, on one core where --core gives its number. Told
-are ratios of CPU time, ours to theirs, the median of K runs (3), or of at most 3 where one of each took more than 15
-seconds together: below 1 ours is faster. A run of theirs may take so many seconds (60); where it takes longer, the
-ratio is at most the one told. --c-alone leaves all but C out. Then come the ratios of the most memory held, and how
-time and memory grow with the problem. Each run has to end with the problem's number of solutions. With --page the
-tables take the places of those with the same heads in a page, once all are there.
+are ratios of CPU time, ours to theirs, of the least of K runs (3), or of at most 3 where one of each took more than 15
+seconds together: below 1 ours is faster. (What else a host does only adds to a run.) A run of theirs may take so many
+seconds (60); where it takes longer, the ratio is at most the one told. --c-alone leaves all but C out. Then come the
+ratios of the most memory held, and how time and memory grow with the problem. Each run has to end with the problem's
+number of solutions. With --page the tables take the places of those with the same heads in a page, once all are there.
 """
 
 import argparse
@@ -18,7 +18,6 @@ import os
 import re
 import resource
 import shutil
-import statistics
 import subprocess
 import sys
 import tempfile
@@ -204,20 +203,20 @@ def one_problem(folder, problem, solvers, repeat, most):
                 solver, problem, text, limit, times[solver.name], memory[solver.name]
             ):
                 late.add(solver.name)
-    own = statistics.median(times[ours.name])
+    own = min(times[ours.name])
     found = {}
     for other in solvers[1:]:
         if other.name in late:
             found[other.name] = f"< {own / most:.3f}", None, None
             continue
-        ratio = max(own, 0.001) / max(statistics.median(times[other.name]), 0.001)
+        ratio = max(own, 0.001) / max(min(times[other.name]), 0.001)
         is_long = own >= 0.01
         found[other.name] = (
             f"{ratio:.2f}" if ratio >= 0.1 else f"{ratio:.3f}",
             ratio if is_long else None,
             max(memory[ours.name]) / max(memory[other.name]) if is_long else None,
         )
-    seconds = ", ".join(f"{s.name} {statistics.median(times[s.name]):.2f} s" for s in solvers if s.name not in late)
+    seconds = ", ".join(f"{s.name} {min(times[s.name]):.2f} s" for s in solvers if s.name not in late)
     print(f"{problem.name}: {seconds}", file=sys.stderr, flush=True)
     return found
 
