@@ -5,7 +5,7 @@
 use std::alloc::AllocError;
 use std::io::IsTerminal;
 use std::process::ExitCode;
-use xc_count_run::count_covers;
+use xc_count_run::count_covers_by;
 use xc_tools::{Direct, Incoming, Outgoing, exit_code, random_seed, words};
 
 fn main(rt: HostRuntime) -> ExitCode {
@@ -15,8 +15,9 @@ fn main(rt: HostRuntime) -> ExitCode {
 /// Answers what the words ask for of the problem on standard input, and returns the status.
 fn run(rt: &HostRuntime) -> Result<u8, AllocError> {
     let words = words(rt)?;
-    let mut input = Incoming::new(Some(rt.stdin()), random_seed(rt));
+    let mut input = Incoming::new(Some(rt.stdin()));
     let mut out = Outgoing::new(rt.alloc(), rt.stdout(), rt.stdout().is_terminal())?;
     let mut err = Direct::new(rt.stderr());
-    Ok(count_covers(rt.alloc(), &words, &mut input, &mut out, &mut err))
+    let seed = random_seed(rt);
+    Ok(count_covers_by(rt.alloc(), seed, &words, &mut input, &mut out, &mut err))
 }

@@ -5,8 +5,7 @@ use std::alloc::AllocError;
 use std::io::IsTerminal;
 use std::process::ExitCode;
 use xc_tools::{
-    Direct, Outgoing, asked_join, closed_stream, exit_code, join_spans, random_seed, span_files,
-    words,
+    Direct, Outgoing, asked_join, closed_stream, exit_code, join_spans, span_files, words,
 };
 
 fn main(rt: HostRuntime) -> ExitCode {
@@ -25,6 +24,6 @@ fn run(rt: &HostRuntime) -> Result<u8, AllocError> {
         return Ok(status);
     }
     let names = words.get(1..).unwrap_or(&[]);
-    let mut input = span_files(rt.alloc(), rt, names, rt.stdin(), random_seed(rt))?;
+    let mut input = span_files(rt.alloc(), rt, names, rt.stdin())?;
     Ok(join_spans(rt.alloc(), &words, &mut input, &mut out, &mut err))
 }

@@ -4,7 +4,7 @@
 use std::alloc::AllocError;
 use std::io::IsTerminal;
 use std::process::ExitCode;
-use xc_tools::{Direct, Incoming, Outgoing, exit_code, random_seed, solve_span, words};
+use xc_tools::{Direct, Incoming, Outgoing, exit_code, random_seed, solve_span_by, words};
 
 fn main(rt: HostRuntime) -> ExitCode {
     exit_code(&rt, run(&rt))
@@ -14,8 +14,9 @@ fn main(rt: HostRuntime) -> ExitCode {
 fn run(rt: &HostRuntime) -> Result<u8, AllocError> {
     let words = words(rt)?;
     let by_line = rt.stdout().is_terminal();
-    let mut input = Incoming::new(Some(rt.stdin()), random_seed(rt));
+    let mut input = Incoming::new(Some(rt.stdin()));
     let mut out = Outgoing::new(rt.alloc(), rt.stdout(), by_line)?;
     let mut err = Direct::new(rt.stderr());
-    Ok(solve_span(rt.alloc(), &words, &mut input, &mut out, &mut err))
+    let seed = random_seed(rt);
+    Ok(solve_span_by(rt.alloc(), seed, &words, &mut input, &mut out, &mut err))
 }

@@ -5,7 +5,7 @@ use std::alloc::AllocError;
 use std::io::IsTerminal;
 use std::process::ExitCode;
 use xc_tools::{
-    Direct, Incoming, Outgoing, asked_kind, closed_stream, exit_code, judge, named_file,
+    Direct, Incoming, Outgoing, asked_kind, closed_stream, exit_code, judge_by, named_file,
     random_seed, words,
 };
 
@@ -16,8 +16,7 @@ fn main(rt: HostRuntime) -> ExitCode {
 /// Judges the listing on standard input, and returns the status. Right words are followed by a look at the
 /// standard streams: the problem's file would take the number of a closed one.
 fn run(rt: &HostRuntime) -> Result<u8, AllocError> {
-    let seed = random_seed(rt);
-    let mut listing = Incoming::new(Some(rt.stdin()), seed);
+    let mut listing = Incoming::new(Some(rt.stdin()));
     // Taken before the words are judged: without memory for it the status is 4, whatever they are.
     let mut out = Outgoing::new(rt.alloc(), rt.stdout(), rt.stdout().is_terminal())?;
     let mut err = Direct::new(rt.stderr());
@@ -27,9 +26,10 @@ fn run(rt: &HostRuntime) -> Result<u8, AllocError> {
     {
         return Ok(status);
     }
-    let mut problem = named_file(rt, &words, seed);
-    Ok(judge(
+    let mut problem = named_file(rt, &words);
+    Ok(judge_by(
         rt.alloc(),
+        random_seed(rt),
         &words,
         &mut problem,
         &mut listing,

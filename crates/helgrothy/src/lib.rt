@@ -46,7 +46,8 @@
 pub use xc_dance::{Count, Dance, Full, Links, Listed, Lists, Memory, Move, list_of};
 pub use xc_input::{
     Bounds, FaultKind, FaultyToken, Feed, InputError, Item, Kind, Options, Problem, Read,
-    ReadFailed, Reader, Seed, Seeded, SliceSource, Source, Use, faulty_token, read_problem,
+    ReadFailed, Reader, Seed, SliceSource, Source, Use, faulty_token, read_problem,
+    read_problem_by,
 };
 pub use xc_list::{
     End, ListingFault, Sink, SinkFault, Tray, VecSink, Verdict, WordFault, Words, WriteFailed,

@@ -4,7 +4,7 @@
 use anyhow::Result;
 use helgrothy::{
     Choice, Direct, Incoming, Kind, Links, Problem, Search, Sink, SinkFault, random_seed,
-    read_problem, write_all,
+    read_problem_by, write_all,
 };
 
 /// Writes the names of a solution's items, as a line.
@@ -41,7 +41,7 @@ fn print_ten(rt: &HostRuntime, problem: &Problem) -> Result<()> {
 }
 
 fn main(rt: HostRuntime) -> Result<()> {
-    let mut input = Incoming::new(Some(rt.stdin()), random_seed(&rt));
-    let read = read_problem(rt.alloc(), Kind::Colours, &mut input)?;
+    let mut input = Incoming::new(Some(rt.stdin()));
+    let read = read_problem_by(rt.alloc(), random_seed(&rt), Kind::Colours, &mut input)?;
     print_ten(&rt, &read.problem)
 }

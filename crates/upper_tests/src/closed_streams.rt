@@ -2,7 +2,7 @@
 use crate::told::{Told, words_of};
 use std::alloc::Global;
 use std::test::Fail;
-use xc_input::{Feed, Seed};
+use xc_input::Feed;
 use xc_list::Tray;
 use xc_tools::{closed_stream, join_spans, judge, named_file, span_files};
 
@@ -17,7 +17,7 @@ fn open_streams(rt: HostRuntime) -> Result<(), Fail> {
 
 /// The status of the judge of a file that isn't there, over an empty listing.
 fn judge_of_missing(rt: &HostRuntime, words: &[Vec<u8>], told: &mut Told) -> u8 {
-    let mut problem = named_file(rt, words, Seed::FIXED);
+    let mut problem = named_file(rt, words);
     let mut listing = Feed::new(b"", 1, None);
     judge(
         rt.alloc(),
@@ -31,7 +31,7 @@ fn judge_of_missing(rt: &HostRuntime, words: &[Vec<u8>], told: &mut Told) -> u8 
 
 /// The status of a join of a file that isn't there.
 fn join_of_missing(rt: &HostRuntime, words: &[Vec<u8>], told: &mut Told) -> Option<u8> {
-    let mut input = span_files(rt.alloc(), rt, words.get(1..)?, rt.stdin(), Seed::FIXED).ok()?;
+    let mut input = span_files(rt.alloc(), rt, words.get(1..)?, rt.stdin()).ok()?;
     Some(join_spans(rt.alloc(), words, &mut input, &mut told.out, &mut told.err))
 }
 

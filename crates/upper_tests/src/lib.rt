@@ -1,5 +1,5 @@
-//! Tests of `natural`, `xc_count` and `xc_tools`, by public calls alone. They are apart from `library_tests`, so that it
-//! is proved beside these libraries.
+//! Tests of `natural`, `xc_count` and `xc_tools`, by public calls alone, and the public surface of all libraries
+//! (`surface`). They are apart from `library_tests`, so that it is proved beside these libraries.
 #![tactic(auto)]
 
 // Counts of covers, and numbers of any size.
@@ -17,3 +17,7 @@ mod seeds;
 mod streams;
 #[cfg(test)]
 mod told;
+
+// What callers were promised.
+#[cfg(test)]
+mod surface;

@@ -1,10 +1,11 @@
 //! A whole run that counts the covers of a problem.
 //!
 //! ```text
-//! let mut input = Incoming::new(Some(rt.stdin()), random_seed(&rt));
+//! let mut input = Incoming::new(Some(rt.stdin()));
 //! let mut out = Outgoing::new(rt.alloc(), rt.stdout())?;
 //! let mut err = Direct::new(rt.stderr());
-//! let status = count_covers(rt.alloc(), &words(&rt)?, &mut input, &mut out, &mut err);
+//! let seed = random_seed(&rt);
+//! let status = count_covers_by(rt.alloc(), seed, &words(&rt)?, &mut input, &mut out, &mut err);
 //! ```
 #![tactic(auto)]
 
@@ -14,4 +15,4 @@ mod occurring;
 mod running;
 mod solution;
 
-pub use running::count_covers;
+pub use running::{count_covers, count_covers_by};

@@ -15,7 +15,7 @@ use crate::solution::find_solution;
 use natural::Natural;
 use std::alloc::Global;
 use xc_count::count;
-use xc_input::{InputError, Problem, Read, Source, read_problem};
+use xc_input::{InputError, Problem, Read, Seed, Source, read_problem_by};
 use xc_list::{Sink, warnings, write_all};
 use xc_tools::{input_error, out_of_memory};
 
@@ -130,9 +130,27 @@ fn answer_read<O: Sink, E: Sink>(
 /// with `o` after a line for each option to `out`: its number and in how many covers it is. With `n` the solution of
 /// that number is written to `out`, as a whole listing would have it. Messages go to `err`. It returns the status: 0
 /// where the answer was printed, 1 for other words, 2 for a fault of the problem, 3 where a read or a write failed, 4
-/// where memory ran out, 5 where there are fewer solutions than `n` says. Names are hashed by the input's seed.
+/// where memory ran out, 5 where there are fewer solutions than `n` says. Names are hashed by the fixed seed,
+/// for an input that nobody wrote to be slow.
 pub fn count_covers<S: Source, O: Sink, E: Sink>(
     alloc: Global,
+    words: &[Vec<u8>],
+    input: &mut S,
+    out: &mut O,
+    err: &mut E,
+) -> u8
+    ensures did { DidCountWords (map (λ w. w.items) words.now) result
+        (seen S.state input.old) (seen S.state input.new)
+        (sinks O.state E.state out.old err.old) (sinks O.state E.state out.new err.new) }
+{
+    count_covers_by(alloc, Seed::FIXED, words, input, out, err)
+}
+
+/// Does what `count_covers` does, and hashes names by this seed, which is to be random for an input that may be written
+/// to be slow.
+pub fn count_covers_by<S: Source, O: Sink, E: Sink>(
+    alloc: Global,
+    seed: Seed,
     words: &[Vec<u8>],
     input: &mut S,
     out: &mut O,
@@ -149,7 +167,7 @@ pub fn count_covers<S: Source, O: Sink, E: Sink>(
             err,
         );
     };
-    match read_problem(alloc, asked.kind, input) {
+    match read_problem_by(alloc, seed, asked.kind, input) {
         Ok(read) => answer_read(alloc, &read, &asked, out, err),
         Err(error) => no_problem(&error, err),
     }

@@ -7,16 +7,18 @@ ghost use Rattle.xc_input.specs.inner.Feeding.{fed, IsBetween, Ended, EndsAs};
 ghost use Rattle.xc_input.specs.Lines.{lines_of};
 ghost use Rattle.xc_input.specs.LinesRead.{IsLine};
 ghost use Rattle.xc_input.specs.Pieces.{GaveAll, IsWhole, IsPart};
+ghost use Rattle.xc_input.specs.declared.seed.TheConstants.Seed.{FIXED};
 
 use crate::line_reader::LineReader;
 use crate::outcome::Read;
 use crate::reader::Reader;
+use crate::seed::Seed;
 use crate::source::Source;
 use crate::{InputError, Kind};
 use std::alloc::Global;
 
-/// Reads the source to its end, or to the first error. Names and colours are hashed by the source's
-/// seed, and what is read is the same by each.
+/// Reads the source to its end, or to the first error. Names and colours are hashed by the fixed seed, for a text that
+/// nobody wrote to be slow.
 pub fn read_problem<S: Source>(
     alloc: Global,
     kind: Kind,
@@ -25,11 +27,28 @@ pub fn read_problem<S: Source>(
     ensures valid { IfOk result (λ r. IsSound r.problem) }
     ensures whole { IfOk result
         (λ r. IsWhole kind (S.state source.old) (S.state source.new) r.problem r.ignored.items) }
-    ensures seed { IfOk result (λ r. r.problem.seed ≡ S.seed_of source.old) }
+    ensures seed { IfOk result (λ r. r.problem.seed ≡ FIXED) }
+    ensures part { IfErr result (IsPart kind (S.state source.old) (S.state source.new)) }
+{
+    read_problem_by(alloc, Seed::FIXED, kind, source)
+}
+
+/// Does what `read_problem` does, and hashes names and colours by this seed, which is to be random for a text that may be
+/// written to be slow. What is read is the same by each.
+pub fn read_problem_by<S: Source>(
+    alloc: Global,
+    seed: Seed,
+    kind: Kind,
+    source: &mut S,
+) -> Result<Read, InputError>
+    ensures valid { IfOk result (λ r. IsSound r.problem) }
+    ensures whole { IfOk result
+        (λ r. IsWhole kind (S.state source.old) (S.state source.new) r.problem r.ignored.items) }
+    ensures seed { IfOk result (λ r. r.problem.seed ≡ seed) }
     ensures part { IfErr result (IsPart kind (S.state source.old) (S.state source.new)) }
 {
     let mut lines = LineReader::new(alloc)?;
-    let reader = Reader::with_seed(alloc, kind, source.seed());
+    let reader = Reader::with_seed(alloc, kind, seed);
     read_through(source, &mut lines, reader)
 }
 

@@ -8,7 +8,6 @@ ghost use Rattle.std.specs.Io.KnownBytes.{ReadConsumes};
 ghost use Rattle.xc_input.specs.Calls.{counted, GivesMost};
 
 use crate::given::Given;
-use crate::seed::Seed;
 use crate::source::{ReadFailed, Source};
 use std::fmt;
 
@@ -18,30 +17,17 @@ use std::fmt;
 #[derive(Drop)]
 pub struct SliceSource<'a> {
     left: &'a [u8],
-    seed: Seed,
     given: Given,
 }
 
 impl<'a> SliceSource<'a> {
-    /// A source over these bytes, whose names hash by the fixed seed.
+    /// A source over these bytes.
     pub fn new(bytes: &'a [u8]) -> SliceSource<'a>
         ensures rest { (⟦<SliceSource<'a> as Source>⟧.state result).rest ≡ Some bytes.now }
-        ensures seed { result.seed ≡ Seed.FIXED }
-        ensures given { (⟦<SliceSource<'a> as Source>⟧.state result).given ≡ [] }
-    {
-        SliceSource::with_seed(bytes, Seed::FIXED)
-    }
-
-    /// A source over these bytes, whose names hash by this seed. For a text that may be written to be
-    /// slow it is to be random.
-    pub fn with_seed(bytes: &'a [u8], seed: Seed) -> SliceSource<'a>
-        ensures rest { (⟦<SliceSource<'a> as Source>⟧.state result).rest ≡ Some bytes.now }
-        ensures seed { result.seed ≡ seed }
         ensures given { (⟦<SliceSource<'a> as Source>⟧.state result).given ≡ [] }
     {
         SliceSource {
             left: bytes,
-            seed,
             given: Given::new(),
         }
     }
@@ -58,8 +44,6 @@ impl<'a> Source for SliceSource<'a> {
     ghost reads = { λ old before new after result. IsOk result
         × GivesMost (length old.left.now) before after result };
 
-    ghost seed_of = { λ s. s.seed };
-
     fn read(&mut self, buf: &mut [u8]) -> Result<usize, ReadFailed>
         requires { 0 < length buf.old }
         ensures bound { IfOk result (λ n. n ≤ length buf.new) }
@@ -71,7 +55,6 @@ impl<'a> Source for SliceSource<'a> {
             self.new.given.lines ≡ self.old.given.lines ++ take n buf.new ∷ []) }
         ensures given_kept { OnErr result (self.new.given.lines ≡ self.old.given.lines) }
         ensures reads { IsOk result × GivesMost (length self.old.left.now) buf.old buf.new result }
-        ensures seed { self.new.seed ≡ self.old.seed }
     {
         let all = self.left;
         let n = all.len().min(buf.len());
@@ -80,15 +63,9 @@ impl<'a> Source for SliceSource<'a> {
         self.given = Given::after(&self.given, &all[..n]);
         Ok(n)
     }
-
-    fn seed(&self) -> Seed
-        ensures { result ≡ self.now.seed }
-    {
-        self.seed
-    }
 }
 
-/// How many bytes are left. The seed isn't shown.
+/// How many bytes are left.
 impl<'a> fmt::Debug for SliceSource<'a> {
     ghost use Rattle.std.specs.Prelude.{◌++◌, Some, codes, length};
     ghost use Rattle.std.specs.Fmt.{decimal};

@@ -1,8 +1,7 @@
 //! Where bytes come from.
 //!
-//! A source has the seed of its text, since whoever makes it knows where the text comes from; so `read_problem`,
-//! `solve` and `judge` need no second form with a seed. `seed` isn't provided, since no provided body could be proved
-//! for a source that says another one in `seed_of`. So a wrapper can't forget its source's seed unseen.
+//! A source is asked for bytes and nothing else, so that a caller's own needs one method. By which seed the names in its
+//! text are hashed is an argument of the calls that read a problem (`read_problem_by`).
 //!
 //! It records what each read gave, for contracts alone. So what is proved of a text also holds for a stream whose bytes
 //! aren't known before they are read.
@@ -12,12 +11,9 @@ ghost use Rattle.std.specs.Prelude.{Result, length, min, IfOk, IsErr, IsTrue, On
 ghost use Rattle.std.specs.Io.KnownBytes.{ReadConsumes};
 ghost use Rattle.xc_input.specs.Calls.{counted, fewer_calls, GivesMost};
 ghost use Rattle.xc_input.specs.Pieces.{SourceState};
-ghost use Rattle.xc_input.specs.declared.seed.Seed.{Seed};
-ghost use Rattle.xc_input.specs.declared.seed.TheConstants.Seed.{FIXED};
 ghost use Rattle.xc_input.specs.declared.source.ReadFailed.{ReadFailed};
 
 use crate::given::Given;
-use crate::seed::Seed;
 use std::fmt;
 use thiserror::Error;
 
@@ -35,9 +31,6 @@ pub trait Source {
     /// result.
     ghost reads: { Self → List ℕ → Self → List ℕ → Result ℕ ReadFailed → Type 0 } = { λ _ _ _ _ _. Unit {0} };
 
-    /// The seed by which the names and colours in its text are hashed: the fixed one, unless the source says otherwise.
-    ghost seed_of: { Self → Seed } = { λ _. FIXED };
-
     /// Reads into the front of the buffer, and says how many bytes. 0 is the end of the input.
     fn read(&mut self, buf: &mut [u8]) -> Result<usize, ReadFailed>
         requires { 0 < length buf.old }
@@ -49,11 +42,6 @@ pub trait Source {
         ensures given { IfOk result (λ n. (state self.new).given ≡ (state self.old).given ++ take n buf.new ∷ []) }
         ensures given_kept { OnErr result ((state self.new).given ≡ (state self.old).given) }
         ensures reads { reads self.old buf.old self.new buf.new result };
-
-    /// That seed. Those of the programs are random, since their texts may be written to be slow; `Seeded` gives one to
-    /// any source.
-    fn seed(&self) -> Seed
-        ensures { result ≡ seed_of self.now };
 }
 
 /// A source over memory. Contracts know its bytes.
@@ -143,11 +131,6 @@ impl<'a> Source for Feed<'a> {
         self.left = &all[n..];
         self.given = Given::after(&self.given, &all[..n]);
         Ok(n)
-    }
-
-    /// The fixed seed.
-    fn seed(&self) -> Seed {
-        Seed::FIXED
     }
 }
 

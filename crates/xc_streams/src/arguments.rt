@@ -14,7 +14,6 @@ use std::alloc::{AllocError, AllocGlobal, Global};
 use std::env::{Env, FillError};
 use std::fs::Files;
 use std::str;
-use xc_input::Seed;
 
 /// How many bytes most words have at most.
 const USUAL: usize = 256;
@@ -97,23 +96,21 @@ pub fn words<R: Env + AllocGlobal>(rt: &R) -> Result<Vec<Vec<u8>>, AllocError>
     read_words(rt.alloc(), &CommandLine { rt })
 }
 
-/// The file that the first word names, as a source whose names are hashed by this seed. It is opened at
-/// the first read, which fails where there is no such file to read. Without a word nothing is opened.
+/// The file that the first word names, as a source. It is opened at the first read, which fails where there is no such
+/// file to read. Without a word nothing is opened.
 pub fn named_file<'a, R: Files>(
     rt: &'a R,
     words: &'a [Vec<u8>],
-    seed: Seed,
 ) -> Incoming<System<NamedFile<'a, R>>>
     ensures missing { words.now ≡ [] → result.reader ≡ None }
     ensures named { IfSome (slice_get words.now 0) (λ w. IsUtf8 w.items →
         IsSomeAnd result.reader (λ r. r.stream.path.now ≡ w.items)) }
-    ensures seed { result.seed ≡ seed }
 {
     let Some(word) = words.first() else {
-        return Incoming::new(None, seed);
+        return Incoming::new(None);
     };
     match str::from_utf8(word) {
-        Ok(path) => Incoming::new(Some(NamedFile::new(rt, path)), seed),
-        Err(_) => Incoming::new(None, seed),
+        Ok(path) => Incoming::new(Some(NamedFile::new(rt, path))),
+        Err(_) => Incoming::new(None),
     }
 }

@@ -9,7 +9,7 @@ ghost use Rattle.xc_streams.specs.declared.system.Answer.TheVariants.{Whole};
 
 use crate::system::{System, SystemReader};
 use std::io::Read;
-use xc_input::{Given, ReadFailed, Seed, Source};
+use xc_input::{Given, ReadFailed, Source};
 
 /// A reader of the system as a source, or what could not be opened. After a failure nothing is called
 /// of it.
@@ -19,23 +19,20 @@ pub struct Incoming<R: SystemReader + Drop> {
     left: u64,
     failures: u64,
     given: Given,
-    seed: Seed,
 }
 
 impl<R: Read + Drop> Incoming<System<R>> {
-    /// A reader of std, or `None` for what could not be opened: that fails at the first read. The names
-    /// in its text are hashed by this seed.
-    pub fn new(reader: Option<R>, seed: Seed) -> Incoming<System<R>>
+    /// A reader of std, or `None` for what could not be opened: that fails at the first read.
+    pub fn new(reader: Option<R>) -> Incoming<System<R>>
         ensures reader { option_map (λ r. r.stream) result.reader ≡ reader }
         ensures missing { reader ≡ None → result.reader ≡ None }
         ensures left { result.left ≡ 2 ^ 64 - 1 }
         ensures failures { result.failures ≡ 0 }
         ensures given { result.given.lines ≡ [] }
-        ensures seed { result.seed ≡ seed }
     {
         match reader {
-            Some(reader) => Incoming::over(Some(System::new(reader)), seed),
-            None => Incoming::over(None, seed),
+            Some(reader) => Incoming::over(Some(System::new(reader))),
+            None => Incoming::over(None),
         }
     }
 }
@@ -52,19 +49,17 @@ impl<R: Read + Drop> Incoming<System<R>> {
 
 impl<R: SystemReader + Drop> Incoming<R> {
     /// The same of any reader.
-    pub fn over(reader: Option<R>, seed: Seed) -> Incoming<R>
+    pub fn over(reader: Option<R>) -> Incoming<R>
         ensures reader { result.reader ≡ reader }
         ensures left { result.left ≡ 2 ^ 64 - 1 }
         ensures failures { result.failures ≡ 0 }
         ensures given { result.given.lines ≡ [] }
-        ensures seed { result.seed ≡ seed }
     {
         Incoming {
             reader,
             left: u64::MAX,
             failures: 0,
             given: Given::new(),
-            seed,
         }
     }
 
@@ -74,7 +69,6 @@ impl<R: SystemReader + Drop> Incoming<R> {
         ensures left { self.new.left ≡ self.old.left }
         ensures failures { self.new.failures ≡ counted true self.old.failures }
         ensures given { self.new.given ≡ self.old.given }
-        ensures seed { self.new.seed ≡ self.old.seed }
     {
         self.failures = self.failures.saturating_add(1);
         ReadFailed
@@ -88,8 +82,6 @@ impl<R: SystemReader + Drop> Source for Incoming<R> {
       rest = unwrap_or (option_map R.remaining s.reader) (Some []);
       given = s.given.lines;
     } };
-
-    ghost seed_of = { λ s. s.seed };
 
     fn read(&mut self, buf: &mut [u8]) -> Result<usize, ReadFailed>
         requires { 0 < length buf.old }
@@ -130,12 +122,5 @@ impl<R: SystemReader + Drop> Source for Incoming<R> {
             }
             Err(_) => Err(self.fail()),
         }
-    }
-
-    /// The seed that it was made with.
-    fn seed(&self) -> Seed
-        ensures { result ≡ self.now.seed }
-    {
-        self.seed
     }
 }

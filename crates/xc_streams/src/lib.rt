@@ -2,7 +2,7 @@
 //! sources and sinks, the words of a command line, and the statuses that programs end with.
 //!
 //! ```text
-//! let mut input = Incoming::new(Some(rt.stdin()), random_seed(&rt));
+//! let mut input = Incoming::new(Some(rt.stdin()));
 //! let mut out = Outgoing::new(rt.alloc(), rt.stdout(), rt.stdout().is_terminal())?;
 //! write_number(&mut out, 7)?;
 //! out.flush()?;

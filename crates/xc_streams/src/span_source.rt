@@ -8,7 +8,6 @@ use std::alloc::{AllocError, Global};
 use std::fs::{self, Files};
 use std::io::{self, Read};
 use std::str;
-use xc_input::Seed;
 
 /// How many line feeds were read up to a file's end, and whether its last line has none.
 #[derive(Clone, Copy)]
@@ -157,7 +156,6 @@ pub fn span_files<'a, R: Files, I: Read + Drop>(
     rt: &'a R,
     names: &'a [Vec<u8>],
     stdin: I,
-    seed: Seed,
 ) -> Result<Incoming<System<SpanFiles<'a, R, I>>>, AllocError> {
-    Ok(Incoming::new(Some(SpanFiles::new(alloc, rt, names, stdin)?), seed))
+    Ok(Incoming::new(Some(SpanFiles::new(alloc, rt, names, stdin)?)))
 }

@@ -13,7 +13,7 @@ ghost use Rattle.xc_tools.specs.Judges.{DidJudgeListing, DidJudge};
 
 use crate::failures::{listing_fault, no_problem};
 use std::alloc::Global;
-use xc_input::{Kind, Problem, Source, read_problem};
+use xc_input::{Kind, Problem, Seed, Source, read_problem_by};
 use xc_list::{ListingFault, Sink, SinkFault, Verdict, check, write_all, write_number};
 use xc_streams::status::{
     BAD_INPUT, BAD_WORDS, COMPLETE, FAILED, NO_MEMORY, NOT_ALL_COVERS, flushed, out_of_memory,
@@ -126,9 +126,36 @@ fn judge_listing<L: Source, O: Sink, E: Sink>(
 /// name of the problem's file, which is not looked at here, and perhaps `1`, `2` or `3` for the
 /// program that the problem is written for. It returns the status: 0 where each solution is a cover, 5
 /// where one is not, 1 for other words, 2 for a fault of the problem or the listing, 3 where a read
-/// or a write failed, 4 if memory ran out. Names are hashed by the problem's seed.
+/// or a write failed, 4 if memory ran out. Names are hashed by the fixed seed, for a problem that
+/// nobody wrote to be slow.
 pub fn judge<P: Source, L: Source, O: Sink, E: Sink>(
     alloc: Global,
+    words: &[Vec<u8>],
+    problem: &mut P,
+    listing: &mut L,
+    out: &mut O,
+    err: &mut E,
+) -> u8
+    ensures did { DidJudge (map (λ w. w.items) words.now) result
+        (seen P.state problem.old) (seen P.state problem.new)
+        (seen L.state listing.old) (seen L.state listing.new)
+        (sinks O.state E.state out.old err.old) (sinks O.state E.state out.new err.new) }
+
+    // Whatever the status, the output is a beginning of the verdicts.
+    ensures begins { Keeps (O.state out.old).taken (O.state out.new).taken
+        ⊎ IsSomeAnd (asked_kind (map (λ w. w.items) words.now)) (λ kind. (a : Named) × (ignored : List ℕ)
+        × IsWhole kind (P.state problem.old) (P.state problem.new) a ignored
+        × (verdicts : List Verdict) × HasVerdicts a verdicts (L.state listing.old) (L.state listing.new)
+        × Begins (O.state out.old) (O.state out.new) (flat_map verdict_text verdicts)) }
+{
+    judge_by(alloc, Seed::FIXED, words, problem, listing, out, err)
+}
+
+/// Does what `judge` does, and hashes names by this seed, which is to be random for a problem that may be written to be
+/// slow.
+pub fn judge_by<P: Source, L: Source, O: Sink, E: Sink>(
+    alloc: Global,
+    seed: Seed,
     words: &[Vec<u8>],
     problem: &mut P,
     listing: &mut L,
@@ -150,7 +177,7 @@ pub fn judge<P: Source, L: Source, O: Sink, E: Sink>(
     let Some(kind) = asked_kind(words) else {
         return refuse(BAD_WORDS, b"Usage: dlxcheck PROBLEM [1|2|3]\n", err);
     };
-    match read_problem(alloc, kind, problem) {
+    match read_problem_by(alloc, seed, kind, problem) {
         Ok(read) => judge_listing(alloc, &read.problem, listing, out, err),
         Err(error) => no_problem(&error, err),
     }

@@ -1,10 +1,11 @@
 //! Whole runs of the programs, over the system's streams of `xc_streams`.
 //!
 //! ```text
-//! let mut input = Incoming::new(Some(rt.stdin()), random_seed(&rt));
+//! let mut input = Incoming::new(Some(rt.stdin()));
 //! let mut out = Outgoing::new(rt.alloc(), rt.stdout(), rt.stdout().is_terminal())?;
 //! let mut err = Direct::new(rt.stderr());
-//! let status = solve(rt.alloc(), Kind::Plain, &words(&rt)?, &mut input, &mut out, &mut err);
+//! let seed = random_seed(&rt);
+//! let status = solve_by(rt.alloc(), seed, Kind::Plain, &words(&rt)?, &mut input, &mut out, &mut err);
 //! ```
 #![tactic(auto)]
 
@@ -24,10 +25,10 @@ mod span_words;
 
 pub use failures::{input_error, listing_fault};
 pub use joining::{asked_join, join_spans};
-pub use judging::{asked_kind, judge};
+pub use judging::{asked_kind, judge, judge_by};
 pub use programs::{exit_code, run_solver};
-pub use solving::solve;
-pub use span_run::solve_span;
+pub use solving::{solve, solve_by};
+pub use span_run::{solve_span, solve_span_by};
 pub use xc_streams::status::{flushed, out_of_memory, write_failed};
 pub use xc_streams::{
     Answer, Arguments, CommandLine, Direct, Incoming, Located, NamedFile, Outgoing, Place,

@@ -2,7 +2,7 @@
 ghost use Rattle.std.specs.Prelude.{◌≡◌, MatchResult};
 ghost use Rattle.std.specs.Process.{exit_status};
 
-use crate::solving::solve;
+use crate::solving::solve_by;
 use std::alloc::AllocError;
 use std::io::IsTerminal;
 use std::process::ExitCode;
@@ -23,12 +23,21 @@ pub fn exit_code(rt: &HostRuntime, status: Result<u8, AllocError>) -> ExitCode
 
 /// Solves what comes on standard input, and returns the status.
 fn solve_input(rt: &HostRuntime, kind: Kind) -> Result<u8, AllocError> {
-    let mut input = Incoming::new(Some(rt.stdin()), random_seed(rt));
+    let mut input = Incoming::new(Some(rt.stdin()));
     // Taken before the words are judged: without memory for it the status is 4, whatever they are.
     let mut out = Outgoing::new(rt.alloc(), rt.stdout(), rt.stdout().is_terminal())?;
     let mut err = Direct::new(rt.stderr());
     let words = words(rt)?;
-    Ok(solve(rt.alloc(), kind, &words, &mut input, &mut out, &mut err))
+    let seed = random_seed(rt);
+    Ok(solve_by(
+        rt.alloc(),
+        seed,
+        kind,
+        &words,
+        &mut input,
+        &mut out,
+        &mut err,
+    ))
 }
 
 /// A whole solver of one kind of problem.

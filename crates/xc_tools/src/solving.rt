@@ -16,7 +16,7 @@ ghost use Rattle.xc_tools.specs.WholeRuns.{sinks};
 use crate::failures::no_problem;
 use std::alloc::Global;
 use xc_dance::Memory;
-use xc_input::{Kind, Problem, Read, Source, read_problem};
+use xc_input::{Kind, Problem, Read, Seed, Source, read_problem_by};
 use xc_list::{End, Sink, Words, run, summary, warnings, word_fault};
 use xc_streams::status::{BAD_WORDS, COMPLETE, FAILED, flushed, out_of_memory};
 
@@ -91,9 +91,33 @@ fn solve_read<O: Sink, E: Sink>(
 /// A whole run: reads the words, then the problem, searches it, and writes the listing to `out` and
 /// the messages to `err`. It returns the status: 0 where the run was complete or met its limit, 1 for
 /// a bad word, 2 for a fault of the input, 3 where a read or a write failed, 4 if memory ran
-/// out. Names are hashed by the input's seed.
+/// out. Names are hashed by the fixed seed, for an input that nobody wrote to be slow.
 pub fn solve<S: Source, O: Sink, E: Sink>(
     alloc: Global,
+    kind: Kind,
+    words: &[Vec<u8>],
+    input: &mut S,
+    out: &mut O,
+    err: &mut E,
+) -> u8
+    ensures did { DidSolve kind (map (λ w. w.items) words.now) result
+        (seen S.state input.old) (seen S.state input.new)
+        (sinks O.state E.state out.old err.old) (sinks O.state E.state out.new err.new) }
+
+    // Whatever the status, the output is a beginning of the problem's.
+    ensures begins { Keeps (O.state out.old).taken (O.state out.new).taken
+        ⊎ IsOkAnd (read_words (map (λ w. w.items) words.now)) (λ w. (a : Named) × (ignored : List ℕ)
+        × IsWhole kind (S.state input.old) (S.state input.new) a ignored
+        × Begins (O.state out.old) (O.state out.new) (output a w.spacing w.limit)) }
+{
+    solve_by(alloc, Seed::FIXED, kind, words, input, out, err)
+}
+
+/// Does what `solve` does, and hashes names by this seed, which is to be random for an input that may be written to be
+/// slow.
+pub fn solve_by<S: Source, O: Sink, E: Sink>(
+    alloc: Global,
+    seed: Seed,
     kind: Kind,
     words: &[Vec<u8>],
     input: &mut S,
@@ -117,7 +141,7 @@ pub fn solve<S: Source, O: Sink, E: Sink>(
             return BAD_WORDS;
         }
     };
-    match read_problem(alloc, kind, input) {
+    match read_problem_by(alloc, seed, kind, input) {
         Ok(read) => solve_read(alloc, &read, words, out, err),
         Err(error) => no_problem(&error, err),
     }

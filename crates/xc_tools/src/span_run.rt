@@ -9,7 +9,7 @@ ghost use Rattle.xc_tools.specs.SpanRuns.{asked_span, take_memory_of, DidSpan, D
 use crate::failures::no_problem;
 use crate::judging::numbered_kind;
 use std::alloc::{AllocError, Global};
-use xc_input::{Kind, Problem, Source, read_problem};
+use xc_input::{Kind, Problem, Seed, Source, read_problem_by};
 use xc_list::{Sink, SpanFault, SpanWords, list_span};
 use xc_streams::status::{BAD_WORDS, COMPLETE, flushed, out_of_memory, refuse, write_failed};
 
@@ -72,9 +72,26 @@ fn asked_span(alloc: Global, words: &[Vec<u8>]) -> Result<Option<(Kind, SpanWord
 /// most steps, 0 for no bound, the row at which the span begins, and the one before which it ends. It
 /// returns the status: 0 where the record was written, whether or not the search went to the span's
 /// end, 1 for other words, 2 for a fault of the problem, 3 where a read or a write failed, 4 where
-/// memory ran out. Names are hashed by the input's seed.
+/// memory ran out. Names are hashed by the fixed seed, for an input that nobody wrote to be slow.
 pub fn solve_span<S: Source, O: Sink, E: Sink>(
     alloc: Global,
+    words: &[Vec<u8>],
+    input: &mut S,
+    out: &mut O,
+    err: &mut E,
+) -> u8
+    ensures did { DidSpanWords (map (λ w. w.items) words.now) result
+        (seen S.state input.old) (seen S.state input.new)
+        (sinks O.state E.state out.old err.old) (sinks O.state E.state out.new err.new) }
+{
+    solve_span_by(alloc, Seed::FIXED, words, input, out, err)
+}
+
+/// Does what `solve_span` does, and hashes names by this seed, which is to be random for an input that may be written to
+/// be slow.
+pub fn solve_span_by<S: Source, O: Sink, E: Sink>(
+    alloc: Global,
+    seed: Seed,
     words: &[Vec<u8>],
     input: &mut S,
     out: &mut O,
@@ -89,7 +106,7 @@ pub fn solve_span<S: Source, O: Sink, E: Sink>(
         Ok(None) => return refuse_words(err),
         Err(_) => return out_of_memory(err),
     };
-    match read_problem(alloc, kind, input) {
+    match read_problem_by(alloc, seed, kind, input) {
         Ok(read) => search_problem(alloc, &read.problem, &words, out, err),
         Err(error) => no_problem(&error, err),
     }

@@ -1,7 +1,7 @@
 //! What is there for callers: bytes in memory as a source, and names, colours and places of uses.
 use crate::fixtures::COLOURED;
 use std::alloc::Global;
-use xc_input::{Kind, Problem, Seed, SliceSource, Use, place_in, read_problem};
+use xc_input::{Kind, Problem, Seed, SliceSource, Use, place_in, read_problem_by};
 
 /// Whether the last option ends in `y` with the colour `B`, its second use.
 fn ends_in_y(problem: &Problem) -> bool {
@@ -21,9 +21,10 @@ fn ends_in_y(problem: &Problem) -> bool {
         && place_in(&[*first, *used], used.item) == 1
 }
 
-/// Whether the problem with colours is read of a source.
-fn gives_colours(alloc: Global, mut source: SliceSource<'_>) -> bool {
-    match read_problem(alloc, Kind::Colours, &mut source) {
+/// Whether the problem with colours is read by a seed.
+fn gives_colours(alloc: Global, seed: Seed) -> bool {
+    let mut source = SliceSource::new(COLOURED);
+    match read_problem_by(alloc, seed, Kind::Colours, &mut source) {
         Ok(read) => ends_in_y(&read.problem),
         Err(_) => false,
     }
@@ -32,6 +33,6 @@ fn gives_colours(alloc: Global, mut source: SliceSource<'_>) -> bool {
 #[test]
 fn a_slice_is_read_by_each_seed(rt: HostRuntime) {
     let seed = Seed::new(0x1234_5678_9abc_def0);
-    assert!(rt; gives_colours(rt.alloc(), SliceSource::new(COLOURED)));
-    assert!(rt; gives_colours(rt.alloc(), SliceSource::with_seed(COLOURED, seed)));
+    assert!(rt; gives_colours(rt.alloc(), Seed::FIXED));
+    assert!(rt; gives_colours(rt.alloc(), seed));
 }

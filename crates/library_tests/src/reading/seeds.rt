@@ -3,7 +3,8 @@ use std::alloc::Global;
 use std::hash::BuildHasher;
 use std::test::Fail;
 use xc_input::{
-    Kind, Problem, ReadFailed, Reader, Seed, Seeded, SliceSource, Source, Use, read_problem,
+    Kind, Problem, ReadFailed, Reader, Seed, SliceSource, Source, Use, read_problem,
+    read_problem_by,
 };
 
 /// Names whose hashes by the fixed seed are one in the 32 bits that a table takes.
@@ -75,9 +76,9 @@ fn is_known(problem: &Problem, seed: Seed, known: &Known) -> bool {
         && problem.seed() == seed
 }
 
-/// Whether a source gives such a problem.
-fn gives<S: Source>(alloc: Global, source: &mut S, seed: Seed, known: &Known) -> bool {
-    match read_problem(alloc, Kind::Colours, source) {
+/// Whether a source gives such a problem, where it is read by this seed.
+fn gives<S: Source>(alloc: Global, seed: Seed, source: &mut S, known: &Known) -> bool {
+    match read_problem_by(alloc, seed, Kind::Colours, source) {
         Ok(read) => is_known(&read.problem, seed, known),
         Err(_) => false,
     }
@@ -98,10 +99,14 @@ const APART: Known = Known {
 #[test]
 fn names_of_one_hash(rt: HostRuntime) {
     let mut source = SliceSource::new(TEXT_OF_ONE_HASH);
-    assert!(rt; gives(rt.alloc(), &mut source, Seed::FIXED, &APART));
+    let is_read = match read_problem(rt.alloc(), Kind::Colours, &mut source) {
+        Ok(read) => is_known(&read.problem, Seed::FIXED, &APART),
+        Err(_) => false,
+    };
+    assert!(rt; is_read);
 }
 
-/// A source of a caller's own, around another, which passes its reads on and has the fixed seed.
+/// A source of a caller's own, around another, which passes its reads on.
 #[derive(Drop)]
 struct Around<'a> {
     source: SliceSource<'a>,
@@ -112,10 +117,6 @@ impl<'a> Source for Around<'a> {
 
     fn read(&mut self, buf: &mut [u8]) -> Result<usize, ReadFailed> {
         self.source.read(buf)
-    }
-
-    fn seed(&self) -> Seed {
-        Seed::FIXED
     }
 }
 
@@ -129,16 +130,12 @@ const KNOWN: Known = Known {
     options: &[(1, &[(1, 0), (3, 1)]), (2, &[(2, 0), (4, 2), (3, 1)])],
 };
 
-/// Whether it is read to its end by this seed, through a source that has the fixed one.
+/// Whether it is read to its end by this seed.
 fn is_read_by(alloc: Global, seed: Seed) -> bool {
-    let around = Around {
-        source: SliceSource::with_seed(TEXT, Seed::new(9)),
+    let mut source = Around {
+        source: SliceSource::new(TEXT),
     };
-    let is_fixed = around.seed() == Seed::FIXED;
-    let mut source = Seeded::new(around, seed);
-    let is_read = source.seed() == seed && gives(alloc, &mut source, seed, &KNOWN);
-    let mut left = source.into_source();
-    is_fixed && is_read && left.read(&mut [0; 10]) == Ok(0)
+    gives(alloc, seed, &mut source, &KNOWN) && source.read(&mut [0; 10]) == Ok(0)
 }
 
 #[test]

@@ -3,7 +3,7 @@ use Rattle.std.proofs.Common.{arith}
 use Rattle.std.proofs.lemmas.Result.{err_from_is_err_and}
 use Rattle.xc_input.specs.inner.Feeding.{ended}
 use Rattle.xc_input.proofs.LineLemmas.{part-none}
-use Rattle.xc_input.proofs.read.read_problem.Goals as goal
+use Rattle.xc_input.proofs.read.read_problem_by.Goals as goal
 
 pub read_through-requires-clause-state : goal.read_through-requires-clause-state
 read_through-requires-clause-state g c = grind (arith, nat_tests)
