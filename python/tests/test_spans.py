@@ -142,7 +142,7 @@ class Rows(unittest.TestCase):
 
         def used(levels):
             row, branches = (1,) * levels, (2,) * levels
-            line = f"from {word_of(row)} until {word_of((*row[1:], 2))} of {word_of(branches)} solutions 7 steps 9 problem {DIGEST}\n"
+            line = f"from {word_of(row)} until {word_of((*row[1:], 2))} of {word_of(branches)} solutions 7 steps 9 problem {DIGEST} text {DIGEST}\n"
             part = Span(row, None, place(row, branches), PARTS)
             begun = time.process_time()
             found = record.of_text(line.encode(), part, False)

@@ -1,7 +1,8 @@
 """The text of a span, as dlx-span writes it: the solutions, if they are listed, and a line that says what it did.
 
 Both the first line of a listing and the last one have the problem's digest, by which dlx-join knows texts of another
-problem: a hash of the problem as it was read, whatever is between its words.
+problem: a hash of the problem as it was read, whatever is between its words. The last line ends with a digest of the text
+before it, by which dlx-join knows one that was altered.
 """
 
 from __future__ import annotations
@@ -14,8 +15,9 @@ from .rows import Row, Span, Until, precedes, read, read_until, word_of
 
 _ROW = rb"(-|[0-9]+(?:\.[0-9]+)*)"
 _NUMBER = rb"([0-9]{1,40})"
+_DIGEST = rb"([0-9a-f]{16})"
 _ROWS = rb"from %s until %s(?: of %s)?" % (_ROW, _ROW, _ROW)
-_RECORD = re.compile(rb"%s solutions %s steps %s problem ([0-9a-f]{16})\n\Z" % (_ROWS, _NUMBER, _NUMBER))
+_RECORD = re.compile(rb"%s solutions %s steps %s problem %s text [0-9a-f]{16}\n\Z" % (_ROWS, _NUMBER, _NUMBER, _DIGEST))
 
 
 class Record(NamedTuple):
