@@ -9,6 +9,10 @@ use Rattle.xc_input.specs.declared.fault.InputError.TheVariants as errors
 use Rattle.xc_input.specs.declared.line_reader.Unread.{Unread}
 use Rattle.xc_input.specs.declared.line_reader.Unread.TheVariants.{Device, Memory}
 
+-- how many bytes a source is asked for at once
+abbrev pub read_size : ℕ
+read_size = 65536
+
 -- the line that came last, with its line feed; what was read behind it; and what is behind the last line feed of all
 pub record LinesRead : Type 0 where
   pub line : List ℕ
@@ -36,17 +40,18 @@ pub record LastOf (left : List ℕ) (old new : SourceState) (bytes : List ℕ) :
 abbrev pub Came : List ℕ → SourceState → SourceState → List ℕ → Type 0
 Came left old new bytes = ((new ≡ old) × (bytes ≡ [])) ⊎ LastOf left old new bytes
 
--- One line more came; or the source ended; or a read failed; or memory was out, before the next read.
+-- One line more came; or the source ended; or a read failed; or memory was out, before the next read. Where no line
+-- came, nothing is left of what was read.
 abbrev pub Advanced : LinesRead → LinesRead → SourceState → SourceState → Result Bool Unread → Type 0
-Advanced old new source_old source_new (Ok true) = (bytes : List ℕ) × Came old.unread source_old source_new bytes
-    × (source_new.failures ≡ source_old.failures) × (source_new.limit + length bytes ≡ source_old.limit)
+Advanced old new from to (Ok true) = (bytes : List ℕ) × Came old.unread from to bytes
+    × (to.failures ≡ from.failures) × (to.limit + length bytes ≡ from.limit)
     × (old.unread ++ bytes ≡ new.line ++ new.unread) × IsLine new.line
-Advanced old new source_old source_new (Ok false) = (bytes : List ℕ) × GaveAll source_old source_new bytes
-    × (new.rest ≡ old.unread ++ bytes) × (has (code "\n") new.rest ≡ false)
-Advanced old new source_old source_new (Err Device) = (bytes : List ℕ) × Gave source_old source_new bytes
-    × (has (code "\n") (old.unread ++ bytes) ≡ false) × Rose source_old.failures source_new.failures
-Advanced old new source_old source_new (Err Memory) = (bytes : List ℕ) × Came old.unread source_old source_new bytes
-    × (source_new.failures ≡ source_old.failures)
+Advanced old new from to (Ok false) = (bytes : List ℕ) × GaveAll from to bytes
+    × (new.rest ≡ old.unread ++ bytes) × (has (code "\n") new.rest ≡ false) × (new.unread ≡ [])
+Advanced old new from to (Err Device) = (bytes : List ℕ) × Gave from to bytes
+    × (has (code "\n") (old.unread ++ bytes) ≡ false) × Rose from.failures to.failures × (new.unread ≡ [])
+Advanced old new from to (Err Memory) = (bytes : List ℕ) × Came old.unread from to bytes
+    × (to.failures ≡ from.failures) × (new.unread ≡ [])
 
 -- the same as an error of the text
 abbrev pub error_of : Unread → InputError

@@ -143,7 +143,8 @@ fn words_of(alloc: Global, names: &NameSet) -> Result<Vec<u64>, AllocError>
 
 /// A table of places, where a place is at the number of its name.
 fn places_of(alloc: Global, names: &NameSet, words: &[u64]) -> Result<Vec<u32>, AllocError>
-    ensures { IfOk result (λ v. All (λ at. at < length names.now.keys) v.items) }
+    ensures within { IfOk result (λ v. All (λ at. at < length names.now.keys) v.items) }
+    ensures few { IfOk result (λ v. length v.items ≤ 2 ^ 18) }
 {
     let few = names.len().min(MOST_ITEMS);
     let mut places = vec![in alloc; 0; (few * 16).min(1 << 18)]?;

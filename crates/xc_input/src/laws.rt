@@ -7,7 +7,9 @@ ghost use Rattle.xc_input.specs.Laws.{FaultlessStand, StandForOne, StandAlso, To
 ghost use Rattle.xc_input.specs.Laws.{HaveTexts, DecidesEquality, IsEqualClone, IsSameItem, IsSameToken};
 ghost use Rattle.xc_input.specs.declared.kind.Kind.TheVariants.{Plain, Colours, Bounds};
 
-use crate::{FaultKind, FaultyToken, FoldingHasher, InputError, Item, Kind, ReadFailed, Seed, Use};
+use crate::{
+    FaultKind, FaultyToken, FoldingHasher, InputError, Item, Kind, ReadFailed, Seed, Unread, Use,
+};
 
 /// A text has a first fault or, by each seed, stands for one problem, and never both. It ties the checks to the
 /// grammar, so that a slip in one of the two, which nothing else would show, breaks a proof.
@@ -48,6 +50,7 @@ pub fn equality<'a>()
     ensures uses { DecidesEquality ⟦<Use as PartialEq>⟧.eq }
     ensures seeds { DecidesEquality ⟦<Seed as PartialEq>⟧.eq }
     ensures failures { DecidesEquality ⟦<ReadFailed as PartialEq>⟧.eq }
+    ensures unread { DecidesEquality ⟦<Unread as PartialEq>⟧.eq }
 {}
 
 /// A clone of a value of any of these types is equal to it.
@@ -62,4 +65,5 @@ pub fn clones<'a>()
     ensures seeds { IsEqualClone ⟦<Seed as Clone>⟧.is_clone }
     ensures hashers { IsEqualClone ⟦<FoldingHasher as Clone>⟧.is_clone }
     ensures failures { IsEqualClone ⟦<ReadFailed as Clone>⟧.is_clone }
+    ensures unread { IsEqualClone ⟦<Unread as Clone>⟧.is_clone }
 {}

@@ -3,10 +3,10 @@
 //! A line that ends in the piece that it begins in is handed on from there. Any other is put together first. What a
 //! line costs beyond its bytes is inlined: six instructions a line more without, 4 % where lines have three bytes.
 
-ghost use Rattle.std.specs.Prelude.{◌≡◌, ◌≤◌, [], false, length, take, IfOk, MatchOption, OnOk};
-ghost use Rattle.xc_input.specs.LinesRead.{Advanced, IsLine};
+ghost use Rattle.std.specs.Prelude.{◌≡◌, ◌≤◌, [], false, length, take, IfOk, MatchOption, OnErr, OnOk};
+ghost use Rattle.xc_input.specs.LinesRead.{Advanced, IsLine, read_size};
 ghost use Rattle.xc_input.specs.Words.{has};
-ghost use Rattle.xc_input.specs.inner.Feeding.{Cut, ReadOnce, ended_carry};
+ghost use Rattle.xc_input.specs.inner.Feeding.{AskedFor, Cut, ReadOnce, ended_carry};
 ghost use Rattle.xc_input.specs.declared.line_reader.Unread.TheVariants.{Device, Memory};
 
 use crate::source::{ReadFailed, Source};
@@ -57,8 +57,7 @@ pub struct LineReader {
 
 impl Model for LineReader {
     ghost use Rattle.std.specs.Prelude.{◌≡◌, ◌-◌, ◌≤◌, length, take, drop, if◌then◌else◌, nat_eq};
-    ghost use Rattle.xc_input.specs.LinesRead.{LinesRead};
-    ghost use Rattle.xc_input.specs.inner.Feeding.{read_size};
+    ghost use Rattle.xc_input.specs.LinesRead.{LinesRead, read_size};
 
     ghost Value = { LinesRead };
 
@@ -89,6 +88,9 @@ impl LineReader {
 
     /// Whether one more line comes, with a line feed at its end. It reads only where no line is left of what was
     /// read before. Where none comes, the source gave its end.
+    ///
+    /// After the end or an error nothing is left of what was read, also of a line that was begun: a further call
+    /// returns what the source gives from then on.
     pub fn advance<S: Source>(&mut self, source: &mut S) -> Result<bool, Unread>
         ensures { Advanced self.old self.new (S.state source.old) (S.state source.new) result }
     {
@@ -135,15 +137,20 @@ impl LineReader {
     #[inline(always)]
     fn cut(&mut self) -> Result<bool, AllocError>
         requires { has 10 self.old.rest ≡ false }
-        ensures { IfOk result (Cut self.old self.new) }
+        ensures cut { IfOk result (Cut self.old self.new) }
+        ensures dropped { OnErr result (self.new.unread ≡ []) }
     {
         let left = &self.store[self.from..self.to];
         let Some(len) = line_len(left) else {
-            self.carry.extend_from_slice(left)?;
+            let carried = self.carry.extend_from_slice(left);
             self.from = self.to;
+            carried?;
             return Ok(false);
         };
-        end_carried(&mut self.carry, &left[..len])?;
+        let Ok(()) = end_carried(&mut self.carry, &left[..len]) else {
+            self.from = self.to;
+            return Err(AllocError);
+        };
         self.line = self.from;
         self.from += len;
         Ok(true)
@@ -154,10 +161,12 @@ impl LineReader {
     fn refill<S: Source>(&mut self, source: &mut S) -> Result<bool, ReadFailed>
         ensures rest { self.new.rest ≡ self.old.rest }
         ensures read { ReadOnce self.new.unread (S.state source.old) (S.state source.new) result }
+        ensures asked { AskedFor read_size S.reads source.old source.new }
     {
-        let len = source.read(self.store.as_mut_slice())?;
         self.line = 0;
         self.from = 0;
+        self.to = 0;
+        let len = source.read(self.store.as_mut_slice())?;
         self.to = len;
         Ok(len > 0)
     }

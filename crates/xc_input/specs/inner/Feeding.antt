@@ -32,10 +32,6 @@ AreWhole (line ∷ lines) = (has (code "\n") line ≡ false) × AreWhole lines
 
 -- ======== A reader that is fed a text in pieces.
 
--- how many bytes a source is asked for at once
-abbrev pub read_size : ℕ
-read_size = 65536
-
 -- an error of the lines so far
 abbrev pub IsErrorOf : Kind → List (List ℕ) → InputError → Type 0
 IsErrorOf kind lines e = IsErrorFor (line_fault kind lines) e
@@ -104,4 +100,9 @@ abbrev pub ReadOnce : List ℕ → SourceState → SourceState → Result Bool R
 ReadOnce piece old new (Ok more) = (new.failures ≡ old.failures) × (new.limit + length piece ≡ old.limit)
     × Consumes old.rest new.rest piece × (new.given ≡ old.given ++ piece ∷ []) × IsMore piece new more
 ReadOnce piece old new (Err e) = Rose old.failures new.failures × (new.given ≡ old.given) × Keeps old.rest new.rest
-    × (new.limit ≡ old.limit)
+    × (new.limit ≡ old.limit) × (piece ≡ [])
+
+-- one read, by a relation that its source says of each read, into a buffer of this size
+abbrev pub AskedFor : {T : Type 0} → ℕ → (T → List ℕ → T → List ℕ → Result ℕ ReadFailed → Type 0) → T → T → Type 0
+AskedFor size reads old new = (before after : List ℕ) × (r : Result ℕ ReadFailed) × reads old before new after r
+    × (length before ≡ size)

@@ -10,7 +10,7 @@ pub returns-in_err-refill : goal.returns-in_err-refill
 returns-in_err-refill g c =
     let error = err_from_is_err_and c.from_residual-in_err-refill.result c.from_residual-in_err-refill.ensures.1 in
     let i = c.reading.invariant in
-    let cut = rw c.if-branch.false at c.in_ok-cut.ensures in
+    let cut = rw c.if-branch.false at c.in_ok-cut.ensures.cut in
     let on = carried-on c.reading.self.rest c.reading.self.unread c.args.self.now.unread i.bytes _
     i.all i.partial cut.0 cut.1 in
     let read = c.in_err-refill.ensures.read in
@@ -19,12 +19,13 @@ returns-in_err-refill g c =
       gave_kept _ _ _ i.bytes (came-gave i.came) read.1 read.2,
       on.2,
       subst (λ n. Rose n (g.S.Source.state c.refill.new.source).failures) i.no_failure read.0,
+      read.4,
     )
 
 pub returns-then-not-branch : goal.returns-then-not-branch
 returns-then-not-branch g c =
     let i = c.reading.invariant in
-    let cut = rw c.if-branch.false at c.in_ok-cut.ensures in
+    let cut = rw c.if-branch.false at c.in_ok-cut.ensures.cut in
     let on = carried-on c.reading.self.rest c.reading.self.unread c.args.self.now.unread i.bytes _
     i.all i.partial cut.0 cut.1 in
     let read = rw c.if-not-branch.true at c.in_ok-refill.ensures.read in (
@@ -33,12 +34,13 @@ returns-then-not-branch g c =
           read.4.0 read.4.1,
       c.in_ok-refill.ensures.rest ∙ on.0,
       ap (has 10) c.in_ok-refill.ensures.rest ∙ on.1,
+      read.4.0,
     )
 
 pub reading-preserved : goal.reading-preserved
 reading-preserved g c =
     let i = c.reading.invariant in
-    let cut = rw c.if-branch.false at c.in_ok-cut.ensures in
+    let cut = rw c.if-branch.false at c.in_ok-cut.ensures.cut in
     let on = carried-on c.reading.self.rest c.reading.self.unread c.args.self.now.unread i.bytes _
     i.all i.partial cut.0 cut.1 in
     let read = rw c.if-not-branch.false at c.in_ok-refill.ensures.read in

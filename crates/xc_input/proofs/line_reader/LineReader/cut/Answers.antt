@@ -4,11 +4,11 @@ use Rattle.xc_input.specs.Words.{has}
 use Rattle.xc_input.proofs.LineLemmas.{cut-line}
 use Rattle.xc_input.proofs.line_reader.LineReader.cut.Goals as goal
 
-pub returns : goal.returns
-returns c =
+pub returns-clause-cut : goal.returns-clause-cut
+returns-clause-cut c =
     let s = c.self.inside in
     let found = rw c.deref.ensures.value at c.in-Some.ensures in
     let cut = cut-line s.store.items s.from s.to c.in-Some.len found.0 s.carry.items c.end_carried.new.carry.items
     (ap (λ v. has 10 v) (ap (λ (v : LinesRead). v.rest) c.self.view_is) ∙ c.requires) found.1
-    (rw c.deref.ensures.value at c.in_ok-end_carried.ensures) _ refl in
+    (rw c.deref.ensures.value at c.in-Ok.ensures) _ refl in
     (ap (λ (v : LinesRead). v.rest ++ v.unread) (sym c.self.view_is) ∙ cut.0, cut.1)
