@@ -12,6 +12,7 @@ ghost use Rattle.xc_streams.specs.declared.system.Answer.TheVariants.{Whole, Flu
 use crate::sink::WriteFailed;
 use std::io::{Read, Write};
 use xc_input::ReadFailed;
+use xc_moves::Tally;
 
 /// What the system answers one call.
 #[derive(Clone, Copy, Debug, PartialEq, Eq)]
@@ -69,6 +70,7 @@ pub struct System<T: Drop> {
     calls: u64,
     failures: u64,
     flushes: u64,
+    wholes: Tally,
     last: Answer,
 }
 
@@ -79,6 +81,7 @@ impl<T: Drop> System<T> {
         ensures calls { result.calls ≡ 0 }
         ensures failures { result.failures ≡ 0 }
         ensures flushes { result.flushes ≡ 0 }
+        ensures wholes { result.wholes.count ≡ 0 }
         ensures last { result.last ≡ Flushed }
     {
         System {
@@ -86,6 +89,7 @@ impl<T: Drop> System<T> {
             calls: 0,
             failures: 0,
             flushes: 0,
+            wholes: Tally::new(),
             last: Answer::Flushed,
         }
     }
@@ -103,6 +107,9 @@ impl<T: Drop> System<T> {
         self.calls = self.calls.saturating_add(1);
         if answer == Answer::Failed {
             self.failures = self.failures.saturating_add(1);
+        }
+        if answer == Answer::Whole {
+            self.wholes = Tally::one_more(&self.wholes);
         }
         self.last = answer;
     }
