@@ -1,6 +1,6 @@
 -- The calls of the system and what they return, what is known of the adapters of its streams, and when lines are passed
 -- on.
-use Rattle.std.specs.Prelude.{ℕ, ◌+◌, ◌-◌, ◌/◌, ◌^◌, ◌<◌, ◌≡◌, ◌⊎◌, nat_eq, min, Bool, true, false, List, codes}
+use Rattle.std.specs.Prelude.{ℕ, ◌+◌, ◌-◌, ◌/◌, ◌^◌, ◌<◌, ◌≤◌, ◌≡◌, ◌⊎◌, nat_eq, min, Bool, true, false, List, codes}
 use Rattle.std.specs.Prelude.{length, Result, Ok, Err, if◌then◌else◌}
 use Rattle.std.specs.List.{ends_with}
 use Rattle.xc_input.specs.Calls.{one_more, counted, Rose}
@@ -9,16 +9,18 @@ use Rattle.xc_streams.specs.declared.system.System.{System}
 use Rattle.xc_streams.specs.declared.system.Answer.TheVariants.{Whole, Part, Flushed, Failed}
 
 -- Calls of the system: how many were made, how many of them failed and how many were flushes, up to the counters' last
--- value, and the last one's answer.
+-- value; how many were answered by `Whole`; and the last one's answer.
 pub record Asked : Type 0 where
   pub calls : ℕ
   pub failures : ℕ
   pub flushes : ℕ
+  pub wholes : ℕ
   pub last : Answer
 
 -- the calls of a stream of std
 abbrev pub calls_of : {T : Type 0} → System T → Asked
-calls_of s = record { calls = s.calls; failures = s.failures; flushes = s.flushes; last = s.last }
+calls_of s =
+    record { calls = s.calls; failures = s.failures; flushes = s.flushes; wholes = s.wholes.count; last = s.last }
 
 -- whether a call failed
 abbrev pub is_failure : Answer → Bool
@@ -30,10 +32,19 @@ abbrev pub is_flushed : Answer → Bool
 is_flushed Flushed = true
 is_flushed _ = false
 
+-- whether a write took all bytes, or a read came back
+abbrev pub is_whole : Answer → Bool
+is_whole Whole = true
+is_whole _ = false
+
 -- after a read or a write more, with this answer
 abbrev pub answered : Answer → Asked → Asked
-answered a old =
-    record old { calls = one_more old.calls; failures = counted (is_failure a) old.failures; last = a }
+answered a old = record old {
+  calls = one_more old.calls;
+  failures = counted (is_failure a) old.failures;
+  wholes = (if is_whole a then old.wholes + 1 else old.wholes);
+  last = a;
+}
 
 -- after a flush more, with this answer
 abbrev pub flushed : Answer → Asked → Asked
@@ -49,18 +60,15 @@ abbrev pub answer_of : {T E : Type 0} → Answer → Result T E → Answer
 answer_of success (Ok x) = success
 answer_of success (Err e) = Failed
 
--- No call was made, or one, which was no flush and didn't fail.
-abbrev pub AskedAtMostOnce : Asked → Asked → Type 0
-AskedAtMostOnce old new = (new ≡ old) ⊎ ((a : Answer) × (is_failure a ≡ false) × (new ≡ answered a old))
-
--- Calls were made; the last one was a flush, the only one, and none failed.
+-- Calls were made; the last one was a flush, the only one, and none failed. At most one write took all that it was
+-- given, so each was given all that was left.
 abbrev pub FlushedLast : Asked → Asked → Type 0
-FlushedLast old new =
-    (new.failures ≡ old.failures) × (new.last ≡ Flushed) × (new.flushes ≡ one_more old.flushes)
+FlushedLast old new = (new.failures ≡ old.failures) × (new.last ≡ Flushed) × (new.flushes ≡ one_more old.flushes)
+    × (new.wholes ≤ old.wholes + 1)
 
--- Calls were made; the last one failed, and no other; at most one was a flush.
+-- Calls were made; the last one failed, and no other; at most one was a flush, and at most one write took all.
 abbrev pub BrokeLast : Asked → Asked → Type 0
-BrokeLast old new = Rose old.failures new.failures × (new.last ≡ Failed)
+BrokeLast old new = Rose old.failures new.failures × (new.last ≡ Failed) × (new.wholes ≤ old.wholes + 1)
     × ((new.flushes ≡ old.flushes) ⊎ (new.flushes ≡ one_more old.flushes))
 
 -- whether a text ends after a line feed

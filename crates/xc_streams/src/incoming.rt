@@ -1,6 +1,6 @@
 //! The system's readers and files as sources.
 ghost use Rattle.std.specs.Prelude.{◌≡◌, true, ◌+◌, ◌-◌, ◌^◌, ◌<◌, ◌≤◌, None, length, is_err, option_map, unwrap_or};
-ghost use Rattle.std.specs.Prelude.{Some, IfOk, IsErr, OnErr, [], ◌∷◌, ◌++◌, take};
+ghost use Rattle.std.specs.Prelude.{Some, IfSome, min, IfOk, IsErr, OnErr, [], ◌∷◌, ◌++◌, take};
 ghost use Rattle.std.specs.Io.KnownBytes.{ReadConsumes};
 ghost use Rattle.xc_input.specs.Calls.{counted};
 ghost use Rattle.xc_input.specs.Pieces.{SourceState};
@@ -101,6 +101,8 @@ impl<R: SystemReader + Drop> Source for Incoming<R> {
         ensures closed { 0 < self.old.failures → IsErr result × (self.new.reader ≡ self.old.reader) }
         ensures asked { self.old.failures ≡ 0 → 0 < self.old.left → option_map R.asked self.new.reader
             ≡ option_map (answered (answer_of Whole result)) (option_map R.asked self.old.reader) }
+        ensures room { self.old.failures ≡ 0 → 0 < self.old.left →
+            IfSome self.new.reader (λ r. R.room r ≡ min self.old.left (length buf.old)) }
     {
         // A failure isn't tried again, nor is EINTR, which a socket with a time limit returns where a stopped program
         // goes on.

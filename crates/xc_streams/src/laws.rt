@@ -1,8 +1,9 @@
-//! That failures of sinks and answers of the system are compared as they are.
+//! That failures of sinks, answers of the system and errors of texts are compared or cloned as they are.
 ghost use Rattle.xc_input.specs.Laws.{DecidesEquality, IsEqualClone};
 
 use crate::sink::WriteFailed;
 use crate::system::Answer;
+use crate::whole_text::TextError;
 use crate::write::SinkFault;
 
 /// Two failures of a sink are equal.
@@ -15,4 +16,9 @@ pub fn equal_failures()
 pub fn answers()
     ensures equality { DecidesEquality ⟦<Answer as PartialEq>⟧.eq }
     ensures clones { IsEqualClone ⟦<Answer as Clone>⟧.is_clone }
+{}
+
+/// A clone of an error of a whole text is the same.
+pub fn text_errors()
+    ensures { IsEqualClone ⟦<TextError as Clone>⟧.is_clone }
 {}

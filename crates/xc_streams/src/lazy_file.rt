@@ -1,6 +1,6 @@
 //! A file that is opened when it is read.
 ghost use Rattle.std.specs.Io.{ReadsAtMost};
-ghost use Rattle.std.specs.Prelude.{◌≡◌, IsSome, OnOk, option_and_then};
+ghost use Rattle.std.specs.Prelude.{◌≡◌, None, IsSome, OnOk, option_and_then};
 ghost use Rattle.std.specs.Io.KnownBytes.{ReadConsumes};
 
 use std::fs::{self, Files};
@@ -17,7 +17,8 @@ pub struct NamedFile<'a, R: Files> {
 impl<'a, R: Files> NamedFile<'a, R> {
     /// A file that isn't opened yet.
     pub(crate) fn new(rt: &'a R, path: &'a str) -> NamedFile<'a, R>
-        ensures { result.path.now ≡ path.now }
+        ensures path { result.path.now ≡ path.now }
+        ensures unopened { result.file ≡ None }
     {
         NamedFile {
             rt,

@@ -32,7 +32,7 @@ pub struct Outgoing<W: SystemWriter + Drop> {
     flushes: Flushes,
     ghost room: { length held < ROOM },
     ghost within: { length held + calm ≤ ROOM },
-    ghost little: { 0 < calm → length held + calm ≤ early by_line passed },
+    ghost exact: { failures ≡ 0 → calm ≡ early by_line passed - length held },
     ghost countable: { passed ≤ 2 ^ 64 - 1 },
     ghost closed: { 0 < failures → calm ≡ 0 },
 }

@@ -12,6 +12,7 @@ ghost use Rattle.xc_streams.specs.declared.system.Answer.TheVariants.{Whole, Flu
 use crate::sink::WriteFailed;
 use std::io::{Read, Write};
 use xc_input::ReadFailed;
+use xc_moves::Tally;
 
 /// What the system answers one call.
 #[derive(Clone, Copy, Debug, PartialEq, Eq)]
@@ -35,9 +36,13 @@ pub trait SystemReader {
     /// The calls that were made.
     ghost asked: { Self → Asked };
 
+    /// How many bytes the last read had room for.
+    ghost room: { Self → ℕ };
+
     /// Reads bytes, once.
     fn read(&mut self, buf: &mut [u8]) -> Result<usize, ReadFailed>
         ensures bound { IfOk result (λ n. n ≤ length buf.new) }
+        ensures room { room self.new ≡ length buf.old }
         ensures bytes { ReadConsumes (remaining self.old) (remaining self.new) result buf.new }
         ensures asked { asked self.new ≡ answered (answer_of Whole result) (asked self.old) };
 }
@@ -69,6 +74,9 @@ pub struct System<T: Drop> {
     calls: u64,
     failures: u64,
     flushes: u64,
+    wholes: Tally,
+    /// How many bytes the last read had room for.
+    room: Tally,
     last: Answer,
 }
 
@@ -79,6 +87,7 @@ impl<T: Drop> System<T> {
         ensures calls { result.calls ≡ 0 }
         ensures failures { result.failures ≡ 0 }
         ensures flushes { result.flushes ≡ 0 }
+        ensures wholes { result.wholes.count ≡ 0 }
         ensures last { result.last ≡ Flushed }
     {
         System {
@@ -86,6 +95,8 @@ impl<T: Drop> System<T> {
             calls: 0,
             failures: 0,
             flushes: 0,
+            wholes: Tally::new(),
+            room: Tally::new(),
             last: Answer::Flushed,
         }
     }
@@ -98,11 +109,15 @@ impl<T: Drop> System<T> {
     /// Counts a read or a write.
     fn count(&mut self, answer: Answer)
         ensures stream { self.new.stream ≡ self.old.stream }
+        ensures room { self.new.room.count ≡ self.old.room.count }
         ensures asked { calls_of self.new ≡ answered answer (calls_of self.old) }
     {
         self.calls = self.calls.saturating_add(1);
         if answer == Answer::Failed {
             self.failures = self.failures.saturating_add(1);
+        }
+        if answer == Answer::Whole {
+            self.wholes = Tally::one_more(&self.wholes);
         }
         self.last = answer;
     }
@@ -122,7 +137,10 @@ impl<R: Read + Drop> SystemReader for System<R> {
 
     ghost asked = { λ s. calls_of s };
 
+    ghost room = { λ s. s.room.count };
+
     fn read(&mut self, buf: &mut [u8]) -> Result<usize, ReadFailed> {
+        self.room = Tally::more(&Tally::new(), &buf.len());
         match self.stream.read(buf) {
             Ok(n) => {
                 self.count(Answer::Whole);

@@ -19,7 +19,7 @@ ghost use Rattle.std.specs.Prelude.{is_err, IfOk, IsErr, IsTrue, OnOk, MatchResu
 ghost use Rattle.std.specs.Io.KnownBytes.{Appends, Keeps};
 ghost use Rattle.xc_input.specs.Calls.{counted};
 ghost use Rattle.xc_streams.specs.Outputs.{known_bytes, DidWrite};
-ghost use Rattle.xc_streams.specs.Streams.{BrokeLast, FlushedLast, early, is_flushed, passed_of};
+ghost use Rattle.xc_streams.specs.Streams.{BrokeLast, FlushedLast, early, ends_line, is_flushed, passed_of};
 
 use crate::Flushes;
 use crate::outgoing::Outgoing;
@@ -34,6 +34,7 @@ fn pass_on<W: SystemWriter>(writer: &mut W, bytes: &[u8]) -> usize
     ensures whole { result ≡ length bytes.now → (W.asked writer.new).failures ≡ (W.asked writer.old).failures }
     ensures broke { result < length bytes.now → BrokeLast (W.asked writer.old) (W.asked writer.new) }
     ensures unflushed { (W.asked writer.new).flushes ≡ (W.asked writer.old).flushes }
+    ensures wholes { (W.asked writer.new).wholes ≤ (W.asked writer.old).wholes + 1 }
 {
     let mut place = 0;
     while place < bytes.len() {
@@ -83,6 +84,7 @@ impl<W: SystemWriter + Drop> Outgoing<W> {
             ((W.asked self.new.writer).failures ≡ (W.asked self.old.writer).failures)
             (BrokeLast (W.asked self.old.writer) (W.asked self.new.writer)) }
         ensures unflushed { (W.asked self.new.writer).flushes ≡ (W.asked self.old.writer).flushes }
+        ensures wholes { (W.asked self.new.writer).wholes ≤ (W.asked self.old.writer).wholes + 1 }
         ensures by_line { self.new.by_line ≡ self.old.by_line }
         ensures passed { self.new.passed ≡ passed_of self.old.passed (length self.old.held) (length self.new.held) }
         ensures failures { self.new.failures ≡ self.old.failures }
@@ -96,24 +98,23 @@ impl<W: SystemWriter + Drop> Outgoing<W> {
         self.held.len() == 0
     }
 
-    /// Holds back bytes for which there is room.
+    /// Holds back bytes for which there is room. A text shorter than `calm` is held back next.
     #[inline(always)]
-    fn hold(&mut self, bytes: &[u8])
+    fn hold(&mut self, bytes: &[u8], calm: usize)
+        requires open { self.old.failures ≡ 0 }
         requires room { length self.old.held + length bytes.now < ROOM }
-        requires within { length self.old.held + length bytes.now + self.old.calm ≤ ROOM }
-        requires calm { 0 < self.old.calm →
-            length self.old.held + length bytes.now + self.old.calm ≤ early self.old.by_line self.old.passed }
+        requires calm { calm ≡ early self.old.by_line self.old.passed - (length self.old.held + length bytes.now) }
         ensures count { length self.new.held ≡ length self.old.held + length bytes.now }
         ensures writer { self.new.writer ≡ self.old.writer }
         ensures by_line { self.new.by_line ≡ self.old.by_line }
         ensures passed { self.new.passed ≡ self.old.passed }
-        ensures calm { self.new.calm ≡ self.old.calm }
         ensures failures { self.new.failures ≡ self.old.failures }
         ensures failed { self.new.failed ≡ false }
         ensures flushes { self.new.flushes.count ≡ self.old.flushes.count }
         ensures bytes { Appends (known_bytes self.old) (known_bytes self.new) bytes.now }
     {
         self.held.append(bytes);
+        self.calm = calm;
         self.failed = false;
     }
 
@@ -125,6 +126,8 @@ impl<W: SystemWriter + Drop> Outgoing<W> {
         requires room { length self.old.held + length bytes.now ≤ ROOM }
         requires some { 0 < length bytes.now }
         requires open { self.old.failures ≡ 0 }
+        requires due { length self.old.held + length bytes.now < ROOM → IsTrue (ends_line bytes.now)
+            × (early self.old.by_line self.old.passed ≤ length self.old.held + length bytes.now) }
         ensures whole { IfOk result (λ n. n ≡ length bytes.now) }
         ensures did { DidWrite self.old self.new result bytes.now }
     {
@@ -157,8 +160,7 @@ impl<W: SystemWriter + Drop> Outgoing<W> {
         }
         let room = ROOM - self.held.len();
         if bytes.len() < room && !bytes.ends_with(b"\n") {
-            self.calm = 0;
-            self.hold(bytes);
+            self.hold(bytes, 0);
             return Ok(bytes.len());
         }
         let n = bytes.len().min(room);
@@ -182,8 +184,7 @@ impl<W: SystemWriter + Drop> Sink for Outgoing<W> {
         if bytes.len() >= self.calm {
             return self.hold_part(bytes);
         }
-        self.calm -= bytes.len();
-        self.hold(bytes);
+        self.hold(bytes, self.calm - bytes.len());
         Ok(bytes.len())
     }
 
