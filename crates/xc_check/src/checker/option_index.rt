@@ -70,7 +70,8 @@ fn add_option(
     requires valid { IsValid problem.now.puzzle }
     requires limits { IsWithinLimits problem.now.puzzle }
     requires before { AreClassesTo problem.now.puzzle o (key_uses classes.old.keys) sizes.old.items }
-    ensures classes { OnOk result (AreClassesTo problem.now.puzzle (o + 1) (key_uses classes.new.keys) sizes.new.items) }
+    ensures classes { OnOk result
+        (AreClassesTo problem.now.puzzle (o + 1) (key_uses classes.new.keys) sizes.new.items) }
     ensures seed { hasher_of classes.new ≡ hasher_of classes.old }
 {
     rotate(problem.option(o + 1), rotated)?;
