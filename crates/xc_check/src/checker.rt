@@ -3,7 +3,7 @@
 //! In the definition bodies are words, not items: a body stands for an option by the words of its uses, as they are
 //! printed. So the definition looks nothing up, and needs no rule for names or colours that the problem doesn't have.
 //! The code here cuts each word at its first colon into a name and a colour, with the same result.
-ghost use Rattle.std.specs.Prelude.{◌≡◌, ◌<◌, ℕ, List, [], length, is_some, true, Some, All};
+ghost use Rattle.std.specs.Prelude.{◌≡◌, ◌<◌, ◌≤◌, ℕ, List, [], length, is_some, true, Some, All};
 ghost use Rattle.std.specs.Prelude.{OnOk, IfOk, IfErr, IfSome};
 ghost use Rattle.xc_input.specs.Named.{IsSound};
 ghost use Rattle.xc_input.specs.Lines.{lines_of};
@@ -77,6 +77,7 @@ impl<'a> Checker<'a> {
     /// No line of any listing is judged.
     #[tactic(auto, using(crate::proofs::CheckLemmas::listed_solutions))]
     fn new(alloc: Global, problem: &'a Problem, places: usize) -> Result<Checker<'a>, AllocError>
+        requires { places ≤ 65536 }
         ensures problem { IfOk result (λ s. s.options.problem ≡ problem.now) }
         ensures whole { IsSound problem.now }
         ensures begun { IfOk result (λ s. (all : List (List ℕ)) → IsProgress all 0 all s) }

@@ -9,10 +9,6 @@ use Rattle.xc_input.specs.declared.fault.InputError.TheVariants as errors
 use Rattle.xc_input.specs.declared.line_reader.Unread.{Unread}
 use Rattle.xc_input.specs.declared.line_reader.Unread.TheVariants.{Device, Memory}
 
--- how many bytes a source is asked for at once
-abbrev pub read_size : ℕ
-read_size = 65536
-
 -- the line that came last, with its line feed; what was read behind it; and what is behind the last line feed of all
 pub record LinesRead : Type 0 where
   pub line : List ℕ
@@ -41,7 +37,7 @@ abbrev pub Came : List ℕ → SourceState → SourceState → List ℕ → Type
 Came left old new bytes = ((new ≡ old) × (bytes ≡ [])) ⊎ LastOf left old new bytes
 
 -- One line more came; or the source ended; or a read failed; or memory was out, before the next read. Where no line
--- came, nothing is left of what was read.
+-- came, nothing is left unread.
 abbrev pub Advanced : LinesRead → LinesRead → SourceState → SourceState → Result Bool Unread → Type 0
 Advanced old new from to (Ok true) = (bytes : List ℕ) × Came old.unread from to bytes
     × (to.failures ≡ from.failures) × (to.limit + length bytes ≡ from.limit)

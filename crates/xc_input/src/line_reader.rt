@@ -4,9 +4,9 @@
 //! line costs beyond its bytes is inlined: six instructions a line more without, 4 % where lines have three bytes.
 
 ghost use Rattle.std.specs.Prelude.{◌≡◌, ◌≤◌, [], false, length, take, IfOk, MatchOption, OnErr, OnOk};
-ghost use Rattle.xc_input.specs.LinesRead.{Advanced, IsLine, read_size};
+ghost use Rattle.xc_input.specs.LinesRead.{Advanced, IsLine};
 ghost use Rattle.xc_input.specs.Words.{has};
-ghost use Rattle.xc_input.specs.inner.Feeding.{AskedFor, Cut, ReadOnce, ended_carry};
+ghost use Rattle.xc_input.specs.inner.Feeding.{AskedFor, Cut, ReadOnce, ended_carry, read_size};
 ghost use Rattle.xc_input.specs.declared.line_reader.Unread.TheVariants.{Device, Memory};
 
 use crate::source::{ReadFailed, Source};
@@ -57,7 +57,8 @@ pub struct LineReader {
 
 impl Model for LineReader {
     ghost use Rattle.std.specs.Prelude.{◌≡◌, ◌-◌, ◌≤◌, length, take, drop, if◌then◌else◌, nat_eq};
-    ghost use Rattle.xc_input.specs.LinesRead.{LinesRead, read_size};
+    ghost use Rattle.xc_input.specs.LinesRead.{LinesRead};
+    ghost use Rattle.xc_input.specs.inner.Feeding.{read_size};
 
     ghost Value = { LinesRead };
 
@@ -89,8 +90,8 @@ impl LineReader {
     /// Whether one more line comes, with a line feed at its end. It reads only where no line is left of what was
     /// read before. Where none comes, the source gave its end.
     ///
-    /// After the end or an error nothing is left of what was read, also of a line that was begun: a further call
-    /// returns what the source gives from then on.
+    /// After the end or an error a further call goes on with what the source gives from then on. What was read before,
+    /// also the beginning of a line, is lost then.
     pub fn advance<S: Source>(&mut self, source: &mut S) -> Result<bool, Unread>
         ensures { Advanced self.old self.new (S.state source.old) (S.state source.new) result }
     {

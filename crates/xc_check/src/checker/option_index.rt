@@ -4,6 +4,7 @@ ghost use Rattle.std.specs.List.{list_any};
 ghost use Rattle.std.specs.Str.{bytes_eq};
 ghost use Rattle.xc_input.specs.Problem.{primary_count, option_count, IsValid, IsWithinLimits};
 ghost use Rattle.xc_input.specs.Named.{IsKnownUse, IsSound};
+ghost use Rattle.indexmap.specs.IndexSet.{hasher_of};
 ghost use Rattle.xc_check.specs.ListingLines.{words_in};
 ghost use Rattle.xc_check.specs.Listed.{is_none};
 ghost use Rattle.xc_check.specs.inner.Classes.{IsIndexed, IsClassOfBody, class_size, IsUseOfWord, IsReading};
@@ -69,7 +70,9 @@ fn add_option(
     requires valid { IsValid problem.now.puzzle }
     requires limits { IsWithinLimits problem.now.puzzle }
     requires before { AreClassesTo problem.now.puzzle o (key_uses classes.old.keys) sizes.old.items }
-    ensures { OnOk result (AreClassesTo problem.now.puzzle (o + 1) (key_uses classes.new.keys) sizes.new.items) }
+    ensures classes { OnOk result
+        (AreClassesTo problem.now.puzzle (o + 1) (key_uses classes.new.keys) sizes.new.items) }
+    ensures seed { hasher_of classes.new ≡ hasher_of classes.old }
 {
     rotate(problem.option(o + 1), rotated)?;
     match classes.get_index_of(rotated.as_slice()) {
@@ -95,13 +98,18 @@ pub struct OptionIndex<'a> {
 }
 
 impl<'a> Model for OptionIndex<'a> {
+    ghost use Rattle.std.specs.Prelude.{◌≡◌};
+    ghost use Rattle.indexmap.specs.IndexSet.{hasher_of};
     ghost use Rattle.xc_check.specs.inner.Classes.{Classes, key_uses, IsOptionIndex};
 
     ghost Value = { Classes };
 
     ghost view = { λ b. record { problem = b.problem.now; classes = key_uses b.classes.keys } };
 
-    ghost invariant = { λ b. IsOptionIndex b.problem.now b.classes.keys b.sizes.items };
+    ghost invariant = { λ b. record {
+      index : IsOptionIndex b.problem.now b.classes.keys b.sizes.items;
+      seed : hasher_of b.classes ≡ b.problem.now.seed;
+    } };
 }
 
 impl<'a> OptionIndex<'a> {

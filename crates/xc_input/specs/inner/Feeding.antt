@@ -1,4 +1,5 @@
--- No public clause cites this module. Lines that line feeds end, and a reader that is fed a text in pieces.
+-- No clause of a public function cites this module; the invariants of `Reader` and `LineReader` do. Lines that line
+-- feeds end, and a reader that is fed a text in pieces.
 use Prim.Native.Char.{code}
 use Rattle.std.specs.Prelude.{◌≡◌, ℕ, List, [], ◌∷◌, ◌++◌, false, ◌≢◌, ◌≤◌, length, None, Result, OnOk, IfOk, IfErr}
 use Rattle.std.specs.Prelude.{◌+◌, ◌<◌, Bool, true, Ok, Err}
@@ -31,6 +32,10 @@ AreWhole [] = Unit {0}
 AreWhole (line ∷ lines) = (has (code "\n") line ≡ false) × AreWhole lines
 
 -- ======== A reader that is fed a text in pieces.
+
+-- how many bytes a source is asked for at once
+abbrev pub read_size : ℕ
+read_size = 65536
 
 -- an error of the lines so far
 abbrev pub IsErrorOf : Kind → List (List ℕ) → InputError → Type 0

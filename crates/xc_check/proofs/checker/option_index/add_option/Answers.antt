@@ -23,8 +23,8 @@ overflow_add-index_mut c =
     let few = members-few p c.args.o us in
     omega (arith, c.index_mut.ensures.value, count, few, c.requires.option, c.requires.limits.options)
 
-pub returns-in-Some : goal.returns-in-Some
-returns-in-Some c =
+pub returns-in-Some-clause-classes : goal.returns-in-Some-clause-classes
+returns-in-Some-clause-classes c =
     let p = c.args.problem.now.puzzle in
     let o = c.args.o in
     let is = option_class p o _ _ _ c.option.ensures.value c.in_ok-rotate.ensures c.as_slice.ensures.value in
@@ -33,8 +33,8 @@ returns-in-Some c =
     at ∙ ap (λ x. Some x) is in
     rw (add-one o) (classes-found p o _ _ _ _ c.requires.before here c.index_mut.ensures.value)
 
-pub returns-in_ok-push-in-None : goal.returns-in_ok-push-in-None
-returns-in_ok-push-in-None c =
+pub returns-in_ok-push-in-None-clause-classes : goal.returns-in_ok-push-in-None-clause-classes
+returns-in_ok-push-in-None-clause-classes c =
     let p = c.args.problem.now.puzzle in
     let o = c.args.o in
     let keys = c.args.classes.now.keys in

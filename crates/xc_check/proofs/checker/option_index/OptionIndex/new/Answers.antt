@@ -14,6 +14,6 @@ pub returns-clause-indexed : goal.returns-clause-indexed
 returns-clause-indexed c =
     let i = invariant_of-result c in
     record {
-      sound = i.sound;
-      classes = classes-whole _ _ _ i.complete;
+      sound = i.index.sound;
+      classes = classes-whole _ _ _ i.index.complete;
     }
