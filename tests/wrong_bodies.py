@@ -30,7 +30,7 @@ from typing import NamedTuple
 
 TOP = Path(__file__).resolve().parent.parent
 # Those that have mutants, each after those that it uses.
-LINES = dict(re.findall(r"^(\w+)[^:#]*:(.*)", (TOP / "crates.txt").read_text(), re.MULTILINE))
+LINES: dict[str, str] = dict(re.findall(r"^(\w+)[^:#]*:(.*)", (TOP / "crates.txt").read_text(), re.MULTILINE))
 CRATES = [it for it in LINES if (TOP / "crates" / it / "mutants.edits").exists()]
 STORE = Path(os.environ.get("XDG_CACHE_HOME") or Path.home() / ".cache") / "helgrothy" / "wrong_bodies"
 AT_ONCE = 12
