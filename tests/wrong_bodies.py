@@ -7,11 +7,16 @@ that don't fit the code any more, which the gate would only note.
 A check takes ten seconds and more before its first function. So a dozen wrong bodies that change different functions
 stand in one check, which goes on past open goals and prints each; one that isn't refused there has one of its own.
 RT_JOBS checks run at once, as many as there are processors if it isn't set.
+
+What passes is kept in ~/.cache/helgrothy/wrong_bodies, or below XDG_CACHE_HOME, by the checksum of the wrong body, of
+the kit and of all files of the crate and of those below it. A later run, also in another clone, tries only what
+changed, and says how many it took from there; with --anew it tries all.
 """
 
 from __future__ import annotations
 
 import argparse
+import hashlib
 import os
 import re
 import shutil
@@ -25,15 +30,16 @@ from typing import NamedTuple
 
 TOP = Path(__file__).resolve().parent.parent
 # Those that have mutants, each after those that it uses.
-CRATES = [
-    it
-    for it in re.findall(r"^\w+", (TOP / "crates.txt").read_text(), re.MULTILINE)
-    if (TOP / "crates" / it / "mutants.edits").exists()
-]
+LINES: dict[str, str] = dict(re.findall(r"^(\w+)[^:#]*:(.*)", (TOP / "crates.txt").read_text(), re.MULTILINE))
+CRATES = [it for it in LINES if (TOP / "crates" / it / "mutants.edits").exists()]
+STORE = Path(os.environ.get("XDG_CACHE_HOME") or Path.home() / ".cache") / "helgrothy" / "wrong_bodies"
 AT_ONCE = 12
+ABSENT = "a text that it replaces doesn't stand there once"
 # A header of methods, or a function with its attributes.
 FUNCTION = re.compile(
-    r'^(impl\b.*|(?:pub )?trait .*|(?: *#\[.*\n)*( *)(?:pub(?:\(crate\))? )?(?:extern "C" )?fn (\w+))', re.MULTILINE
+    r"^(impl\b.*|(?:pub )?trait .*|(?: *#\[.*\n)*( *)(?:#\[.*\] )?(?:pub(?:\(crate\))? )?"
+    r'(?:extern "C" )?fn (\w+))',
+    re.MULTILINE,
 )
 MESSAGE = re.compile(r"^(?:note: )?(?:\./)?((?:src|specs|proofs)/[^:]+):(\d+):\d+: (.*)", re.MULTILINE)
 GOALS = [re.compile(it) for it in (r"^error: `([^`]*)`:", r"\(`([^`]*)", r"`([^`]*)")]
@@ -43,15 +49,13 @@ Texts = dict[str, str]
 
 
 class Edit(NamedTuple):
-    """A wrong body: where its goal stands, and its changes, each a file, the old text and the new one. One that leaves
-    out modules is checked whole."""
+    """A wrong body: where its goal stands, and its changes, each a file, the old text and the new one."""
 
     crate: str
     name: str
     file: str
     goal: str
     changes: list[tuple[str, str, str]]
-    is_cut: bool
 
 
 class Group(NamedTuple):
@@ -80,7 +84,7 @@ def read(crate: str, name: str, text: str) -> Edit:
         if key == "new":
             changes.append((said["file"], said["old"], value))
     file, _, goal = said["# clause"].partition(" ")
-    return Edit(crate, name, file, goal, changes, "#[cfg(test)] mod " in text)
+    return Edit(crate, name, file, goal, changes)
 
 
 def owner(header: str) -> str:
@@ -122,7 +126,7 @@ def plant(texts: Texts, edit: Edit) -> Group | None:
             return None
         functions.add(function_at(file, texts[file], texts[file].index(old) + len(old) - 1))
         texts[file] = texts[file].replace(old, new)
-    return Group([edit], {""} if edit.is_cut else functions, texts)
+    return Group([edit], functions, texts)
 
 
 def groups_of(texts: Texts, edits: list[Edit]) -> list[Group]:
@@ -139,18 +143,34 @@ def groups_of(texts: Texts, edits: list[Edit]) -> list[Group]:
     return groups
 
 
-def modules(text: str) -> set[str]:
-    """Those that a file declares."""
-    return set(re.findall(r"\bmod (\w+);", re.sub(r"/\*.*?\*/", "", text, flags=re.DOTALL)))
+class Store:
+    """What passed on this machine: of each wrong body a file with its name, named by the checksum of all that its check
+    read."""
 
+    def __init__(self) -> None:
+        self.kit = subprocess.run(["rt", "version"], capture_output=True, check=True).stdout
+        self.sums: dict[str, bytes] = {}
 
-def unfit(texts: Texts, edit: Edit) -> str:
-    """Why a wrong body doesn't fit the code, or nothing: a module that it leaves out is still declared."""
-    planted = plant(texts, edit)
-    if not planted:
-        return "a text that it replaces doesn't stand there once"
-    lost = {name for file, text in texts.items() for name in modules(text) - modules(planted.texts[file])}
-    return f"it doesn't declare {', '.join(sorted(lost))}" if lost else ""
+    def sum_of(self, crate: str) -> bytes:
+        """The checksum of a crate's files and of those of the crates that it uses."""
+        if crate not in self.sums:
+            at, total = TOP / "crates" / crate, hashlib.sha256(LINES[crate].encode())
+            for file in sorted(it for part in ("src", "specs", "proofs") for it in (at / part).rglob("*.*")):
+                total.update(str(file.relative_to(at)).encode() + hashlib.sha256(file.read_bytes()).digest())
+            for used in LINES[crate].split():
+                total.update(self.sum_of(used) if used in LINES else used.encode())
+            self.sums[crate] = total.digest()
+        return self.sums[crate]
+
+    def file_of(self, edit: Edit) -> Path:
+        return STORE / hashlib.sha256(self.kit + self.sum_of(edit.crate) + repr(edit).encode()).hexdigest()
+
+    def has(self, edit: Edit) -> bool:
+        return self.file_of(edit).exists()
+
+    def keep(self, edit: Edit) -> None:
+        STORE.mkdir(parents=True, exist_ok=True)
+        self.file_of(edit).write_text(f"{edit.crate}/{edit.name}\n")
 
 
 class Tree:
@@ -193,11 +213,11 @@ class Tree:
     def tried(self, group: Group) -> list[tuple[Edit, str]]:
         """The wrong bodies, each with what was told in the place of its goal, or nothing where that was."""
         if not group.texts:
-            return [(group.edits[0], "a text that it replaces doesn't stand there once")]
+            return [(group.edits[0], ABSENT)]
         told, results = self.told(group), []
         for edit in group.edits:
             alone = plant(self.texts(edit.crate), edit) or group
-            own = {(file, goal) for file, goal, name in told if not name or name in alone.functions or edit.is_cut}
+            own = {(file, goal) for file, goal, name in told if not name or name in alone.functions}
             if (edit.file, edit.goal) in own:
                 results.append((edit, ""))
             elif len(group.edits) > 1 and not self.is_ended:
@@ -214,27 +234,22 @@ def check(crates: list[str]) -> int:
         at = TOP / "crates" / crate
         texts = {str(it.relative_to(at)): it.read_text() for it in at.glob("src/**/*.rt")}
         for edit in edits_of(crate):
-            if why := unfit(texts, edit):
-                print(f"{crate}/{edit.name}: {why}")
+            if not plant(texts, edit):
+                print(f"{crate}/{edit.name}: {ABSENT}")
                 status = 1
     return status
 
 
-def main() -> int:
-    parser = argparse.ArgumentParser(description="Plants wrong bodies, each of which the prover has to refuse.")
-    parser.add_argument("-v", action="store_true", help="print each wrong body")
-    parser.add_argument("--check", action="store_true", help="only name those that don't fit the code")
-    parser.add_argument("crates", nargs="*", metavar="CRATE", help=f"of {', '.join(CRATES)}")
-    words = parser.parse_args()
-    if words.check:
-        return check(words.crates or CRATES)
-    signal.signal(signal.SIGTERM, lambda *_: sys.exit(2))
-    passed = failed = 0
+def try_all(crates: list[str], store: Store, is_anew: bool, is_verbose: bool) -> tuple[int, int, int]:
+    """Tries those of the crates, and returns how many passed, how many failed, and how many had passed before."""
+    passed = failed = kept = 0
     pool = ThreadPoolExecutor(int(os.environ.get("RT_JOBS") or len(os.sched_getaffinity(0))))
     with tempfile.TemporaryDirectory() as folder:
         tree, runs = Tree(folder), []
-        for crate in words.crates or CRATES:
-            edits = edits_of(crate)
+        for crate in crates:
+            there = edits_of(crate)
+            edits = [it for it in there if is_anew or not store.has(it)]
+            kept += len(there) - len(edits)
             if edits and tree.check(crate).returncode:
                 print(f"{crate} isn't proved as it stands", flush=True)
                 failed += len(edits)
@@ -243,13 +258,31 @@ def main() -> int:
         try:
             for edit, told in (result for run in runs for result in run.result()):
                 passed, failed = passed + (not told), failed + bool(told)
-                if told or words.v:
+                if not told:
+                    store.keep(edit)
+                if told or is_verbose:
                     but = f"{told}, not " if told else ""
                     print(f"{edit.crate}/{edit.name}: {but}{edit.file} {edit.goal}", flush=True)
         finally:
             tree.is_ended = True
             pool.shutdown(cancel_futures=True)
-    print(f"{passed} passed, {failed} failed")
+    return passed, failed, kept
+
+
+def main() -> int:
+    parser = argparse.ArgumentParser(description="Plants wrong bodies, each of which the prover has to refuse.")
+    parser.add_argument("-v", action="store_true", help="print each wrong body")
+    parser.add_argument("--check", action="store_true", help="only name those that don't fit the code")
+    parser.add_argument("--anew", action="store_true", help="try those as well that passed before")
+    parser.add_argument("crates", nargs="*", metavar="CRATE", help=f"of {', '.join(CRATES)}")
+    words = parser.parse_args()
+    if words.check:
+        return check(words.crates or CRATES)
+    signal.signal(signal.SIGTERM, lambda *_: sys.exit(2))
+    passed, failed, kept = try_all(words.crates or CRATES, Store(), words.anew, words.v)
+    if kept:
+        print(f"{kept} had passed before")
+    print(f"{passed + kept} passed, {failed} failed")
     return int(failed > 0)
 
 
