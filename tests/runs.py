@@ -213,7 +213,7 @@ def solvers() -> Iterator[str]:
 
 
 def large() -> Iterator[str]:
-    """Two thousand levels, and twenty thousand solutions."""
+    """Two thousand levels, twenty thousand solutions, and a file whose first and last bytes are in different reads."""
     items = "\n".join(map(str, range(2000)))
     deep = run(["dlx1"], f"{items.replace(chr(10), ' ')}\n{items}\n")
     yield from differs("2,000 items, each alone", deep, Answer(0, "", "Altogether 1 solution.\n"))
@@ -223,6 +223,8 @@ def large() -> Iterator[str]:
         yield "20,000 equal options aren't listed"
     if judge(["1"], problem, listing) != Answer(0, "".join(f"{n}: cover\n" for n in range(1, many + 1)), ""):
         yield "20,000 covers aren't judged so"
+    first_and_last = judge(["1"], "A B\n" + "A\n" * 40_000 + "B\n", "1:\n A (1 of 40000)\n B (1 of 1)\n")
+    yield from differs("the judge of 40,000 options", first_and_last, Answer(0, "1: cover\n", ""))
 
 
 # ---- the judge
@@ -451,6 +453,20 @@ def names() -> Iterator[str]:
                 yield f"dlx-join m0 {name!r}: {ended.returncode}, {ended.stderr!r}, not {wanted!r}"
 
 
+def many_files() -> Iterator[str]:
+    """Two hundred spans of a solution each, in as many files."""
+    marks = ["-", *map(str, range(2, 201)), "-"]
+    with tempfile.TemporaryDirectory() as folder:
+        files = [os.path.join(folder, str(number)) for number in range(1, 201)]
+        for number, (begun, until, name) in enumerate(zip(marks, marks[1:], files), 1):
+            with open(name, "w") as file:
+                file.write(f"from {begun} {PROBLEM}\n1:\n A ({number} of 200)\n")
+                file.write(f"from {begun} until {until} solutions 1 steps 1 {PROBLEM}\n")
+        found = run(["dlx-join", "m1", *files], "")
+    listing = "".join(f"{number}:\n A ({number} of 200)\n" for number in range(1, 201))
+    yield from differs("dlx-join m1 of 200 files", found, Answer(0, listing, "Altogether 200 solutions.\n"))
+
+
 def joins() -> Iterator[str]:
     for word, text, listing, count in JOINED:
         found = run(["dlx-join", word], text)
@@ -462,6 +478,7 @@ def joins() -> Iterator[str]:
         wanted = Answer(2, listing, f"standard input: line {line}: not the text of a span.\n")
         yield from differs(f"dlx-join m1 of {text!r}", run(["dlx-join", "m1"], text), wanted)
     yield from names()
+    yield from many_files()
     usage = Answer(1, "", "Usage: dlx-join m0|m1 [FILE..]\n")
     for command in (["dlx-join"], ["dlx-join", "m2"]):
         yield from differs(" ".join(command), run(command, LISTED), usage)

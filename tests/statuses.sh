@@ -47,6 +47,7 @@ expect 1 dlx1 t0 </dev/null
 expect 1 dlx2 m </dev/null
 expect 1 dlx3 v1 </dev/null
 expect 3 dlxcheck missing.dlx </dev/null
+expect 3 dlxcheck . </dev/null
 expect 1 dlxcheck missing.dlx 4 </dev/null
 expect 1 dlxcheck missing.dlx 4 <&-
 expect 3 dlxcheck missing.dlx <&-

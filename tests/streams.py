@@ -92,6 +92,25 @@ def a_read_is_as_large_as_its_buffer() -> Iterator[str]:
         yield f"dlx1 of one packet: {told}, not {OPTIONS} solutions"
 
 
+# A listing of 65,536 bytes, and what `dlxcheck` says of it.
+MEMBERS = 4368
+MEMBER = " A (1 of 1)\n"
+LISTING, VERDICTS = f"10:\n{MEMBER}" + f"1:\n{MEMBER}" * MEMBERS, "10: cover\n" + "1: cover\n" * MEMBERS
+
+
+def a_listing_is_read_by_its_buffer() -> Iterator[str]:
+    """The same of the listing, whose buffer is as long as the packet."""
+    ours, theirs = socket.socketpair(socket.AF_UNIX, socket.SOCK_SEQPACKET)
+    with theirs, tempfile.NamedTemporaryFile("w") as problem:
+        problem.write("A\nA\n")
+        problem.flush()
+        with ours:
+            ours.send(LISTING.encode())
+        done = subprocess.run(command(["dlxcheck", problem.name]), stdin=theirs, capture_output=True, timeout=HANG)
+    if done.stdout.decode() != VERDICTS:
+        yield f"dlxcheck of a listing in one packet: {done.stdout[:60]!r}, {done.stderr[:60]!r}"
+
+
 # ---- solutions are seen before the search ends
 
 MANY = 200
@@ -274,6 +293,7 @@ def main() -> int:
     parts: list[Iterable[str]] = [
         each_message_is_one_write(),
         a_read_is_as_large_as_its_buffer(),
+        a_listing_is_read_by_its_buffer(),
         solutions_are_seen_at_once(),
         short_runs_of_long_searches(),
         failed_writes_of_long_searches(),
