@@ -1,6 +1,6 @@
 -- How far a run over a span comes, and what it wrote.
 use Rattle.std.specs.Prelude.{ℕ, ◌^◌, ◌-◌, ◌<◌, ◌≤◌, ◌≡◌, ◌⊎◌, ◌==◌, false, List, Option, Some, None, IfSome, length}
-use Rattle.std.specs.Prelude.{◌+◌, ◌*◌, true, Result, Ok, Err, if◌then◌else◌}
+use Rattle.std.specs.Prelude.{◌+◌, ◌*◌, true, Result, Ok, Err, if◌then◌else◌, [], ◌∷◌}
 use Rattle.xc_input.specs.Problem.{Puzzle}
 use Rattle.xc_input.specs.Named.{Named}
 use Rattle.xc_search.specs.Listing.{whole}
@@ -68,3 +68,8 @@ AnswersSpan a asked old new (Err e) = elim e [
 abbrev pub SpanMakesFew : Puzzle → AskedSpan → ℕ → ℕ → Went → Type 0
 SpanMakesFew p asked old new went = new ≤ old + room_for p
     * (length asked.from + went.steps + 3 * (went.members + 2))
+
+-- Searches each began at the row where the one in front of it stopped, the first at this row.
+abbrev pub StopInTurn : Puzzle → List ℕ → List (AskedSpan × List ℕ × Went) → Type 0
+StopInTurn p from [] = Unit {0}
+StopInTurn p from (s ∷ runs) = (s.0.from ≡ from) × StopsAt p s.0 s.1 s.2 × StopInTurn p s.1 runs

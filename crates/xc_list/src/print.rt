@@ -399,6 +399,7 @@ fn note_afresh(
 
 /// Writes a solution by a page that keeps no line, and takes it into the digest of a text. One that isn't written by
 /// one page is put together once for each.
+#[tactic(auto, using(std::proofs::lemmas::Slice::between_is))]
 pub fn write_noted<S: Sink>(
     number: u64,
     solution: &[Choice],
