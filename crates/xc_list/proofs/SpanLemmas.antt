@@ -752,5 +752,9 @@ pub stops_end : (p : Puzzle) (from : List ℕ) (runs : List (AskedSpan × List �
     → StopInTurn p from runs → length runs < row_count (whole p)
 stops_end puzzle from runs is h =
     let rows = map (λ (r : AskedSpan × List ℕ × Went). r.1) runs in
-    omega (arith, rows_end puzzle from rows is (stops_go_on puzzle from runs h), length-map runs
-    (λ (r : AskedSpan × List ℕ × Went). r.1))
+    omega (
+      arith,
+      rows_end puzzle from rows is (stops_go_on puzzle from runs h),
+      length-map runs
+          (λ (r : AskedSpan × List ℕ × Went). r.1),
+    )

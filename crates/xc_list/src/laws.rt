@@ -20,6 +20,7 @@ ghost use Rattle.xc_list.specs.declared.ends.End.TheVariants.{Done, Limit};
 ghost use Rattle.xc_list.specs.declared.words.WordFault.TheVariants.{Unknown, BadNumber, ZeroLimit};
 
 use crate::ends::{End, SpanFault};
+use crate::text_digest::TextDigest;
 use crate::words::{WordFault, Words};
 pub use xc_check::laws::{equal_listing_faults, equal_verdicts};
 pub use xc_streams::laws::equal_failures;
@@ -58,6 +59,7 @@ pub fn clones()
     ensures words { IsEqualClone ⟦<Words as Clone>⟧.is_clone }
     ensures word_faults { IsEqualClone ⟦<WordFault as Clone>⟧.is_clone }
     ensures span_faults { IsEqualClone ⟦<SpanFault as Clone>⟧.is_clone }
+    ensures text_digests { IsEqualClone ⟦<TextDigest as Clone>⟧.is_clone }
 {}
 
 /// The outputs and the ends of worked problems.
