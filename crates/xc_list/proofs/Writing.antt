@@ -57,6 +57,7 @@ use Rattle.xc_list.specs.declared.ends.End.TheVariants.{Done}
 use Rattle.xc_list.specs.declared.places.TheConstants.{ROOM}
 use Rattle.xc_list.specs.SearchedSpans.{AreSmall}
 use Rattle.xc_list.specs.Digests.{problem_numbers, digest_after, digest_of, digits_of}
+use Rattle.xc_list.specs.inner.Writing.{digest_multiplier}
 use Rattle.xc_list.specs.declared.text_digest.TextDigest.{TextDigest}
 use Rattle.xc_input.specs.Hashing.{taken}
 use lib.Lanes.{put_chunk, chunk}
