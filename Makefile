@@ -24,7 +24,7 @@ SONAME = libhelgrothy.so.0
 .PHONY: test-count test-search test-page test-docs
 .PHONY: pictures completion believed names bench bench-forms test-bench test-build
 .PHONY: lib install install-lib uninstall uninstall-lib dist deb wheel version release
-.PHONY: test-bindings test-install test-dist test-deb test-wheel
+.PHONY: test-library test-bindings test-install test-dist test-deb test-wheel
 # Without a target: the list of targets.
 help:
 	@sed -n 's/^\([a-z-]*\):.* ## /\1: /p' Makefile | LC_ALL=C sort
@@ -38,6 +38,7 @@ test: bin ## the merge gate: proofs, mutants, tests, programs
 	@python3 tests/runs.py
 	@python3 tests/streams.py
 	@python3 tests/hostile/collisions.py
+	@$(MAKE) -s --no-print-directory test-library
 	@$(MAKE) -s --no-print-directory bin
 	@sh tests/examples.sh
 	@python3 tests/count/trial.py 200 1
@@ -199,6 +200,8 @@ version: ## check that all files name the version
 release: dist deb wheel ## pack the archive, the Debian package and the wheel
 	cd dist && sha256sum helgrothy[-_]$(VERSION)* > SHA256SUMS
 
+test-library: ## the calls of the library for C, built without proofs
+	@python3 tests/bindings/calls.py
 test-bindings: lib ## the examples in C and Rust, and hostile calls
 	@sh tests/bindings/bindings.sh
 test-install: bin ## an installation

@@ -44,7 +44,7 @@ eval "gcc $strict bindings/c/example.c $flags -o \"\$work/shared\""
 LD_LIBRARY_PATH=$lib "$work/shared" | diff - "$work/c.wanted"
 ! "$work/shared" 2>/dev/null || { echo "the program that was linked with the shared library runs without it"; exit 1; }
 nm -D --defined-only "$lib/libhelgrothy.so" | awk '{ print $3 }' | diff - "$work/calls"
-python3 tests/bindings/shared_library.py "$lib/libhelgrothy.so"
+python3 tests/bindings/calls.py "$lib/libhelgrothy.so"
 
 if command -v cargo >/dev/null; then
     export CARGO_TARGET_DIR="$work/target" RUSTFLAGS='-D warnings'
