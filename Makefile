@@ -200,7 +200,7 @@ version: ## check that all files name the version
 release: dist deb wheel ## pack the archive, the Debian package and the wheel
 	cd dist && sha256sum helgrothy[-_]$(VERSION)* > SHA256SUMS
 
-test-library: ## the calls of the library for C, which it builds
+test-library: ## the calls of the library for C, built without proofs
 	@python3 tests/bindings/calls.py
 test-bindings: lib ## the examples in C and Rust, and hostile calls
 	@sh tests/bindings/bindings.sh

@@ -3,8 +3,8 @@
 under the fixed seed are read by that one, which is slow, and by a random one. A total is asked for with room for its
 states and without.
 
-Without LIBRARY it builds the library as `make lib` does, and where there is no gcc it says so and passes. Prints what
-is wrong, and nothing else; the status is then 1.
+Without LIBRARY it builds the library by library.py, and where there is no gcc it says so and passes. Prints what is
+wrong, and nothing else; the status is then 1.
 """
 
 from __future__ import annotations
@@ -16,12 +16,14 @@ import secrets
 import shutil
 import subprocess
 import sys
+import tempfile
 import time
 from ctypes import POINTER, byref, c_char_p, c_size_t, c_uint32, c_uint64, c_void_p
 from pathlib import Path
 from typing import Any, Callable, Iterator
 
 TOP = Path(__file__).resolve().parent.parent.parent
+BUILDER = TOP / "tests" / "bindings" / "library.py"
 sys.path.insert(0, str(TOP / "tests" / "hostile"))
 from collisions import WORDS, by_chance, colliding, of_names  # noqa: E402
 
@@ -191,27 +193,27 @@ def collisions(library: Library) -> Iterator[str]:
             yield f"{name} of names that collide under the fixed seed: {taken / usual:.1f} times"
 
 
-def built() -> Path | None:
-    """The library, or none where it can't be built."""
-    made = subprocess.run(["make", "-s", "lib"], cwd=TOP, stdout=subprocess.PIPE, stderr=subprocess.STDOUT, text=True)
-    if made.returncode:
-        print(f"the library for C isn't built:\n{made.stdout[-4000:]}")
-        return None
-    return TOP / "bindings" / "out" / "libhelgrothy.so"
-
-
-def main() -> int:
-    if len(sys.argv) == 1 and not shutil.which("gcc"):
-        print("there is no gcc, so the library for C isn't tried")
-        return 0
-    path = Path(sys.argv[1]) if len(sys.argv) > 1 else built()
-    if not path:
-        return 1
+def tried(path: Path) -> int:
     faulthandler.dump_traceback_later(HANG, exit=True)
     library = Library(path)
     wrong = [line for part in (answers, bounds, collisions) for line in part(library)]
     print("\n".join(wrong), end="\n" * bool(wrong))
     return bool(wrong)
+
+
+def main() -> int:
+    if len(sys.argv) > 1:
+        return tried(Path(sys.argv[1]))
+    if not shutil.which("gcc"):
+        print("there is no gcc, so the library for C isn't tried")
+        return 0
+    with tempfile.TemporaryDirectory() as folder:
+        path = Path(folder) / "libhelgrothy.so"
+        made = subprocess.run([sys.executable, "-B", str(BUILDER), str(path)], capture_output=True, text=True)
+        if made.returncode:
+            print(f"the library for C isn't built:\n{made.stdout}{made.stderr}")
+            return 1
+        return tried(path)
 
 
 if __name__ == "__main__":
