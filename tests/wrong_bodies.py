@@ -2,7 +2,7 @@
 """Plants the wrong bodies of crates/*/mutants.edits and must-fail/, or of the crates named, in copies of the libraries,
 where the prover has to refuse each by the goal that its line `# clause: FILE GOAL` names. Prints each that isn't
 refused by it, with -v each one. The last line is `N passed, M failed`. With --check nothing is proved: it names those
-that don't fit the code any more, which the gate would only note.
+that don't fit the code any more, which the gate would only note, and those of docs/MUTANTS.md that aren't there.
 
 A check takes ten seconds and more before its first function. So a dozen wrong bodies that change different functions
 stand in one check, which goes on past open goals and prints each; one that isn't refused there has one of its own.
@@ -228,8 +228,13 @@ class Tree:
 
 
 def check(crates: list[str]) -> int:
-    """Names the wrong bodies that don't fit the code, and returns whether there are any."""
+    """Names the wrong bodies that don't fit the code, or are only on the page, and returns whether there are any."""
     status = 0
+    cells = re.findall(r"\| ([\w`, ]+) \|$", (TOP / "docs" / "MUTANTS.md").read_text(), re.MULTILINE)
+    for name in re.findall(r"`(\w+)`", " ".join(cells)):
+        if not list(TOP.glob(f"crates/*/must-fail/{name}.edit")):
+            print(f"docs/MUTANTS.md: {name} is in no must-fail/")
+            status = 1
     for crate in crates:
         at = TOP / "crates" / crate
         texts = {str(it.relative_to(at)): it.read_text() for it in at.glob("src/**/*.rt")}
@@ -272,7 +277,7 @@ def try_all(crates: list[str], store: Store, is_anew: bool, is_verbose: bool) ->
 def main() -> int:
     parser = argparse.ArgumentParser(description="Plants wrong bodies, each of which the prover has to refuse.")
     parser.add_argument("-v", action="store_true", help="print each wrong body")
-    parser.add_argument("--check", action="store_true", help="only name those that don't fit the code")
+    parser.add_argument("--check", action="store_true", help="only name those that don't fit, or are missing")
     parser.add_argument("--anew", action="store_true", help="try those as well that passed before")
     parser.add_argument("crates", nargs="*", metavar="CRATE", help=f"of {', '.join(CRATES)}")
     words = parser.parse_args()
