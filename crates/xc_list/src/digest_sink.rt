@@ -39,7 +39,7 @@ impl DigestSink {
     }
 
     /// The digest of what it took.
-    pub fn digits(&self) -> [u8; 16]
+    pub fn text_digits(&self) -> [u8; 16]
         ensures { (text : List ℕ) → (⟦<DigestSink as Sink>⟧.state self.now).taken ≡ Some text
             → result ≡ text_digest text }
     {

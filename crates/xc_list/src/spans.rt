@@ -412,7 +412,7 @@ fn write_span<'a, D: Dance, S: Sink>(
     let went = write_wanted(span, texts, words, &mut text, sink)?;
     note_front(span, &went, words, &texts.digest, &mut text);
     write_front(span, &went, words, &texts.digest, sink)?;
-    write_closing(&text.digits(), sink)?;
+    write_closing(&text.text_digits(), sink)?;
     Ok(went)
 }
 

@@ -8,7 +8,7 @@ use Rattle.xc_streams.specs.Texts.{Took, BrokeOff}
 use Rattle.xc_streams.proofs.SinkLemmas.{then_took, then_broke, if_failed, broke_before}
 use Rattle.xc_list.proofs.SpanLemmas.{AreSmallWords, known_left, of_span, of_broken}
 use Rattle.xc_list.proofs.spans.write_span.Goals as goal
-use Rattle.xc_list.proofs.spans.write_span.Goals.{After-write_wanted, After-digits}
+use Rattle.xc_list.proofs.spans.write_span.Goals.{After-write_wanted, After-text_digits}
 
 small : (g : _) (c : After-write_wanted g) → AreSmallWords (asked_of c.args.words.now)
 small g c =
@@ -27,12 +27,12 @@ returns-in_err-went-clause-wrote g c =
     c.args.span.now c.requires.begun c.in_err-went.ensures.wrote)
 
 -- the digest that is told is that of all that was noted
-digest : (g : _) (c : After-digits g) → c.digits.result ≡ text_digest (written_text c.args.texts.now.bodies
+digest : (g : _) (c : After-text_digits g) → c.text_digits.result ≡ text_digest (written_text c.args.texts.now.bodies
     c.args.words.now.listed c.args.words.now.from.items (take c.in_ok-went.went.members (left_of c.args.span.now))
     ++ told_text c.write_wanted.new.span c.args.words.now.from.items c.args.words.now.until.items c.in_ok-went.went
     (digest_of c.args.texts.now.bodies))
 digest g c =
-    c.digits.ensures _ (noted_both c.new-text.ensures c.in_ok-went.ensures.noted (rw c.args.texts.now.same at
+    c.text_digits.ensures _ (noted_both c.new-text.ensures c.in_ok-went.ensures.noted (rw c.args.texts.now.same at
     c.note_front.ensures))
 
 pub returns-in_err-write_front-clause-wrote : goal.returns-in_err-write_front-clause-wrote
@@ -49,7 +49,7 @@ returns-in_err-write_front-clause-wrote g c =
 pub returns-in_err-write_closing-clause-wrote : goal.returns-in_err-write_closing-clause-wrote
 returns-in_err-write_closing-clause-wrote g c =
     let at = (goal.at.returns-in_err-write_closing-clause-wrote g c).After-write_wanted in
-    let told = (goal.at.returns-in_err-write_closing-clause-wrote g c).After-digits in
+    let told = (goal.at.returns-in_err-write_closing-clause-wrote g c).After-text_digits in
     let went = c.in_ok-went.ensures in
     if_failed _ _ c.from_residual-in_err-write_closing.ensures.0 (
       c.in_ok-went.went,
@@ -62,7 +62,7 @@ returns-in_err-write_closing-clause-wrote g c =
 pub returns-clause-wrote : goal.returns-clause-wrote
 returns-clause-wrote g c =
     let at = (goal.at.returns-clause-wrote g c).After-write_wanted in
-    let told = (goal.at.returns-clause-wrote g c).After-digits in
+    let told = (goal.at.returns-clause-wrote g c).After-text_digits in
     let went = c.in_ok-went.ensures in
     of_span c.args.texts.now.bodies (asked_of c.args.words.now) (small g at) c.in_ok-went.went c.requires.sound Took
     (λ s t. then_took) c.args.span.now c.write_wanted.new.span c.requires.begun went.still went.node went.wrote.0
