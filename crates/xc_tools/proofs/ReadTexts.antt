@@ -25,7 +25,7 @@ use Rattle.xc_tools.specs.inner.SpanLines.{apart, by_heading, by_line, by_record
 use Rattle.xc_tools.specs.inner.SpanLines.{is_last_record, is_same, meets, opened, recorded, stand_after, start, Headed}
 use Rattle.xc_tools.specs.inner.SpanLines.{Told, numbers_in}
 use Rattle.xc_tools.specs.Joins.{AreOfOneProblem, DoMeet, spans_in}
-use Rattle.xc_tools.proofs.Chains.{after-apart, after-faulty, after-mixed}
+use Rattle.xc_tools.proofs.Chains.{after-apart, after-faulty, after-mixed, meets-so}
 use Rattle.xc_tools.proofs.SpanLines.{shape-short, texts-ended, IsShort, fits, is_last, last_line, shape_lines}
 use Rattle.xc_tools.proofs.SpanLines.{solution_lines, well_at}
 use Rattle.xc_tools.proofs.SpanWords.{IsAfter, ends-after, pushed, pushed-more, AreShort, heading_line, not-dash}
@@ -182,12 +182,6 @@ re-digest listed (t ∷ ts) old digest each same fit =
     let some : (length old == 0) ≡ false = grind (arith, nat_tests, ap length same.0) in
     let is : digest ≡ old = is-word digest old (rw some at fit) in
     (same.0 ∙ sym is, re-digest listed ts old digest each.1 same.1 fit)
-
--- a text may begin where the last one ended
-meets-so : (s : Join) (row : List ℕ) → meets s row ≡ true → (s.finished ≡ false) × (row ≡ s.met)
-meets-so s row h =
-    let parts = both (not s.finished) (bytes_eq row s.met) h in
-    (not-so s.finished parts.0, is-word row s.met parts.1)
 
 numbers-met : (word met row : List ℕ) → AreShort row → word ≡ met → met ≡ row_text row → numbers_in word ≡ row
 numbers-met word met row short e f = ap numbers_in (e ∙ f) ∙ numbers-row row short
