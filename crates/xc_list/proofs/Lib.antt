@@ -2,3 +2,4 @@ pub mod OutputLemmas
 pub mod SpanLemmas
 pub mod Writing
 pub mod ProblemTexts
+pub mod TextDigests

@@ -3,15 +3,15 @@ use Rattle.std.proofs.Common.{ℕ, zero, suc, ◌≡◌, ◌+◌, ◌-◌, ◌<�
 use Rattle.std.proofs.Common.{take, drop, get_or, refl, sym, ap, ◌∙◌, arith, append_assoc, append-nil, take_all, subst}
 use Rattle.std.proofs.Common.{◌^◌, ◌⊎◌, true, false, ap₂, inl, inr, length-append, ◌*◌}
 use Rattle.std.specs.Prelude.{slice_get, option_and_then, decimal, flat_map, unwrap_or, Result, Ok, Err, MatchResult}
-use Rattle.std.specs.Prelude.{IfSome, IsSome, IsSomeAnd, All, codes}
+use Rattle.std.specs.Prelude.{IfSome, IsSome, IsSomeAnd, All, codes, map, IfOk}
 use Rattle.std.proofs.lemmas.Bool.Decides.{nat_tests}
 use Rattle.std.proofs.lemmas.Grind.{common_steps}
 use Rattle.std.proofs.lemmas.Option.{slice_get_within, slice_get_past, slice_get_cases}
 use Rattle.std.proofs.lemmas.List.Concat.{flat_map-append}
-use Rattle.std.proofs.lemmas.List.{take-append-drop, length-take}
+use Rattle.std.proofs.lemmas.List.{take-append-drop, length-take, length-map}
 use Rattle.std.specs.List.{enumerate_from}
 use Rattle.std.proofs.Math.Seq.{take-append_seam}
-use Rattle.std.proofs.Math.Nat.{mul-add, add-mul, mul-le-mul_left}
+use Rattle.std.proofs.Math.Nat.{mul-add, mul-le-mul_left}
 use Rattle.std.proofs.lemmas.List.Elements.{All-from_recursion, recursion_from_All}
 use Rattle.xc_input.specs.Problem.{Puzzle}
 use Rattle.xc_input.specs.Named.{Named, IsSound}
@@ -28,18 +28,19 @@ use Rattle.xc_search.specs.Spans.{precedes, between}
 use Rattle.xc_search.specs.Going.{WentOnBy}
 use Rattle.xc_search.specs.Ends.{ends, ends_after}
 use Rattle.xc_search.specs.Room.{room_for}
-use Rattle.xc_search.specs.Nodes.{IsRowOf}
-use Rattle.xc_search.proofs.RowLemmas.{not_itself, not_before_before, before_either_way, spans_meet}
+use Rattle.xc_search.specs.Nodes.{IsRowOf, RowsGoOn, row_count}
+use Rattle.xc_search.proofs.RowLemmas.{not_itself, not_before_before, before_either_way, spans_meet, rows_end}
 use Rattle.xc_search.proofs.SpanRuns.{none_long}
 use Rattle.xc_search.proofs.EndLemmas.{ends_on}
 use Rattle.xc_streams.specs.Texts.{SinkState, Took, BrokeOff}
-use Rattle.xc_list.specs.SpanTexts.{row_text, end_at, branches_text, record_text, span_text, problem_part}
+use Rattle.xc_list.specs.SpanTexts.{row_text, end_at, branches_text, record_front, span_text, problem_part}
+use Rattle.xc_list.specs.SpanTexts.{closed_text}
 use Rattle.xc_list.specs.inner.Writing.{dotted, numbers_text, text_at, row_in, branches_in, left_at, WentOn, GoesFew}
-use Rattle.xc_list.specs.inner.Writing.{until_text, counts_text, told_text, written_text, BeginsAt}
-use Rattle.xc_list.specs.SpanRuns.{SpanMakesFew, most_steps, StopsAt, OfSpan, searched}
+use Rattle.xc_list.specs.inner.Writing.{until_text, counts_text, told_text, written_text, BeginsAt, closing}
+use Rattle.xc_list.specs.SpanRuns.{SpanMakesFew, most_steps, StopsAt, OfSpan, searched, StopInTurn}
 use Rattle.xc_list.specs.SpanWords.{AskedSpan, is_span}
 use Rattle.xc_list.specs.Known.{IsKnownChoice}
-use Rattle.xc_list.specs.Digests.{digest_of}
+use Rattle.xc_list.specs.Digests.{digest_of, text_digest}
 use Rattle.xc_list.specs.SearchedSpans.{AreSmall, IsSpan}
 use Rattle.xc_streams.proofs.SinkLemmas.{then_took, then_broke, broke_before}
 use Rattle.xc_list.proofs.Writing.{first_texts, texts_broke, within_next}
@@ -136,6 +137,12 @@ pub then_result : {X E : Type 0} (P : X → Type 0) (t : X → List ℕ) (u : Li
     → MatchResult r (λ w. P w × Took x z (s ++ t w)) (λ _. BrokeOff x z (s ++ u))
 then_result P t u (Ok w) z took more = (more.0, then_took took more.1)
 then_result P t u (Err e) z took more = then_broke took more
+
+-- the same of a text that is noted
+pub then_noted : {X E : Type 0} (t : X → List ℕ) (r : Result X E) (z : SinkState) {x y : SinkState} {s : List ℕ}
+    → Took x y s → IfOk r (λ w. Took y z (t w)) → IfOk r (λ w. Took x z (s ++ t w))
+then_noted t (Ok w) z took more = then_took took more
+then_noted t (Err e) z took more = tt
 
 -- ======== How a search of a span goes on, member by member.
 
@@ -433,7 +440,11 @@ few_on p o w start k n same at before few to = grind (arith, ends, whole, ends_o
 
 -- none were made where none was asked
 pub few_none : (s : InSpan) → GoesFew 0 0 s s
-few_none s = record { moves = omega (arith, refl {a = s.begun}); begun = omega (arith, refl {a = s.begun}) }
+few_none s = record {
+  taken = omega (arith, refl {a = s.begun});
+  moves = omega (arith, refl {a = s.begun});
+  begun = omega (arith, refl {a = s.begun});
+}
 
 moves_on : (r m n o b c d k : ℕ) → n + r * b ≤ m + r * (c + 2 * k) → o + r * c ≤ n + r * (d + 2)
     → o + r * b ≤ m + r * (d + 2 * (k + 1))
@@ -446,6 +457,7 @@ pub few_next : (s t n : InSpan) (calls a many most : ℕ) (w : Went) → t.puzzl
 few_next s t n calls a many most w same few went =
     let by = went.passes.begun in
     record {
+      taken = omega (arith, few.taken, by.1);
       moves = moves_on (room_for s.puzzle) s.made t.made n.made s.begun t.begun n.begun calls few.moves
           (rw (sym same) went.passes.moves);
       begun = omega (arith, few.begun, by.1, by.2);
@@ -458,6 +470,7 @@ moves_more r m n b c j k h i =
 -- more calls allow more
 pub few_more : (s n : InSpan) (j k a : ℕ) → j ≤ k → GoesFew j a s n → GoesFew k a s n
 few_more s n j k a h few = record {
+  taken = few.taken;
   moves = moves_more (room_for s.puzzle) s.made n.made s.begun n.begun j k few.moves h;
   begun = omega (arith, few.begun, h);
 }
@@ -495,7 +508,7 @@ joined a b c d m e f g h i = simp append_assoc
 
 told_as : (n : InSpan) (from until row : List ℕ) (branches : Option (List ℕ)) (w : Went) (digest : List ℕ)
     → until_text n until w.halt ≡ row_text row ++ branches_text branches
-    → told_text n from until w digest ≡ record_text from row branches w.members w.steps digest
+    → told_text n from until w digest ≡ record_front from row branches w.members w.steps digest
 told_as n from until row branches w digest e =
     ap (λ t. codes "from " ++ row_text from ++ codes " until " ++ t ++ counts_text w ++ problem_part digest) e
     ∙ joined (codes "from ") (row_text from) (codes " until ") (row_text row) (branches_text branches)
@@ -508,7 +521,7 @@ until_end n until Steps is = absurd (cc is)
 
 -- where it came to the end
 told_end : (n : InSpan) (from until : List ℕ) (w : Went) (digest : List ℕ) → w.halt ≡ End
-    → told_text n from until w digest ≡ record_text from until None w.members w.steps digest
+    → told_text n from until w digest ≡ record_front from until None w.members w.steps digest
 told_end n from until w digest is =
     told_as n from until until None w digest (until_end n until w.halt is ∙ sym (append-nil (row_text until)))
 
@@ -523,7 +536,7 @@ until_halt n until End (inr is) = absurd (cc is)
 told_stop : (p : Puzzle) (n : InSpan) (from until row : List ℕ) (w : Went) (digest : List ℕ) → n.puzzle ≡ p
     → (w.halt ≡ Member) ⊎ (w.halt ≡ Steps) → n.row ≡ Some row → 0 < length row
     → told_text n from until w digest
-    ≡ record_text from row (Some (branches_along (whole p) row)) w.members w.steps digest
+    ≡ record_front from row (Some (branches_along (whole p) row)) w.members w.steps digest
 told_stop p n from until row w digest e is at some =
     let branches = branches_along (whole p) row in
     let stop : until_text n until w.halt ≡ row_text row ++ branches_text (Some branches) =
@@ -546,6 +559,12 @@ pub known_left : (p : Puzzle) (from : List ℕ) (until : Option (List ℕ)) (s :
 known_left p from until s b = subst (All (All (IsKnownChoice p))) (sym b.left) (known_between p from until)
 
 -- ---- the whole
+
+closed_parts : (l t m d n : List ℕ) → l ++ (t ++ (m ++ d ++ n)) ≡ l ++ t ++ m ++ d ++ n
+closed_parts l t m d n = simp append_assoc
+
+broke_closed : (l t : List ℕ) {x z : SinkState} → BrokeOff x z l → BrokeOff x z (closed_text (l ++ t))
+broke_closed l t broke = broke_before _ (broke_before _ (broke_before _ (broke_before _ broke)))
 
 row_end : (row : List ℕ) → 0 < length row → end_at row ≡ Some row
 row_end [] h = absurd (omega (arith, h))
@@ -595,17 +614,18 @@ module _ (a : Named) (asked : AskedSpan) (words : AreSmallWords asked) (w : Went
   -- it ended, or stopped at a row
   stopped : (r q : Option (List ℕ)) → IfSome r (λ row. (precedes row asked.from ≡ false)
       × (between p asked.from (Some row) ≡ [])) → WentOn p (end_at asked.until) r q (most_steps asked.steps) w
-      → (w.halt ≡ Member) ⊎ (w.halt ≡ Steps)
-      → (row : List ℕ) × (q ≡ Some row) × StopsAt asked row w × (0 < length row)
+      → (w.halt ≡ Member) ⊎ (w.halt ≡ Steps) → IfSome q (λ row. IsRowOf (whole p) row)
+      → (row : List ℕ) × (q ≡ Some row) × StopsAt p asked row w × (0 < length row)
       × (between p asked.from (end_at row) ≡ take w.members (left_at p (end_at asked.until) r))
-  stopped None q begun o is = absurd (cc (o.stands is).0)
-  stopped (Some f) None begun o is = absurd (o.stands is).1
-  stopped (Some f) (Some row) begun o is =
+  stopped None q begun o is node = absurd (cc (o.stands is).0)
+  stopped (Some f) None begun o is node = absurd (o.stands is).1
+  stopped (Some f) (Some row) begun o is node =
       let later = not_before_before asked.from f row begun.0 o.later in
       let some = later_some asked.from row later in (
         row,
         refl,
         record {
+          node = node;
           later = later;
           within = (o.stands is).1;
           spent = elim is [ inl m ↦ inr (m, o.most_members m) | inr s ↦ inl (s, o.steps s) ];
@@ -624,7 +644,8 @@ module _ (a : Named) (asked : AskedSpan) (words : AreSmallWords asked) (w : Went
       (node : IfSome n.row (λ row. IsRowOf (whole n.puzzle) row))
       (o : WentOn s.puzzle s.until s.row n.row (most_steps asked.steps) w)
       (listing : Took x y (written_text a asked.listed asked.from (take w.members (left_of s))))
-      (told : R y z (told_text n asked.from asked.until w (digest_of a)))
+      (told : R y z (told_text n asked.from asked.until w (digest_of a) ++ closing (text_digest (written_text a
+      asked.listed asked.from (take w.members (left_of s)) ++ told_text n asked.from asked.until w (digest_of a)))))
     where
       went : WentOn p (end_at asked.until) s.row n.row (most_steps asked.steps) w
       went = rw (begun.puzzle, begun.until) at o
@@ -639,14 +660,19 @@ module _ (a : Named) (asked : AskedSpan) (words : AreSmallWords asked) (w : Went
       text : (row : List ℕ) (branches : Option (List ℕ))
           → between p asked.from (end_at row) ≡ take w.members (left_of s)
           → told_text n asked.from asked.until w (digest_of a)
-          ≡ record_text asked.from row branches w.members w.steps (digest_of a)
+          ≡ record_front asked.from row branches w.members w.steps (digest_of a)
           → w.members ≤ length (left_of s)
           → (length (between p asked.from (end_at row)) ≡ w.members)
           × R x z (span_text a asked.listed asked.from row branches w.steps)
       text row branches found line fits =
           let many : length (between p asked.from (end_at row)) ≡ w.members =
           omega (arith, ap length found, length-take w.members (left_of s), fits) in
-          (many, rw (many, found) (join _ _ listing (subst (R y z) line told)))
+          let front = written_text a asked.listed asked.from (take w.members (left_of s)) in
+          let line_told = told_text n asked.from asked.until w (digest_of a) in
+          let closed : R x z (closed_text (front ++ line_told)) =
+          subst (R x z) (closed_parts front line_told (codes " text ") (text_digest (front ++ line_told)) (codes "\n"))
+          (join _ _ listing told) in
+          (many, rw (many, found) (subst (λ t. R x z (closed_text (front ++ t))) line closed))
 
       fits : w.members ≤ length (left_of s)
       fits = o.count
@@ -681,7 +707,7 @@ module _ (a : Named) (asked : AskedSpan) (words : AreSmallWords asked) (w : Went
               said = all.1;
             }
         | inr is ↦
-            let at = stopped s.row n.row begun.row went is in
+            let at = stopped s.row n.row begun.row went is (rw puzzle at node) in
             let branches = branches_along (whole p) at.0 in
             let all = text at.0 (Some branches) (at.4 ∙ ap (take w.members) (sym left)) (told_stop p n
             asked.from asked.until at.0 w (digest_of a) puzzle is at.1 at.3) fits in
@@ -711,7 +737,24 @@ of_broken a asked words s begun {x = x} {z = z} broke =
         few = omega arith;
         members = ap length (sym begun.left);
         is_one = one_to_end a asked words w (omega arith) (ap length (sym begun.left));
-        said = broke_before _ (subst (λ ms. BrokeOff x z (written_text a asked.listed asked.from ms)) begun.left
-            broke);
+        said = broke_closed _ _ (subst (λ ms. BrokeOff x z (written_text a asked.listed asked.from ms)) begun.left broke);
       },
+    )
+
+-- ======== Spans that each begin where the one in front stopped.
+
+stops_go_on : (p : Puzzle) (from : List ℕ) (runs : List (AskedSpan × List ℕ × Went)) → StopInTurn p from runs
+    → RowsGoOn p from (map (λ r. r.1) runs)
+stops_go_on puzzle from [] h = tt
+stops_go_on puzzle from (s ∷ runs) h = (h.1.node, rw h.0 at h.1.later, stops_go_on puzzle s.1 runs h.2)
+
+pub stops_end : (p : Puzzle) (from : List ℕ) (runs : List (AskedSpan × List ℕ × Went)) → IsRowOf (whole p) from
+    → StopInTurn p from runs → length runs < row_count (whole p)
+stops_end puzzle from runs is h =
+    let rows = map (λ (r : AskedSpan × List ℕ × Went). r.1) runs in
+    omega (
+      arith,
+      rows_end puzzle from rows is (stops_go_on puzzle from runs h),
+      length-map runs
+          (λ (r : AskedSpan × List ℕ × Went). r.1),
     )

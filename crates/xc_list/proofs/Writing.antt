@@ -56,7 +56,10 @@ use Rattle.xc_list.specs.Runs.{StoppedAt, IsRun}
 use Rattle.xc_list.specs.declared.ends.End.TheVariants.{Done}
 use Rattle.xc_list.specs.declared.places.TheConstants.{ROOM}
 use Rattle.xc_list.specs.SearchedSpans.{AreSmall}
-use Rattle.xc_list.specs.Digests.{problem_numbers, digest_after, digest_of}
+use Rattle.xc_list.specs.Digests.{problem_numbers, digest_after, digest_of, digits_of}
+use Rattle.xc_list.specs.inner.Writing.{digest_multiplier}
+use Rattle.xc_list.specs.declared.text_digest.TextDigest.{TextDigest}
+use Rattle.xc_input.specs.Hashing.{taken}
 use lib.Lanes.{put_chunk, chunk}
 use Rattle.hex.specs.Hex.{encode_with, lower_digits}
 use Rattle.hex.proofs.HexLemmas.{length-encode_with}
@@ -456,3 +459,15 @@ digest-length a = length-encode_with lower_digits (hash_bytes a)
 pub digest-digits : (a : Named) → list_all is_lower_hex (digest_of a) ≡ true
 unfolding digest_of
 digest-digits a = encoded (hash_bytes a) (bytes-word 8 (digest_after digest_start (problem_numbers a)))
+
+-- and so is the digest of a text
+abbrev last_state : TextDigest → ℕ
+last_state d = taken digest_multiplier (taken digest_multiplier d.state d.word) d.held
+
+pub digits-length : (d : TextDigest) → length (digits_of d) ≡ 16
+unfolding digits_of
+digits-length d = length-encode_with lower_digits (to_be_bytes w64 (last_state d))
+
+pub digits-digits : (d : TextDigest) → list_all is_lower_hex (digits_of d) ≡ true
+unfolding digits_of
+digits-digits d = encoded (to_be_bytes w64 (last_state d)) (bytes-word 8 (last_state d))

@@ -1,12 +1,13 @@
 -- How far a run over a span comes, and what it wrote.
 use Rattle.std.specs.Prelude.{ℕ, ◌^◌, ◌-◌, ◌<◌, ◌≤◌, ◌≡◌, ◌⊎◌, ◌==◌, false, List, Option, Some, None, IfSome, length}
-use Rattle.std.specs.Prelude.{◌+◌, ◌*◌, true, Result, Ok, Err, if◌then◌else◌}
+use Rattle.std.specs.Prelude.{◌+◌, ◌*◌, true, Result, Ok, Err, if◌then◌else◌, [], ◌∷◌}
 use Rattle.xc_input.specs.Problem.{Puzzle}
 use Rattle.xc_input.specs.Named.{Named}
 use Rattle.xc_search.specs.Listing.{whole}
 use Rattle.xc_search.specs.Room.{room_for}
 use Rattle.xc_search.specs.Spans.{precedes, between}
 use Rattle.xc_search.specs.InSpan.{branches_along}
+use Rattle.xc_search.specs.Nodes.{IsRowOf}
 use Rattle.xc_search.specs.declared.went.Went.{Went}
 use Rattle.xc_search.specs.declared.went.Halt.TheVariants.{Member, End, Steps}
 use Rattle.xc_list.specs.SpanTexts.{end_at}
@@ -20,9 +21,10 @@ use Rattle.xc_list.specs.declared.ends.SpanFault.TheVariants.{Memory, WriteFaile
 abbrev pub most_steps : ℕ → ℕ
 most_steps n = if n == 0 then 2 ^ 64 - 1 else n
 
--- A search of the wanted span stopped at this row, which comes after its first row and not after its end,
+-- A search of the wanted span stopped at this row of the tree, which comes after its first row and not after its end,
 -- since all steps were used or as many members passed as are counted.
-pub record StopsAt (asked : AskedSpan) (row : List ℕ) (went : Went) : Type 0 where
+pub record StopsAt (p : Puzzle) (asked : AskedSpan) (row : List ℕ) (went : Went) : Type 0 where
+  pub node : IsRowOf (whole p) row
   pub later : precedes asked.from row ≡ true
   pub within : IfSome (end_at asked.until) (λ until. precedes until row ≡ false)
   pub spent : ((went.halt ≡ Steps) × (went.steps ≡ most_steps asked.steps))
@@ -31,7 +33,7 @@ pub record StopsAt (asked : AskedSpan) (row : List ℕ) (went : Went) : Type 0 w
 -- It went up to this row: the span's end; or one where it stopped, whose levels have so many branches.
 abbrev pub GoesTo : Puzzle → AskedSpan → List ℕ → Option (List ℕ) → Went → Type 0
 GoesTo p asked row None went = (went.halt ≡ End) × (row ≡ asked.until)
-GoesTo p asked row (Some branches) went = StopsAt asked row went × (branches ≡ branches_along (whole p) row)
+GoesTo p asked row (Some branches) went = StopsAt p asked row went × (branches ≡ branches_along (whole p) row)
 
 -- the span up to where it went
 abbrev pub searched : AskedSpan → List ℕ → Option (List ℕ) → Went → SearchedSpan
@@ -66,3 +68,8 @@ AnswersSpan a asked old new (Err e) = elim e [
 abbrev pub SpanMakesFew : Puzzle → AskedSpan → ℕ → ℕ → Went → Type 0
 SpanMakesFew p asked old new went = new ≤ old + room_for p
     * (length asked.from + went.steps + 3 * (went.members + 2))
+
+-- Searches each began at the row where the one in front of it stopped, the first at this row.
+abbrev pub StopInTurn : Puzzle → List ℕ → List (AskedSpan × List ℕ × Went) → Type 0
+StopInTurn p from [] = Unit {0}
+StopInTurn p from (s ∷ runs) = (s.0.from ≡ from) × StopsAt p s.0 s.1 s.2 × StopInTurn p s.1 runs

@@ -1,5 +1,7 @@
 //! The digest of a problem, by which the text of a span names it.
 ghost use Rattle.std.specs.Prelude.{◌≡◌, length};
+ghost use Rattle.std.specs.Int.{w64, to_be_bytes};
+ghost use Rattle.hex.specs.Hex.{encode_lower};
 ghost use Rattle.xc_input.specs.Hashing.{folded, taken};
 ghost use Rattle.xc_input.specs.ItemBounds.{bounds_of};
 ghost use Rattle.xc_input.specs.Named.{IsSound};
@@ -14,7 +16,7 @@ use xc_input::{Item, Problem, Use};
 const MULTIPLIER: u64 = 0x9e37_79b9_7f4a_7c15;
 
 /// The first 64 bits of the fraction of pi.
-const START: u64 = 0x243f_6a88_85a3_08d3;
+pub const START: u64 = 0x243f_6a88_85a3_08d3;
 
 /// Both halves of a product with the multiplier, joined.
 #[inline(always)]
@@ -27,7 +29,7 @@ fn folded(state: u64) -> u64
 
 /// The state after one more number.
 #[inline(always)]
-fn taken(state: u64, number: u64) -> u64
+pub fn taken(state: u64, number: u64) -> u64
     ensures { result ≡ taken digest_multiplier state number }
 {
     folded(state ^ number)
@@ -119,6 +121,15 @@ fn after_problem(problem: &Problem) -> u64
     after_options(after_colours(reached, problem), problem)
 }
 
+/// A number as 16 hexadecimal digits in lower case.
+pub fn hexadecimal(n: u64) -> [u8; 16]
+    ensures { result ≡ encode_lower (to_be_bytes w64 n) }
+{
+    let mut digits = [0; 16];
+    encode_to_slice(&n.to_be_bytes(), &mut digits).unwrap();
+    digits
+}
+
 /// The digest by which the text of a span names its problem: a hash of all that was read, as 16 hexadecimal digits in
 /// lower case. The numbers of the problem are hashed by folded multiplication, as in wyhash, by fixed keys. So it tells
 /// a mistake from the problem that was meant, and no more: whoever wants two problems of one digest can make them.
@@ -126,7 +137,5 @@ pub fn problem_digest(problem: &Problem) -> [u8; 16]
     ensures value { result ≡ digest_of problem.now }
     ensures whole { IsSound problem.now }
 {
-    let mut digits = [0; 16];
-    encode_to_slice(&after_problem(problem).to_be_bytes(), &mut digits).unwrap();
-    digits
+    hexadecimal(after_problem(problem))
 }

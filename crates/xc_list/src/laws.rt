@@ -1,5 +1,10 @@
 //! What the definitions say of worked problems and words.
 ghost use Rattle.std.specs.Prelude.{ℕ, ◌≡◌, ◌↔◌, true, ◌<◌, ◌-◌, ◌^◌, All, List, [], ◌∷◌, ◌++◌, codes, Ok, Err, Some};
+ghost use Rattle.std.specs.Prelude.{length};
+ghost use Rattle.xc_input.specs.Problem.{Puzzle};
+ghost use Rattle.xc_search.specs.Listing.{whole};
+ghost use Rattle.xc_search.specs.Nodes.{IsRowOf, row_count};
+ghost use Rattle.xc_search.specs.declared.went.Went.{Went};
 ghost use Rattle.xc_input.specs.Laws.{IsEqualClone};
 ghost use Rattle.xc_input.specs.Named.{Named, IsSound};
 ghost use Rattle.xc_list.specs.Digests.{problem_numbers};
@@ -7,13 +12,15 @@ ghost use Rattle.xc_list.specs.Messages.{summary_text};
 ghost use Rattle.xc_list.specs.Output.{output};
 ghost use Rattle.xc_list.specs.Runs.{end_of};
 ghost use Rattle.xc_list.specs.Settings.{read_words};
+ghost use Rattle.xc_list.specs.SpanRuns.{StopInTurn};
 ghost use Rattle.xc_list.specs.SpanTexts.{row_text};
-ghost use Rattle.xc_list.specs.SpanWords.{row_word};
+ghost use Rattle.xc_list.specs.SpanWords.{AskedSpan, row_word};
 ghost use Rattle.xc_list.specs.Worked.{seven, three_alike, colours};
 ghost use Rattle.xc_list.specs.declared.ends.End.TheVariants.{Done, Limit};
 ghost use Rattle.xc_list.specs.declared.words.WordFault.TheVariants.{Unknown, BadNumber, ZeroLimit};
 
 use crate::ends::{End, SpanFault};
+use crate::text_digest::TextDigest;
 use crate::words::{WordFault, Words};
 pub use xc_check::laws::{equal_listing_faults, equal_verdicts};
 pub use xc_streams::laws::equal_failures;
@@ -52,6 +59,7 @@ pub fn clones()
     ensures words { IsEqualClone ⟦<Words as Clone>⟧.is_clone }
     ensures word_faults { IsEqualClone ⟦<WordFault as Clone>⟧.is_clone }
     ensures span_faults { IsEqualClone ⟦<SpanFault as Clone>⟧.is_clone }
+    ensures text_digests { IsEqualClone ⟦<TextDigest as Clone>⟧.is_clone }
 {}
 
 /// The outputs and the ends of worked problems.
@@ -81,6 +89,14 @@ pub fn worked_words()
 /// A row is known by its text, so two rows that have one text are one row.
 pub fn rows_by_texts()
     ensures { (row : List ℕ) → All (λ n. n < 2 ^ 32) row → row_word (row_text row) ≡ Some row }
+{}
+
+/// Of searches that each begin at the row where the one in front stopped, fewer stop than the tree has rows. So texts of
+/// spans that each begin where the one in front ends come to the listing's end.
+#[tactic(auto, using(crate::proofs::SpanLemmas::stops_end))]
+pub fn spans_come_to_an_end()
+    ensures { (p : Puzzle) (from : List ℕ) (runs : List (AskedSpan × List ℕ × Went)) → IsRowOf (whole p) from
+        → StopInTurn p from runs → length runs < row_count (whole p) }
 {}
 
 /// Two problems of the same numbers are the same but for their seeds, so all that was read is in what a digest hashes.

@@ -13,7 +13,7 @@
 //! numbers of a line are tested one after the other: 1 % each.
 ghost use Rattle.std.specs.Prelude.{◌≡◌, ◌+◌, ◌<◌, ◌≤◌, ◌++◌, All, flat_map, OnErr, IsTrue, codes, length, take, drop};
 ghost use Rattle.std.specs.Prelude.{IfOk, IfSome, IsNone, MatchResult};
-ghost use Rattle.xc_streams.specs.Texts.{Writes};
+ghost use Rattle.xc_streams.specs.Texts.{Writes, Took};
 ghost use Rattle.xc_input.specs.Problem.{IsItem};
 ghost use Rattle.xc_check.specs.UseTexts.{bytes_at};
 ghost use Rattle.xc_list.specs.Output.{body_text, choice_text, member_text};
@@ -24,6 +24,7 @@ ghost use Rattle.xc_list.specs.declared.places.TheConstants.{LINES, PADDING, ROO
 
 use crate::bodies::{Bodies, LaidOut};
 use crate::choices::Choices;
+use crate::digest_sink::DigestSink;
 use crate::page::{Kept, Page, put_bytes, put_header};
 use crate::places::{Held, LINES, Line};
 use crate::uses::write_name;
@@ -356,6 +357,74 @@ pub fn write_afresh<C: Choices + Drop, S: Sink>(
     let header = put_header(page, number);
     let held = put_lines(bodies, &laid, solution, page, header, sink)?;
     write_all(sink, &page[held.from..held.to])
+}
+
+/// Puts a solution on an empty page; none where a line of it isn't put.
+#[inline(always)]
+fn put_all(laid: &LaidOut, number: u64, solution: &[Choice], page: &mut [u8]) -> Option<Held>
+    requires known { All (IsKnownChoice laid.now.puzzle) solution.now }
+    requires size { length page.old ≡ ROOM }
+    ensures put { IfSome result (λ held. held_text page.new held.from held.to
+        ≡ member_text laid.now (number, solution.now)) }
+    ensures within { IfSome result (λ held. (held.from ≤ held.to) × (held.to ≤ ROOM)) }
+    ensures size { length page.new ≡ ROOM }
+{
+    let header = put_header(page, number);
+    let mut to = header.to;
+    for choice in solution {
+        to = put_choice(laid, *choice, page, to)?;
+    }
+    Some(Held {
+        from: header.from,
+        to,
+    })
+}
+
+/// Notes a solution that isn't written by one page.
+fn note_afresh(
+    number: u64,
+    solution: &[Choice],
+    bodies: &Bodies,
+    page: &mut [u8],
+    text: &mut DigestSink,
+)
+    requires known { All (IsKnownChoice bodies.now.puzzle) solution.now }
+    requires size { length page.old ≡ ROOM }
+    ensures noted { Took (⟦<DigestSink as Sink>⟧.state text.old) (⟦<DigestSink as Sink>⟧.state text.new)
+        (member_text bodies.now (number, solution.now)) }
+    ensures size { length page.new ≡ ROOM }
+{
+    let _ = write_afresh(number, solution, bodies, page, text);
+}
+
+/// Writes a solution by a page that keeps no line, and takes it into the digest of a text. One that isn't written by
+/// one page is put together once for each.
+#[tactic(auto, using(std::proofs::lemmas::Slice::between_is))]
+pub fn write_noted<S: Sink>(
+    number: u64,
+    solution: &[Choice],
+    bodies: &Bodies,
+    page: &mut [u8],
+    text: &mut DigestSink,
+    sink: &mut S,
+) -> Result<(), SinkFault>
+    requires known { All (IsKnownChoice bodies.now.puzzle) solution.now }
+    requires size { length page.old ≡ ROOM }
+    ensures written { Writes (S.state sink.old) (S.state sink.new)
+        result (member_text bodies.now (number, solution.now)) }
+    ensures noted { Took (⟦<DigestSink as Sink>⟧.state text.old) (⟦<DigestSink as Sink>⟧.state text.new)
+        (member_text bodies.now (number, solution.now)) }
+    ensures size { length page.new ≡ ROOM }
+{
+    if let Some(laid) = bodies.laid() {
+        if let Some(held) = put_all(&laid, number, solution, page) {
+            let member = &page[held.from..held.to];
+            text.note(member);
+            return write_all(sink, member);
+        }
+    }
+    note_afresh(number, solution, bodies, page, text);
+    write_afresh(number, solution, bodies, page, sink)
 }
 
 /// Calls `write_afresh` with the solution that a walk shows.

@@ -17,14 +17,15 @@ ghost use Rattle.xc_list.specs.SpanWords.{asked_of};
 ghost use Rattle.xc_list.specs.SpanRuns.{most_steps, OfSpan, AnswersSpan, SpanMakesFew};
 ghost use Rattle.xc_list.specs.inner.Writing.{dotted, numbers_text, text_at, row_in, branches_in, until_text};
 ghost use Rattle.xc_list.specs.inner.Writing.{counts_text, rows_text, told_text, WentOn, BeginsAt, written_text};
-ghost use Rattle.xc_list.specs.inner.Writing.{GoesFew, SpanWritten};
+ghost use Rattle.xc_list.specs.inner.Writing.{GoesFew, SpanWritten, closing};
 
 use crate::asked::SpanWords;
 use crate::bodies::Bodies;
 use crate::digest::problem_digest;
+use crate::digest_sink::DigestSink;
 use crate::ends::SpanFault;
 use crate::places::ROOM;
-use crate::print::write_afresh;
+use crate::print::write_noted;
 use std::alloc::Global;
 use xc_dance::{Dance, Links};
 use xc_input::Problem;
@@ -150,13 +151,12 @@ fn write_counts<S: Sink>(went: &Went, sink: &mut S) -> Result<(), SinkFault>
     write_number(sink, went.steps)
 }
 
-/// Writes of which problem a text is, to the end of the line.
+/// Writes of which problem a text is.
 fn write_problem_part<S: Sink>(digest: &[u8], sink: &mut S) -> Result<(), SinkFault>
     ensures { Writes (S.state sink.old) (S.state sink.new) result (problem_part digest.now) }
 {
     write_all(sink, b" problem ")?;
-    write_all(sink, digest)?;
-    write_all(sink, b"\n")
+    write_all(sink, digest)
 }
 
 /// Writes where a span begins.
@@ -172,7 +172,16 @@ fn write_heading<S: Sink>(from: &[u32], digest: &[u8], sink: &mut S) -> Result<(
     ensures { Writes (S.state sink.old) (S.state sink.new) result (heading_text from.now digest.now) }
 {
     write_from(from, sink)?;
-    write_problem_part(digest, sink)
+    write_problem_part(digest, sink)?;
+    write_all(sink, b"\n")
+}
+
+/// Takes the heading of a listed span into the digest of its text.
+fn note_heading(from: &[u32], digest: &[u8], text: &mut DigestSink)
+    ensures { Took (⟦<DigestSink as Sink>⟧.state text.old) (⟦<DigestSink as Sink>⟧.state text.new)
+        (heading_text from.now digest.now) }
+{
+    let _ = write_heading(from, digest, text);
 }
 
 /// Writes a span's two rows, as far as its search went.
@@ -190,8 +199,8 @@ fn write_rows<'a, D: Dance, S: Sink>(
     write_until(span, halt, &words.until, sink)
 }
 
-/// Writes the record of a span.
-fn write_record<'a, D: Dance, S: Sink>(
+/// Writes the record of a span, up to the digest of its text.
+fn write_front<'a, D: Dance, S: Sink>(
     span: &Span<'a, D>,
     went: &Went,
     words: &SpanWords,
@@ -206,11 +215,35 @@ fn write_record<'a, D: Dance, S: Sink>(
     write_problem_part(digest, sink)
 }
 
+/// Takes the record of a span into the digest of its text.
+fn note_front<'a, D: Dance>(
+    span: &Span<'a, D>,
+    went: &Went,
+    words: &SpanWords,
+    digest: &[u8],
+    text: &mut DigestSink,
+)
+    ensures { Took (⟦<DigestSink as Sink>⟧.state text.old) (⟦<DigestSink as Sink>⟧.state text.new)
+        (told_text span.now words.now.from.items words.now.until.items went.now digest.now) }
+{
+    let _ = write_front(span, went, words, digest, text);
+}
+
+/// Writes the digest of a text, to the end of its last line.
+fn write_closing<S: Sink>(digest: &[u8], sink: &mut S) -> Result<(), SinkFault>
+    ensures { Writes (S.state sink.old) (S.state sink.new) result (closing digest.now) }
+{
+    write_all(sink, b" text ")?;
+    write_all(sink, digest)?;
+    write_all(sink, b"\n")
+}
+
 /// Writes the members of a span that its search comes to, numbered from 1, and answers how far it went.
 fn write_each<'a, D: Dance, S: Sink>(
     span: &mut Span<'a, D>,
     bodies: &Bodies,
     most: u64,
+    text: &mut DigestSink,
     sink: &mut S,
 ) -> Result<Went, SinkFault>
     requires known { All (All (IsKnownChoice bodies.now.puzzle)) (left_of span.old) }
@@ -229,6 +262,9 @@ fn write_each<'a, D: Dance, S: Sink>(
         Took (S.state sink.old) (S.state sink.new)
         (members_text bodies.now (take went.members (left_of span.old))))
         (λ _. BrokeOff (S.state sink.old) (S.state sink.new) (members_text bodies.now (left_of span.old))) }
+    ensures noted { IfOk result (λ went.
+        Took (⟦<DigestSink as Sink>⟧.state text.old) (⟦<DigestSink as Sink>⟧.state text.new)
+        (members_text bodies.now (take went.members (left_of span.old)))) }
 {
     let mut page = [0; ROOM];
     let mut steps = 0;
@@ -236,7 +272,9 @@ fn write_each<'a, D: Dance, S: Sink>(
         let went = span.go_on(1, most - steps);
         steps += went.steps;
         match went.halt {
-            Halt::Member => { write_afresh(members + 1, span.choices(), bodies, &mut page, sink)? }
+            Halt::Member => {
+                write_noted(members + 1, span.choices(), bodies, &mut page, text, sink)?
+            }
             halt => {
                 return Ok(Went {
                     halt,
@@ -259,6 +297,7 @@ fn write_listing<'a, D: Dance, S: Sink>(
     texts: &Texts,
     from: &[u32],
     most: u64,
+    text: &mut DigestSink,
     sink: &mut S,
 ) -> Result<Went, SinkFault>
     requires known { All (All (IsKnownChoice texts.now.bodies.puzzle)) (left_of span.old) }
@@ -278,9 +317,13 @@ fn write_listing<'a, D: Dance, S: Sink>(
         (listing_text texts.now.bodies from.now (take went.members (left_of span.old))))
         (λ _. BrokeOff (S.state sink.old) (S.state sink.new)
         (listing_text texts.now.bodies from.now (left_of span.old))) }
+    ensures noted { IfOk result (λ went.
+        Took (⟦<DigestSink as Sink>⟧.state text.old) (⟦<DigestSink as Sink>⟧.state text.new)
+        (listing_text texts.now.bodies from.now (take went.members (left_of span.old)))) }
 {
+    note_heading(from, &texts.digest, text);
     write_heading(from, &texts.digest, sink)?;
-    write_each(span, &texts.bodies, most, sink)
+    write_each(span, &texts.bodies, most, text, sink)
 }
 
 /// Passes over the members of a span that its search comes to, and answers how far it went.
@@ -304,6 +347,7 @@ fn write_wanted<'a, D: Dance, S: Sink>(
     span: &mut Span<'a, D>,
     texts: &Texts,
     words: &SpanWords,
+    text: &mut DigestSink,
     sink: &mut S,
 ) -> Result<Went, SinkFault>
     requires known { All (All (IsKnownChoice texts.now.bodies.puzzle)) (left_of span.old) }
@@ -323,10 +367,13 @@ fn write_wanted<'a, D: Dance, S: Sink>(
         (written_text texts.now.bodies words.now.listed words.now.from.items (take went.members (left_of span.old))))
         (λ _. BrokeOff (S.state sink.old) (S.state sink.new)
         (written_text texts.now.bodies words.now.listed words.now.from.items (left_of span.old))) }
+    ensures noted { IfOk result (λ went.
+        Took (⟦<DigestSink as Sink>⟧.state text.old) (⟦<DigestSink as Sink>⟧.state text.new)
+        (written_text texts.now.bodies words.now.listed words.now.from.items (take went.members (left_of span.old)))) }
 {
     let most = most_steps(words.steps);
     if words.listed {
-        write_listing(span, texts, &words.from, most, sink)
+        write_listing(span, texts, &words.from, most, text, sink)
     } else {
         Ok(count(span, most))
     }
@@ -361,8 +408,11 @@ fn write_span<'a, D: Dance, S: Sink>(
     ensures few { IfOk result (λ went. GoesFew (went.members + 1) went.steps span.old span.new) }
     ensures wrote { SpanWritten texts.now.bodies (asked_of words.now) (S.state sink.old) (S.state sink.new) result }
 {
-    let went = write_wanted(span, texts, words, sink)?;
-    write_record(span, &went, words, &texts.digest, sink)?;
+    let mut text = DigestSink::new();
+    let went = write_wanted(span, texts, words, &mut text, sink)?;
+    note_front(span, &went, words, &texts.digest, &mut text);
+    write_front(span, &went, words, &texts.digest, sink)?;
+    write_closing(&text.text_digits(), sink)?;
     Ok(went)
 }
 

@@ -15,7 +15,7 @@ const SPANS: [(Kind, &[u8], Span); 9] = [
         Span(
             &[b"m1", b"0", b"-", b"-"],
             b"from - problem 12589a6a85a80440\n1:\n A (1 of 3)\n2:\n A (2 of 3)\n3:\n A (3 of 3)\n\
-            from - until - solutions 3 steps 3 problem 12589a6a85a80440\n",
+            from - until - solutions 3 steps 3 problem 12589a6a85a80440 text b5e707e93cb2f318\n",
         ),
     ),
     (
@@ -24,7 +24,7 @@ const SPANS: [(Kind, &[u8], Span); 9] = [
         Span(
             &[b"m1", b"0", b"02", b"3"],
             b"from 2 problem 12589a6a85a80440\n1:\n A (2 of 3)\n\
-            from 2 until 3 solutions 1 steps 1 problem 12589a6a85a80440\n",
+            from 2 until 3 solutions 1 steps 1 problem 12589a6a85a80440 text ee83eae50a7b0d4b\n",
         ),
     ),
     (
@@ -33,7 +33,7 @@ const SPANS: [(Kind, &[u8], Span); 9] = [
         Span(
             &[b"m1", b"2", b"-", b"-"],
             b"from - problem 12589a6a85a80440\n1:\n A (1 of 3)\n\
-            from - until 2 of 3 solutions 1 steps 2 problem 12589a6a85a80440\n",
+            from - until 2 of 3 solutions 1 steps 2 problem 12589a6a85a80440 text 33a93d57a982c94b\n",
         ),
     ),
     (
@@ -42,7 +42,7 @@ const SPANS: [(Kind, &[u8], Span); 9] = [
         Span(
             &[b"m1", b"1", b"-", b"-"],
             b"from - problem 12589a6a85a80440\n\
-            from - until 1 of 3 solutions 0 steps 1 problem 12589a6a85a80440\n",
+            from - until 1 of 3 solutions 0 steps 1 problem 12589a6a85a80440 text a1c04ea680acfb36\n",
         ),
     ),
     (
@@ -50,7 +50,7 @@ const SPANS: [(Kind, &[u8], Span); 9] = [
         THREE_ALIKE,
         Span(
             &[b"m0", b"2", b"-", b"-"],
-            b"from - until 2 of 3 solutions 1 steps 2 problem 12589a6a85a80440\n",
+            b"from - until 2 of 3 solutions 1 steps 2 problem 12589a6a85a80440 text 92f4b3ab48cd7e82\n",
         ),
     ),
     (
@@ -58,7 +58,7 @@ const SPANS: [(Kind, &[u8], Span); 9] = [
         THREE_ALIKE,
         Span(
             &[b"m0", b"0", b"1.0", b"1.0"],
-            b"from 1.0 until 1.0 solutions 0 steps 0 problem 12589a6a85a80440\n",
+            b"from 1.0 until 1.0 solutions 0 steps 0 problem 12589a6a85a80440 text e6e6c4ef1c8f6d5c\n",
         ),
     ),
     (
@@ -66,7 +66,7 @@ const SPANS: [(Kind, &[u8], Span); 9] = [
         THREE_ALIKE,
         Span(
             &[b"m0", b"0", b"1.4294967295", b"-"],
-            b"from 1.4294967295 until - solutions 2 steps 1 problem 12589a6a85a80440\n",
+            b"from 1.4294967295 until - solutions 2 steps 1 problem 12589a6a85a80440 text 06458e5f3cac9974\n",
         ),
     ),
     (
@@ -74,7 +74,7 @@ const SPANS: [(Kind, &[u8], Span); 9] = [
         THREE_ALIKE,
         Span(
             &[b"m0", b"0", b"4", b"-"],
-            b"from 4 until - solutions 0 steps 0 problem 12589a6a85a80440\n",
+            b"from 4 until - solutions 0 steps 0 problem 12589a6a85a80440 text 5f1eb8efd42bd684\n",
         ),
     ),
     // Rows of two choices.
@@ -83,7 +83,7 @@ const SPANS: [(Kind, &[u8], Span); 9] = [
         TWICE,
         Span(
             &[b"m0", b"3", b"1.2", b"-"],
-            b"from 1.2 until 2.1 of 2.1 solutions 1 steps 3 problem 18dfe1040992a59e\n",
+            b"from 1.2 until 2.1 of 2.1 solutions 1 steps 3 problem 18dfe1040992a59e text d4e9df4c561b578b\n",
         ),
     ),
 ];

@@ -188,6 +188,10 @@ rows_text s from until halt = codes "from " ++ row_text from ++ codes " until " 
 abbrev pub told_text : InSpan → List ℕ → List ℕ → Went → List ℕ → List ℕ
 told_text s from until went digest = rows_text s from until went.halt ++ counts_text went ++ problem_part digest
 
+-- the end of a text with this digest
+abbrev pub closing : List ℕ → List ℕ
+closing digest = codes " text " ++ digest ++ codes "\n"
+
 -- what is written of members, if they are listed
 abbrev pub written_text : Named → Bool → List ℕ → List (List Choice) → List ℕ
 written_text a listed from ms = if listed then listing_text a from ms else []
@@ -224,5 +228,6 @@ SpanWritten a asked old new r = MatchResult r (λ went. OfSpan a asked went Took
 
 -- From s to n a search that was asked so often to go on took so many steps, and few moves.
 pub record GoesFew (calls steps : ℕ) (s n : InSpan) : Type 0 where
+  pub taken : s.begun + steps ≤ n.begun
   pub moves : n.made + room_for s.puzzle * s.begun ≤ s.made + room_for s.puzzle * (n.begun + 2 * calls)
   pub begun : n.begun ≤ s.begun + steps + calls

@@ -7,5 +7,4 @@ use Rattle.xc_list.proofs.digest.problem_digest.Goals as goal
 pub returns-clause-value : goal.returns-clause-value
 unfolding digest_of
 returns-clause-value c =
-    rw c.unwrap.ensures at c.encode_to_slice.ensures.written
-    ∙ ap encode_lower (c.to_be_bytes.ensures ∙ ap (to_be_bytes w64) c.after_problem.ensures.state)
+    c.hexadecimal.ensures ∙ ap (λ n. encode_lower (to_be_bytes w64 n)) c.after_problem.ensures.state

@@ -31,21 +31,22 @@ loop-members-init g c =
       ahead = none_passed _ _ _ _;
       few = few_none _;
       taken = took_nothing _;
+      noted = took_nothing _;
     }
 
-pub write_afresh-requires-clause-known : goal.write_afresh-requires-clause-known
-write_afresh-requires-clause-known g c =
-    rw c.choices.ensures (holds_next _ _ (next g (goal.at.write_afresh-requires-clause-known g c).After-go_on-went
+pub write_noted-requires-clause-known : goal.write_noted-requires-clause-known
+write_noted-requires-clause-known g c =
+    rw c.choices.ensures (holds_next _ _ (next g (goal.at.write_noted-requires-clause-known g c).After-go_on-went
     c.in-Member.is)
     (All (IsKnownChoice c.args.bodies.now.puzzle)) c.requires.known)
 
-pub returns-in_err-write_afresh-in-Member-clause-wrote :
-    goal.returns-in_err-write_afresh-in-Member-clause-wrote
-returns-in_err-write_afresh-in-Member-clause-wrote g c =
-    let at = next g (goal.at.returns-in_err-write_afresh-in-Member-clause-wrote g c).After-go_on-went c.in-Member.is in
+pub returns-in_err-write_noted-in-Member-clause-wrote :
+    goal.returns-in_err-write_noted-in-Member-clause-wrote
+returns-in_err-write_noted-in-Member-clause-wrote g c =
+    let at = next g (goal.at.returns-in_err-write_noted-in-Member-clause-wrote g c).After-go_on-went c.in-Member.is in
     if_failed _ _ c.from_residual.ensures.0
     (texts_broke_all (member_text c.args.bodies.now) (left_of c.args.span.now) c.loop-members.members at
-    c.loop-members.invariant.taken (rw c.choices.ensures at c.in_err-write_afresh-in-Member.ensures.written))
+    c.loop-members.invariant.taken (rw c.choices.ensures at c.in_err-write_noted-in-Member.ensures.written))
 
 pub returns-in_default : goal.returns-in_default
 returns-in_default g c =
@@ -63,13 +64,15 @@ returns-in_default g c =
         ],
         c.loop-members.invariant.taken,
       );
+      noted = c.loop-members.invariant.noted;
     }
 
 pub loop-members-preserved : goal.loop-members-preserved
 loop-members-preserved g c =
     let at = (goal.at.loop-members-preserved g c).After-go_on-went in
     let ms = left_of c.args.span.now in
-    let text = rw c.choices.ensures at c.in_ok-write_afresh-in-Member.ensures.written in
+    let text = rw c.choices.ensures at c.in_ok-write_noted-in-Member.ensures.written in
+    let noted = rw c.choices.ensures at c.in_ok-write_noted-in-Member.ensures.noted in
     record {
       still = grind arith;
       node = at.go_on-went.ensures.comes.node;
@@ -80,6 +83,8 @@ loop-members-preserved g c =
       taken = rw (texts_next (member_text c.args.bodies.now) ms c.loop-members.members (next g at c.in-Member.is))
           (then_took
           c.loop-members.invariant.taken text);
+      noted = rw (texts_next (member_text c.args.bodies.now) ms c.loop-members.members (next g at c.in-Member.is))
+          (then_took c.loop-members.invariant.noted noted);
     }
 
 pub returns-clause-wrote : goal.returns-clause-wrote
@@ -90,6 +95,12 @@ returns-clause-wrote g c =
       rw all at
           c.loop-members.invariant.taken,
     )
+
+pub returns-clause-noted : goal.returns-clause-noted
+returns-clause-noted g c =
+    let all : c.loop-members.members ≡ 2 ^ 64 - 1 =
+    omega (arith, c.loop-members.auto.members-end, c.loop-members-test.false) in
+    rw all at c.loop-members.invariant.noted
 
 pub returns-clause-few : goal.returns-clause-few
 returns-clause-few g c = few_more _ _ _ _ _ (grind arith) c.loop-members.invariant.few

@@ -7,6 +7,7 @@ use Rattle.xc_streams.specs.Texts.{Took}
 use Rattle.xc_list.specs.inner.Writing.{GoesFew}
 use Rattle.xc_list.proofs.Writing.{first_texts}
 use Rattle.xc_list.proofs.SpanLemmas.{IsAhead}
+use Rattle.xc_list.proofs.TextDigests.{sunk}
 use Rattle.std.proofs.Common.{◌≡◌}
 use Rattle.xc_list.proofs.spans.write_each.Given as goal
 
@@ -20,4 +21,5 @@ invariant-loop-members g l = record {
   few : GoesFew l.members l.steps l.fn.span l.span;
   taken : Took (g.S.Sink.state l.fn.sink) (g.S.Sink.state l.sink)
       (first_texts (member_text l.bodies) (left_of l.fn.span) l.members);
+  noted : Took (sunk l.fn.text) (sunk l.text) (first_texts (member_text l.bodies) (left_of l.fn.span) l.members);
 }
