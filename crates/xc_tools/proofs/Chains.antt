@@ -22,14 +22,13 @@ use Rattle.xc_tools.specs.Joins.{DoMeet, IsBeginning, joined, AreOfOneProblem, I
 use Rattle.xc_tools.specs.SpanShapes.{LieIn, ListedSolution, SpanText, AreShapes, HasShape, solution_text}
 use Rattle.xc_tools.specs.inner.SpanLines.{Risen, ends_before, Headed, Told, numbers_in, Join, Stand, goes, faulty}
 use Rattle.xc_tools.specs.inner.SpanLines.{mixed, apart, stand_after, begins_at, by_line, is_same, meets, opened}
-use Rattle.xc_tools.specs.inner.SpanLines.{recorded, wrote, start}
+use Rattle.xc_tools.specs.inner.SpanLines.{by_record, line_noted, recorded, wrote, start}
 use Rattle.xc_tools.proofs.SpanWords.{AreShort, heading_line, heading-read, not-dash, numbers-row, record-read}
-use Rattle.xc_tools.proofs.SpanWords.{rows-same, same}
+use Rattle.xc_tools.proofs.SpanWords.{both, is-word, rows-same, same}
 use Rattle.xc_tools.proofs.SpanLines.{IsShort, after-append, fits, follow-none, heading-read-so, is_last, last_line}
 use Rattle.xc_tools.proofs.SpanLines.{record-read-so, rest_at, run-shape, shape_lines, shown, told_from, told_part}
 use Rattle.xc_tools.proofs.SpanLines.{wrote-append, whole-append, whole-shape, solution_lines, short-shape}
-use Rattle.xc_tools.proofs.SpanLines.{texts-ended}
-use Rattle.xc_tools.proofs.TakenLines.{both, is-word}
+use Rattle.xc_tools.proofs.SpanLines.{closing-read-so, front_line, texts-ended}
 
 -- ======== What the lines of the texts of spans come to, one text after another.
 
@@ -64,15 +63,15 @@ pub gap-at : (listed finished : Bool) (old row : List ℕ) (n : ℕ) (r : Risen)
     → IsGapAt (goes (rest_at listed old finished row n r)) (shape_lines listed t ++ ls) (row_text row)
     (row_text t.span.from)
 gap-at true finished old row n r t ls h fit e =
-    let s = rest_at true old finished row n r in
     let line = heading_line t.span.from t.digest in
+    let s = line_noted (rest_at true old finished row n r) line in
     let told : Headed = record { row = row_text t.span.from; digest = t.digest } in
-    gap-first s line _ (row_text row) (row_text t.span.from)
+    gap-first (rest_at true old finished row n r) line _ (row_text row) (row_text t.span.from)
     (heading-read-so s (words_in line) told (heading-read t.span.from t.digest h.from h.digest)
     ∙ begins-apart s t.digest (row_text t.span.from) (goes (opened s told)) fit e)
 gap-at false finished old row n r t ls h fit e =
     let s = rest_at false old finished row n r in
-    let line = last_line t in
+    let line = front_line t in
     let told : Told = record {
       from = row_text t.span.from;
       until = row_text t.span.until;
@@ -81,9 +80,10 @@ gap-at false finished old row n r t ls h fit e =
     let ends : ends_before (numbers_in (row_text t.span.from)) 0 (numbers_in (row_text t.span.until)) ≡ true =
     rw (numbers-row t.span.from h.from, numbers-row t.span.until h.until) (follow-none 0 t.span.from t.span.until
     (subst (λ ss. LieIn t.span.from (map (λ s. s.row) ss) t.span.until) h.counted h.rows)) in
-    gap-first s line ls (row_text row) (row_text t.span.from)
-    (record-read-so s (words_in line) told (record-read t.span.from t.span.until t.span.branches t.count t.span.steps
-    t.digest h.from h.until h.branches h.few h.steps h.digest)
+    gap-first s (last_line false t) ls (row_text row) (row_text t.span.from)
+    (closing-read-so s line (by_record s) ∙ record-read-so s (words_in line) told
+    (record-read t.span.from t.span.until t.span.branches t.count t.span.steps t.digest h.from h.until h.branches h.few
+    h.steps h.digest)
     ∙ ap (λ (x : Bool). if x then begins_at s t.digest (row_text t.span.from) (goes (recorded s told))
     else (faulty, [])) ends
     ∙ begins-apart s t.digest (row_text t.span.from) (goes (recorded s told)) fit e)
@@ -160,15 +160,16 @@ mixed-shape : (listed finished : Bool) (old row : List ℕ) (n : ℕ) (r : Risen
     → IsShort listed t → fits old t.digest ≡ false
     → IsMixed (goes (rest_at listed old finished row n r)) (shape_lines listed t ++ ls)
 mixed-shape true finished old row n r t ls h other =
-    let s = rest_at true old finished row n r in
     let line = heading_line t.span.from t.digest in
+    let s = line_noted (rest_at true old finished row n r) line in
     let told : Headed = record { row = row_text t.span.from; digest = t.digest } in
-    mixed-first s line (flat_map solution_lines (enumerate_from 1 t.found) ++ last_line t ∷ []
-    ++ ls) (heading-read-so s (words_in line) told (heading-read t.span.from t.digest h.from h.digest)
+    mixed-first (rest_at true old finished row n r) line
+    (flat_map solution_lines (enumerate_from 1 t.found) ++ last_line true t ∷ [] ++ ls)
+    (heading-read-so s (words_in line) told (heading-read t.span.from t.digest h.from h.digest)
     ∙ begins-mixed s t.digest (row_text t.span.from) (goes (opened s told)) other)
 mixed-shape false finished old row n r t ls h other =
     let s = rest_at false old finished row n r in
-    let line = last_line t in
+    let line = front_line t in
     let told : Told = record {
       from = row_text t.span.from;
       until = row_text t.span.until;
@@ -177,9 +178,10 @@ mixed-shape false finished old row n r t ls h other =
     let ends : ends_before (numbers_in (row_text t.span.from)) 0 (numbers_in (row_text t.span.until)) ≡ true =
     rw (numbers-row t.span.from h.from, numbers-row t.span.until h.until) (follow-none 0 t.span.from t.span.until
     (subst (λ ss. LieIn t.span.from (map (λ s. s.row) ss) t.span.until) h.counted h.rows)) in
-    mixed-first s line ls
-    (record-read-so s (words_in line) told (record-read t.span.from t.span.until t.span.branches t.count t.span.steps
-    t.digest h.from h.until h.branches h.few h.steps h.digest)
+    mixed-first s (last_line false t) ls
+    (closing-read-so s line (by_record s) ∙ record-read-so s (words_in line) told
+    (record-read t.span.from t.span.until t.span.branches t.count t.span.steps t.digest h.from h.until h.branches h.few
+    h.steps h.digest)
     ∙ ap (λ (x : Bool). if x then begins_at s t.digest (row_text t.span.from) (goes (recorded s told))
     else (faulty, [])) ends
     ∙ begins-mixed s t.digest (row_text t.span.from) (goes (recorded s told)) other)
