@@ -13,6 +13,8 @@ import tempfile
 from collections.abc import Iterator
 from typing import NamedTuple
 
+from text_digest import closed
+
 TOP = os.path.dirname(os.path.dirname(os.path.abspath(__file__)))
 FOLDER = sys.argv[1] if len(sys.argv) > 1 else None
 
@@ -310,15 +312,15 @@ SPANS = [
         "1 m1 0 - -",
         SEVEN,
         f"from - problem 5f4feb9a050fe0f5\n{SEVEN_LISTING}"
-        "from - until - solutions 1 steps 5 problem 5f4feb9a050fe0f5\n",
+        "from - until - solutions 1 steps 5 problem 5f4feb9a050fe0f5 text dbe8d46a240a82d4\n",
     ),
-    ("1 m0 3 - 2.1", SEVEN, "from - until 2 of 2 solutions 0 steps 3 problem 5f4feb9a050fe0f5\n"),
-    ("2 m0 0 2 -", THREE, "from 2 until - solutions 2 steps 1 problem 12589a6a85a80440\n"),
+    ("1 m0 3 - 2.1", SEVEN, "from - until 2 of 2 solutions 0 steps 3 problem 5f4feb9a050fe0f5 text 181a0cccc289f4cc\n"),
+    ("2 m0 0 2 -", THREE, "from 2 until - solutions 2 steps 1 problem 12589a6a85a80440 text 77535dd1d810060d\n"),
     (
         "3 m1 0 2.1 3",
         TWICE,
         "from 2.1 problem 18dfe1040992a59e\n1:\n A B (2 of 2)\n null A (1 of 1)\n"
-        "from 2.1 until 3 solutions 1 steps 0 problem 18dfe1040992a59e\n",
+        "from 2.1 until 3 solutions 1 steps 0 problem 18dfe1040992a59e text 63123e1822c3d431\n",
     ),
 ]
 
@@ -342,25 +344,26 @@ FIRST = "1:\n A (1 of 3)\n"
 
 
 def record(until: str, solutions: int = 1, problem: str = PROBLEM) -> str:
-    """The last line of a span from the start."""
-    return f"from - until {until} solutions {solutions} steps 1 {problem}\n"
+    """The last line of a span from the start, up to the digest of the text."""
+    return f"from - until {until} solutions {solutions} steps 1 {problem}"
 
 
 # Three equal options in two spans; the search of the first stopped.
-LISTED = (
-    f"{START}{FIRST}{record('2 of 3')}from 2 {PROBLEM}\n1:\n A (2 of 3)\n2:\n A (3 of 3)\n"
-    f"from 2 until - solutions 2 steps 2 {PROBLEM}\n"
+FRONT = f"{START}{FIRST}{record('2 of 3')}"
+LISTED = closed(FRONT) + closed(
+    f"from 2 {PROBLEM}\n1:\n A (2 of 3)\n2:\n A (3 of 3)\nfrom 2 until - solutions 2 steps 2 {PROBLEM}"
 )
+LAST = closed(f"from 2 until - solutions 2 steps 2 {PROBLEM}")
 MOST = 2**64 - 1
 
 # The word of `dlx-join`, the texts of spans, the listing, and how many solutions are counted.
 JOINED = [
     ("m1", LISTED, THREE_LISTING, "3 solutions"),
-    ("m0", f"{record('2 of 3')}from 2 until - solutions 2 steps 2 {PROBLEM}\n", "", "3 solutions"),
-    ("m1", f"{START}{record('-', 0)}", "", "0 solutions"),
+    ("m0", closed(record("2 of 3")) + LAST, "", "3 solutions"),
+    ("m1", closed(f"{START}{record('-', 0)}"), "", "0 solutions"),
     (
         "m0",
-        f"{record('3.1.7 of 8.9.9', MOST)}from 3.1.7 until - solutions 1 steps 1 {PROBLEM}\n",
+        closed(record("3.1.7 of 8.9.9", MOST)) + closed(f"from 3.1.7 until - solutions 1 steps 1 {PROBLEM}"),
         "",
         f"{MOST} solutions (limit)",
     ),
@@ -370,20 +373,20 @@ JOINED = [
 GAPS = [
     ("m1", "", "", 1, "gap from - until -"),
     ("m1", f"from 2 {PROBLEM}\n", "", 1, "gap from - until 2"),
-    ("m1", f"{START}{FIRST}{record('2')}", FIRST, 5, "gap from 2 until -"),
-    ("m1", f"{START}{FIRST}{record('2')}from 3 {PROBLEM}\n", FIRST, 5, "gap from 2 until 3"),
-    ("m1", f"{START}{record('2', 0)}{START}", "", 3, "gap from 2 until -"),
-    ("m1", f"{START}{record('-', 0)}{START}", "", 3, "gap from - until -"),
+    ("m1", closed(f"{START}{FIRST}{record('2')}"), FIRST, 5, "gap from 2 until -"),
+    ("m1", closed(f"{START}{FIRST}{record('2')}") + f"from 3 {PROBLEM}\n", FIRST, 5, "gap from 2 until 3"),
+    ("m1", closed(f"{START}{record('2', 0)}") + START, "", 3, "gap from 2 until -"),
+    ("m1", closed(f"{START}{record('-', 0)}") + START, "", 3, "gap from - until -"),
     (
         "m0",
-        f"{record('2')}from 2 until - solutions 1 steps 1 {OTHER}\n",
+        closed(record("2")) + closed(f"from 2 until - solutions 1 steps 1 {OTHER}"),
         "",
         2,
         "another problem than in standard input: line 1",
     ),
     (
         "m1",
-        f"{START}{FIRST}{record('2')}from 3 {OTHER}\n",
+        closed(f"{START}{FIRST}{record('2')}") + f"from 3 {OTHER}\n",
         FIRST,
         5,
         "another problem than in standard input: line 1",
@@ -392,7 +395,7 @@ GAPS = [
 
 # What is no text of a span, what is listed before, and the line.
 NO_SPANS = [
-    (record("-", 0), "", 1),
+    (closed(record("-", 0)), "", 1),
     ("1:\n", "", 1),
     ("from -", "", 1),
     ("from -\n", "", 1),
@@ -407,25 +410,36 @@ NO_SPANS = [
     (f"{START} A (1 of 3)\n", "", 2),
     (f"{START}2:\n", "", 2),
     (f"{START}1:\r\n", "", 2),
-    (f"{START}from 1 until 2 solutions 0 steps 1 {PROBLEM}\n", "", 2),
+    (closed(f"{START}from 1 until 2 solutions 0 steps 1 {PROBLEM}"), "", 2),
     (f"{START}1:\n A (1 of 3)\r\n", "1:\n", 3),
     (f"{START}1:\n garbage \x01 (x\n", "1:\n", 3),
     (f"{START}{FIRST}1:\n", FIRST, 4),
-    (f"{START}{FIRST}{record('2', 2)}", FIRST, 4),
-    (f"{START}{FIRST}{record('2', problem=OTHER)}", FIRST, 4),
-    (f"{START}{FIRST}{record('2 of')}", FIRST, 4),
-    (f"{START}{FIRST}{record('1')}", FIRST, 4),
-    (f"{START}{FIRST}{record('0.9')}", FIRST, 4),
-    (f"{START}{FIRST}from - until 2 solutions 1 steps {PROBLEM}\n", FIRST, 4),
-    (f"{START}{FIRST}from - until 2 solutions 1 steps 01 {PROBLEM}\n", FIRST, 4),
-    (f"{START}{FIRST}from - until 2 solutions 1 steps 1 {PROBLEM} \n", FIRST, 4),
-    (f"{START}{FIRST}from - until 2 solutions 1 steps 1\n", FIRST, 4),
+    (closed(f"{START}{FIRST}{record('2', 2)}"), FIRST, 4),
+    (closed(f"{START}{FIRST}{record('2', problem=OTHER)}"), FIRST, 4),
+    (closed(f"{START}{FIRST}{record('2 of')}"), FIRST, 4),
+    (closed(f"{START}{FIRST}{record('1')}"), FIRST, 4),
+    (closed(f"{START}{FIRST}{record('0.9')}"), FIRST, 4),
+    (closed(f"{START}{FIRST}from - until 2 solutions 1 steps {PROBLEM}"), FIRST, 4),
+    (closed(f"{START}{FIRST}from - until 2 solutions 1 steps 01 {PROBLEM}"), FIRST, 4),
+    (closed(f"{START}{FIRST}from - until 2 solutions 1 steps 1 {PROBLEM} "), FIRST, 4),
+    (closed(f"{START}{FIRST}from - until 2 solutions 1 steps 1"), FIRST, 4),
     (f"{START}{FIRST}2:\n", f"{FIRST}2:\n", 5),
     (f"{START}{FIRST}2:\n A (0 of 3)\n", f"{FIRST}2:\n", 5),
     (f"{START}{FIRST}2:\n A B\n", f"{FIRST}2:\n", 5),
-    (f"{START}{FIRST}2:\n{record('2', 2)}", f"{FIRST}2:\n", 5),
+    (closed(f"{START}{FIRST}2:\n{record('2', 2)}"), f"{FIRST}2:\n", 5),
     (f"{START}{FIRST}2:\n A (1 of 3)\n3:\n", f"{FIRST}2:\n A (1 of 3)\n", 6),
     (f"{START}{FIRST}2:\n A (2 of 3)\n3:\n A (1 of 3)\n", f"{FIRST}2:\n A (2 of 3)\n3:\n", 7),
+    # What the record tells of the text isn't so: it is left out or another one's, a line or the record was altered.
+    (f"{FRONT}\n", FIRST, 4),
+    (closed(FRONT).replace(" text ", " Text "), FIRST, 4),
+    (f"{closed(FRONT)[:-1]} \n", FIRST, 4),
+    (closed(FRONT).upper().replace("FROM", "from"), "", 1),
+    (f"{FRONT}{closed(FRONT.replace('(1 of 3)', '(1 of 4)'))[len(FRONT):]}", FIRST, 4),
+    (closed(FRONT).replace("(1 of 3)", "(1 of 4)"), FIRST.replace("3", "4"), 4),
+    (closed(FRONT).replace(" A (1", " B (1"), FIRST.replace("A", "B"), 4),
+    (closed(FRONT).replace("steps 1", "steps 2"), FIRST, 4),
+    (closed(FRONT).replace("of 3 solutions", "of 4 solutions"), FIRST, 4),
+    (closed(f"{START}{FIRST} B (1 of 1)\n{record('2')}").replace(" B (1 of 1)\n", ""), FIRST, 4),
 ]
 
 
@@ -446,7 +460,7 @@ def names() -> Iterator[str]:
     with tempfile.TemporaryDirectory() as folder:
         for name, shown in NAMES:
             with open(os.path.join(folder.encode(), name), "w") as file:
-                file.write(f"from 2 until - solutions 1 steps 1 {PROBLEM}\n")
+                file.write(closed(f"from 2 until - solutions 1 steps 1 {PROBLEM}"))
             ended = subprocess.run([program, "m0", name], cwd=folder, capture_output=True, timeout=60)
             wanted = f"{shown}: line 1: gap from - until 2.\n".encode()
             if (ended.returncode, ended.stderr) != (5, wanted):

@@ -31,6 +31,12 @@ tells() {
     fi
 }
 
+# closed FORMAT WORD..: a text of a span by its record, up to the digest of the text, with that
+closed() {
+    # shellcheck disable=SC2059
+    printf "$@" | python3 tests/text_digest.py
+}
+
 expect 2 dlx1 <<'END'
 A | x
 A x:1
@@ -63,25 +69,29 @@ expect 1 dlx_span 1 m0 0 - </dev/null
 expect 1 dlx_span 1 m0 0 2 1 </dev/null
 # Of which problem the texts of spans are.
 problem='problem 0123456789abcdef'
-expect 2 dlx_join m0 <<END
-from - until - solutions x steps 1 $problem
-END
-expect 2 dlx_join m0 <<'END'
-from - until - solutions 1 steps 1
-END
-expect 0 dlx_join m0 <<END
-from - until - solutions 1 steps 1 $problem
-END
+folder=$(mktemp -d) || exit 1
+closed 'from - until - solutions x steps 1 %s' "$problem" >"$folder/number"
+closed 'from - until - solutions 1 steps 1' >"$folder/short"
+closed 'from - until - solutions 1 steps 1 %s' "$problem" >"$folder/whole"
+printf 'from - until - solutions 1 steps 1 %s\n' "$problem" >"$folder/unclosed"
+sed 's/steps 1/steps 2/' "$folder/whole" >"$folder/altered"
+expect 2 dlx_join m0 <"$folder/number"
+expect 2 dlx_join m0 <"$folder/short"
+expect 0 dlx_join m0 <"$folder/whole"
+expect 2 dlx_join m0 <"$folder/unclosed"
+expect 2 dlx_join m0 <"$folder/altered"
+rm -r "$folder"
 expect 5 dlx_join m0 </dev/null
 expect 1 dlx_join m2 </dev/null
 expect 1 dlx_join m2 <&-
 expect 3 dlx_join m0 missing.span </dev/null
 folder=$(mktemp -d) || exit 1
 first=$folder/first
-printf 'from - until 2 solutions 1 steps 1 %s\n' "$problem" >"$first"
-printf 'from 3 until - solutions 1 steps 1 %s\n' "$problem" >"$folder/third"
-printf 'from 2 until 3 solutions 1 steps 1 %s\n\n' "$problem" >"$folder/damaged"
-printf 'from 2 until - solutions 1 steps 1 problem 0123456789abcdee\n' >"$folder/other"
+closed 'from - until 2 solutions 1 steps 1 %s' "$problem" >"$first"
+closed 'from 3 until - solutions 1 steps 1 %s' "$problem" >"$folder/third"
+closed 'from 2 until 3 solutions 1 steps 1 %s' "$problem" >"$folder/damaged"
+echo >>"$folder/damaged"
+closed 'from 2 until - solutions 1 steps 1 problem 0123456789abcdee' >"$folder/other"
 printf 'from -' >"$folder/cut"
 printf 'from - %s\n' "$problem" >"$folder/open"
 : >"$folder/empty"
@@ -100,7 +110,7 @@ tells "$folder/open: line 2: not the text of a span." dlx_join m1 "$folder/open"
 at=-
 set --
 for until in 2 3 4 5 6 7 8 9 10 11 12 -; do
-    printf 'from %s until %s solutions 1 steps 1 %s\n' "$at" "$until" "$problem" >"$folder/from$at"
+    closed 'from %s until %s solutions 1 steps 1 %s' "$at" "$until" "$problem" >"$folder/from$at"
     set -- "$@" "$folder/from$at"
     at=$until
 done

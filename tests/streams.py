@@ -15,6 +15,8 @@ import tempfile
 import time
 from collections.abc import Iterable, Iterator
 
+from text_digest import closed
+
 TOP = os.path.dirname(os.path.dirname(os.path.abspath(__file__)))
 FOLDER = sys.argv[1] if len(sys.argv) > 1 else None
 # What doesn't end in so many seconds never ends, whatever else the machine does.
@@ -45,7 +47,7 @@ def row(number: int, length: int) -> str:
 def gap(met: str, begun: str) -> str:
     """Records of two spans that don't meet."""
     record = "solutions 0 steps 1 " + PROBLEM
-    return f"from - until {met} {record}\nfrom {begun} until - {record}\n"
+    return closed(f"from - until {met} {record}") + closed(f"from {begun} until - {record}")
 
 
 def messages() -> Iterator[tuple[list[str], str, int]]:
@@ -250,7 +252,7 @@ LOOK_FIRST = ("dlxcheck", "dlx-join")
 
 def closed_streams() -> Iterator[str]:
     """Each of the three, also while a file is there to take its number."""
-    text = f"from - {PROBLEM}\n1:\n A (1 of 1)\nfrom - until - solutions 1 steps 1 {PROBLEM}\n"
+    text = closed(f"from - {PROBLEM}\n1:\n A (1 of 1)\nfrom - until - solutions 1 steps 1 {PROBLEM}")
     with tempfile.TemporaryDirectory(prefix="streams-") as folder:
         files = {"problem": f"{folder}/problem.dlx", "file": f"{folder}/listing.span", "text": text}
         for name, content in (("problem", "A\nA\n"), ("file", text)):
@@ -258,13 +260,13 @@ def closed_streams() -> Iterator[str]:
                 file.write(content)
         for words, given, *wanted in CLOSED:
             words = [word.format(**files) for word in words]
-            for closed, (status, line) in zip(("<&-", ">&-", "2>&-"), wanted):
-                shell = ["sh", "-c", f'exec "$@" {closed}', "sh", *command(words)]
+            for shut, (status, line) in zip(("<&-", ">&-", "2>&-"), wanted):
+                shell = ["sh", "-c", f'exec "$@" {shut}', "sh", *command(words)]
                 done = subprocess.run(shell, input=given.format(**files).encode(), capture_output=True, timeout=HANG)
                 told = done.stderr.decode().strip()
                 if (done.returncode, told) != (status, line) or words[0] in LOOK_FIRST and done.stdout:
                     printed = f", {len(done.stdout)} bytes are printed"
-                    yield f"{' '.join(words)} {closed}: {done.returncode}, {told}{printed}; not {status}, {line}"
+                    yield f"{' '.join(words)} {shut}: {done.returncode}, {told}{printed}; not {status}, {line}"
 
 
 # ---- what dlx-join says of lines that are far down, and of long rows

@@ -2,12 +2,14 @@
 
 import re
 
+from text_digest import text_digest
+
 MOST = (1 << 64) - 1
 _NUMBER = rb"(?:0|[1-9][0-9]{0,19})"
 _ROW = rb"(-|%s(?:\.%s)*)" % (_NUMBER, _NUMBER)
 _DIGEST = rb"([0-9a-f]{16})"
 _HEADING = re.compile(rb"from %s problem %s\n" % (_ROW, _DIGEST))
-_COUNTS = rb"solutions (%s) steps (%s) problem %s\n" % (_NUMBER, _NUMBER, _DIGEST)
+_COUNTS = rb"solutions (%s) steps (%s) problem %s text %s\n" % (_NUMBER, _NUMBER, _DIGEST, _DIGEST)
 _RECORD = re.compile(rb"from %s until %s(?: of %s)? %s" % (_ROW, _ROW, _ROW, _COUNTS))
 _HEADER = re.compile(rb"(%s):\n" % _NUMBER)
 _CHOICE = re.compile(rb" (?:[^ \t\n\v\f\r]+ )+\(([0-9]{1,10}) of [0-9]{1,10}\)\n")
@@ -28,6 +30,13 @@ class _Lines:
         self._at += found is not None
         return found
 
+    def since(self, start):
+        """The lines from this place up to the one taken last."""
+        return b"".join(self._lines[start : self._at])
+
+    def place(self):
+        return self._at
+
     def is_done(self):
         return self._at == len(self._lines)
 
@@ -37,6 +46,7 @@ def joined(text):
     lines = _Lines(text)
     out, met, digest, count = [], b"-", None, 0
     while True:
+        start_at = lines.place()
         head = _must(lines.take(_HEADING))
         digest = digest or head.group(2)
         _must(head.groups() == (met, digest))
@@ -52,7 +62,8 @@ def joined(text):
             _must(row > before or row == before and not found)
             before, found = row, found + 1
         record = _must(lines.take(_RECORD))
-        start, until, branches, solutions, steps, of = record.groups()
+        start, until, branches, solutions, steps, of, told = record.groups()
+        _must(text_digest(lines.since(start_at).rpartition(b" text ")[0]).encode() == told)
         _must((start, of, int(solutions)) == (met, digest, found) and int(steps) <= MOST)
         _must(all(max(row_of(word or b"-"), default=0) <= MOST for word in (start, until, branches)))
         _must(until == b"-" or (before < row_of(until) if found else before <= row_of(until)))

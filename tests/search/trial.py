@@ -57,7 +57,7 @@ class Trial:
         self.whole = done.stdout, done.stderr
         self.bin = os.path.join(self.top, "bin")
         told = subprocess.run(["dlx-span", str(self.kind), "m0", "0", "-", "-"], input=self.text, capture_output=True)
-        most = max(int(told.stdout.split()[-3]) // SPANS, 1)
+        most = max(int(told.stdout.split()[-5]) // SPANS, 1)
         self.begun = os.path.join(self.top, "begun")
         how = {"begun": self.begun, "pause": rng.randint(1, 7), "most": most, "program": shutil.which("dlx-span")}
         self.slow = SLOW.format(**how)

@@ -1,71 +1,36 @@
 -- What the lines of the texts of spans come to, one text after another, and how they end.
 use Rattle.std.proofs.Common.{◌≡◌, ℕ, ◌+◌, ◌^◌, ◌<◌, ◌⊎◌, inl, inr, Bool, true, false, List, [], ◌∷◌, ◌++◌, None, Some}
-use Rattle.std.proofs.Common.{length, flat_map, refl, sym, ap, ◌∙◌, arith, append_assoc, append-nil, subst}
-use Rattle.std.proofs.Common.{length-append, map, suc, ◌≤◌, Option, min, take, filter, zero}
+use Rattle.std.proofs.Common.{length, flat_map, refl, sym, ap, ◌∙◌, arith, append_assoc, append-nil, subst, nat_lt}
+use Rattle.std.proofs.Common.{length-append, map, suc, ◌≤◌, min, take, zero}
 use Rattle.std.specs.List.{AllByRecursion, enumerate_from}
 use Rattle.std.specs.Str.{bytes_eq}
 use Rattle.std.proofs.lemmas.Bool.Decides.{nat_tests}
-use Rattle.std.proofs.lemmas.Slice.Eq.{bytes_eq-Decides}
 use Rattle.std.proofs.lemmas.List.Elements.{recursion_from_All}
-use Rattle.std.specs.Prelude.{if◌then◌else◌, ◌==◌, codes}
-use Rattle.xc_input.specs.Named.{Named, IsSound}
-use Rattle.xc_input.specs.Problem.{Puzzle}
+use Rattle.std.proofs.lemmas.Slice.Eq.{bytes_eq-Decides}
+use Rattle.std.proofs.lemmas.List.Sums.{sum_by-cons}
+use Rattle.std.specs.Prelude.{if◌then◌else◌, ◌==◌, ◌&&◌, not, codes, sum_by}
 use Rattle.xc_input.specs.Words.{has}
 use Rattle.xc_input.specs.Lines.{lines_of}
 use Rattle.xc_input.specs.inner.Feeding.{ended, AreWhole}
-use Rattle.xc_input.proofs.ListLemmas.{each_of_all, by_bool}
+use Rattle.xc_input.proofs.ListLemmas.{by_bool}
 use Rattle.xc_input.proofs.LineLemmas.{lines_of-all, lines_of-ended, lines_of-part, ended-append}
-use Rattle.xc_search.specs.declared.choice.Choice.{Choice}
-use Rattle.xc_search.specs.Cover.{members}
-use Rattle.xc_search.specs.Spans.{between}
-use Rattle.xc_search.proofs.RowLemmas.{all_between, keep_none, spans_meet}
 use Rattle.xc_check.specs.ListingLines.{words_in}
-use Rattle.xc_list.specs.SpanTexts.{end_at, row_text, most_counted}
-use Rattle.xc_list.specs.Digests.{digest_of}
-use Rattle.xc_list.specs.Output.{member_text, is_printed}
-use Rattle.xc_list.specs.SearchedSpans.{IsSpan, SearchedSpan, members_of, text_of}
-use Rattle.xc_list.specs.Runs.{end_of}
+use Rattle.xc_list.specs.SpanTexts.{row_text, most_counted}
+use Rattle.xc_list.specs.SearchedSpans.{SearchedSpan}
 use Rattle.xc_list.specs.declared.ends.End.TheVariants.{Done, Limit}
-use Rattle.xc_tools.specs.Joins.{DoMeet, AreTexts, IsBeginning, joined, AreOfOneProblem, IsFirstGap, spans_in}
-use Rattle.xc_tools.specs.SpanShapes.{LieIn, SpanText, AreShapes, HasShape}
+use Rattle.xc_tools.specs.Joins.{DoMeet, IsBeginning, joined, AreOfOneProblem, IsFirstGap, end_of_texts, spans_in}
+use Rattle.xc_tools.specs.SpanShapes.{LieIn, ListedSolution, SpanText, AreShapes, HasShape, solution_text}
 use Rattle.xc_tools.specs.inner.SpanLines.{Risen, ends_before, Headed, Told, numbers_in, Join, Stand, goes, faulty}
 use Rattle.xc_tools.specs.inner.SpanLines.{mixed, apart, stand_after, begins_at, by_line, is_same, meets, opened}
-use Rattle.xc_tools.specs.inner.SpanLines.{recorded, wrote, start}
+use Rattle.xc_tools.specs.inner.SpanLines.{by_record, line_noted, recorded, wrote, start}
 use Rattle.xc_tools.proofs.SpanWords.{AreShort, heading_line, heading-read, not-dash, numbers-row, record-read}
-use Rattle.xc_tools.proofs.SpanWords.{rows-same, same}
+use Rattle.xc_tools.proofs.SpanWords.{both, is-word, rows-same, same}
 use Rattle.xc_tools.proofs.SpanLines.{IsShort, after-append, fits, follow-none, heading-read-so, is_last, last_line}
 use Rattle.xc_tools.proofs.SpanLines.{record-read-so, rest_at, run-shape, shape_lines, shown, told_from, told_part}
-use Rattle.xc_tools.proofs.SpanLines.{wrote-append, found_in, member-solution, shape_of, solution_of, span-short}
-use Rattle.xc_tools.proofs.SpanLines.{text-ended, text-shape, whole-append, whole-shape, solution_lines, short-shape}
-use Rattle.xc_tools.proofs.SpanLines.{texts-ended}
+use Rattle.xc_tools.proofs.SpanLines.{wrote-append, whole-append, whole-shape, solution_lines, short-shape}
+use Rattle.xc_tools.proofs.SpanLines.{closing-read-so, front_line, texts-ended}
 
 -- ======== What the lines of the texts of spans come to, one text after another.
-
--- ---- spans as shapes
-
-abbrev pub span_lines : Named → Bool → SearchedSpan → List (List ℕ)
-span_lines a listed s = shape_lines listed (shape_of a listed s)
-
--- the listing of members behind so many others
-abbrev pub listed_from : Named → ℕ → List (List Choice) → List ℕ
-listed_from a n [] = []
-listed_from a n (m ∷ ms) = shown (n + 1) (member_text a (n + 1, m)) ++ listed_from a (n + 1) ms
-
--- what is listed of members behind so many others
-abbrev pub listed_part : Bool → Named → ℕ → List (List Choice) → List ℕ
-listed_part true a n ms = listed_from a n ms
-listed_part false a n ms = []
-
-told-listed : (a : Named) (n : ℕ) (ms : List (List Choice)) → told_from n (map (solution_of a) ms) ≡ listed_from a n ms
-told-listed a n [] = refl
-told-listed a n (m ∷ ms) =
-    ap (λ t. shown (n + 1) t ++ told_from (n + 1) (map (solution_of a) ms)) (member-solution a (n + 1) m)
-    ∙ ap (λ t. shown (n + 1) (member_text a (n + 1, m)) ++ t) (told-listed a (n + 1) ms)
-
-part-told : (listed : Bool) (a : Named) (n : ℕ) (ms : List (List Choice))
-    → told_part listed n (found_in listed a ms) ≡ listed_part listed a n ms
-part-told true a n ms = told-listed a n ms
-part-told false a n ms = refl
 
 -- ---- a gap
 
@@ -81,11 +46,7 @@ begins-apart : (s : Join) (digest row : List ℕ) (next : Stand) → is_same s d
     → begins_at s digest row next ≡ (apart s.met row, [])
 begins-apart s digest row next same other = rw (same, other) refl
 
--- these lines lead to a gap, and nothing is written for them
-abbrev IsGap : Stand → List (List ℕ) → Type 0
-IsGap s ls = (m : List ℕ) × (n : List ℕ) × (stand_after s ls ≡ apart m n) × (wrote s ls ≡ [])
-
--- the same with these rows
+-- these lines lead to a gap at these rows, and nothing is written for them
 abbrev pub IsGapAt : Stand → List (List ℕ) → List ℕ → List ℕ → Type 0
 IsGapAt s ls m n = (stand_after s ls ≡ apart m n) × (wrote s ls ≡ [])
 
@@ -102,15 +63,15 @@ pub gap-at : (listed finished : Bool) (old row : List ℕ) (n : ℕ) (r : Risen)
     → IsGapAt (goes (rest_at listed old finished row n r)) (shape_lines listed t ++ ls) (row_text row)
     (row_text t.span.from)
 gap-at true finished old row n r t ls h fit e =
-    let s = rest_at true old finished row n r in
     let line = heading_line t.span.from t.digest in
+    let s = line_noted (rest_at true old finished row n r) line in
     let told : Headed = record { row = row_text t.span.from; digest = t.digest } in
-    gap-first s line _ (row_text row) (row_text t.span.from)
+    gap-first (rest_at true old finished row n r) line _ (row_text row) (row_text t.span.from)
     (heading-read-so s (words_in line) told (heading-read t.span.from t.digest h.from h.digest)
     ∙ begins-apart s t.digest (row_text t.span.from) (goes (opened s told)) fit e)
 gap-at false finished old row n r t ls h fit e =
     let s = rest_at false old finished row n r in
-    let line = last_line t in
+    let line = front_line t in
     let told : Told = record {
       from = row_text t.span.from;
       until = row_text t.span.until;
@@ -119,253 +80,16 @@ gap-at false finished old row n r t ls h fit e =
     let ends : ends_before (numbers_in (row_text t.span.from)) 0 (numbers_in (row_text t.span.until)) ≡ true =
     rw (numbers-row t.span.from h.from, numbers-row t.span.until h.until) (follow-none 0 t.span.from t.span.until
     (subst (λ ss. LieIn t.span.from (map (λ s. s.row) ss) t.span.until) h.counted h.rows)) in
-    gap-first s line ls (row_text row) (row_text t.span.from)
-    (record-read-so s (words_in line) told (record-read t.span.from t.span.until t.span.branches t.count t.span.steps
-    t.digest h.from h.until h.branches h.few h.steps h.digest)
+    gap-first s (last_line false t) ls (row_text row) (row_text t.span.from)
+    (closing-read-so s line (by_record s) ∙ record-read-so s (words_in line) told
+    (record-read t.span.from t.span.until t.span.branches t.count t.span.steps t.digest h.from h.until h.branches h.few
+    h.steps h.digest)
     ∙ ap (λ (x : Bool). if x then begins_at s t.digest (row_text t.span.from) (goes (recorded s told))
     else (faulty, [])) ends
     ∙ begins-apart s t.digest (row_text t.span.from) (goes (recorded s told)) fit e)
 
-gap-shape : (listed finished : Bool) (old row : List ℕ) (n : ℕ) (r : Risen) (t : SpanText) (ls : List (List ℕ))
-    → IsShort listed t → fits old t.digest ≡ true
-    → meets (rest_at listed old finished row n r) (row_text t.span.from) ≡ false
-    → IsGap (goes (rest_at listed old finished row n r)) (shape_lines listed t ++ ls)
-gap-shape listed finished old row n r t ls h fit e =
-    let at = gap-at listed finished old row n r t ls h fit e in (row_text row, row_text t.span.from, at.0, at.1)
-
--- ---- members before a row
-
-abbrev pub so_far : Puzzle → List ℕ → List (List Choice)
-so_far p row = between p [] (Some row)
-
-pub so_far-none : (p : Puzzle) → so_far p [] ≡ []
-so_far-none p = keep_none _ (members p) (each_of_all _ (members p) (λ m. refl))
-
-so_far-rest : (p : Puzzle) (row : List ℕ) → so_far p row ++ between p row None ≡ members p
-so_far-rest p row = spans_meet p [] row None refl tt ∙ all_between p
-
-so_far-span : (a : Named) (s : SearchedSpan) → IsSpan a s
-    → so_far a.puzzle s.from ++ members_of a s ≡ between a.puzzle [] (end_at s.until)
-so_far-span a s h = spans_meet a.puzzle [] s.from (end_at s.until) refl h.forward
-
-from-append : (a : Named) (n : ℕ) (xs ys : List (List Choice))
-    → listed_from a n (xs ++ ys) ≡ listed_from a n xs ++ listed_from a (n + length xs) ys
-from-append a n [] ys = let e : n ≡ n + 0 = omega arith in ap (λ k. listed_from a k ys) e
-from-append a n (x ∷ xs) ys = grind (arith, shown, append_assoc, from-append a (n + 1) xs ys)
-
-part-append : (listed : Bool) (a : Named) (xs ys : List (List Choice))
-    → listed_part listed a 0 xs ++ listed_part listed a (length xs) ys ≡ listed_part listed a 0 (xs ++ ys)
-part-append true a xs ys = grind (arith, from-append)
-part-append false a xs ys = refl
-
--- ---- a chain
-
--- no text is open, and the last one didn't end at the listing's end; or there was a gap
-abbrev pub IsEarly : Stand → Type 0
-IsEarly (goes s) = (s.found ≡ None) × (s.finished ≡ false)
-IsEarly faulty = ⊥
-IsEarly mixed = ⊥
-IsEarly (apart m n) = Unit {0}
-
--- what is listed up to some row, this and perhaps more is the whole
-abbrev pub IsBegun : Named → Bool → List ℕ → List ℕ → Type 0
-IsBegun a listed row text = (tail : List ℕ)
-    × (listed_part listed a 0 (so_far a.puzzle row) ++ (text ++ tail) ≡ listed_part listed a 0 (members a.puzzle))
-
--- the listing's end was reached behind so many solutions
-abbrev pub IsDone : Bool → ℕ → Stand → Type 0
-IsDone listed n st = (digest : List ℕ) × (r : Risen) × (st ≡ goes (rest_at listed digest true [] n r))
-
--- Spans from a row on meet, and these lines led to the listing's end and its whole text; or they don't, and a beginning
--- was written.
-abbrev pub Outcome : Named → Bool → List ℕ → List SearchedSpan → Stand → List ℕ → Type 0
-Outcome a listed row spans st text =
-    (DoMeet row spans × IsDone listed (length (members a.puzzle)) st
-    × (listed_part listed a 0 (so_far a.puzzle row) ++ text ≡ listed_part listed a 0 (members a.puzzle)))
-    ⊎ ((DoMeet row spans → ⊥) × IsEarly st × IsBegun a listed row text)
-
-abbrev pub all_lines : Named → Bool → List SearchedSpan → List (List ℕ)
-all_lines a listed spans = flat_map (span_lines a listed) spans
-
-begun-here : (a : Named) (listed : Bool) (row : List ℕ) → IsBegun a listed row []
-begun-here a listed row =
-    let p = a.puzzle in (
-      listed_part listed a (length (so_far p row)) (between p row None),
-      part-append listed a (so_far p row) (between p row None) ∙ ap (listed_part listed a 0) (so_far-rest p row),
-    )
-
--- spans meet behind one that ends here
-abbrev MeetBehind : List SearchedSpan → List ℕ → Type 0
-MeetBehind spans until = elim until [ [] ↦ spans ≡ [] | n ∷ until ↦ DoMeet (n ∷ until) spans ]
-
--- behind the members before a row those of a span, and then another text
-joined-text : (a : Named) (listed : Bool) (xs ms all : List (List Choice)) (text : List ℕ) → xs ++ ms ≡ all
-    → listed_part listed a 0 xs ++ (listed_part listed a (length xs) ms ++ text) ≡ listed_part listed a 0 all ++ text
-joined-text a listed xs ms all text e =
-    sym (append_assoc (listed_part listed a 0 xs) (listed_part listed a (length xs) ms) text)
-    ∙ ap (λ t. t ++ text) (part-append listed a xs ms ∙ ap (listed_part listed a 0) e)
-
 pub fits-same : (digest : List ℕ) → fits digest digest ≡ true
 fits-same digest = grind (arith, nat_tests, same digest)
-
-module _ (a : Named) (listed : Bool) (sound : IsSound a) where
-  -- a gap at the first span
-  apart-first : (old row : List ℕ) (n : ℕ) (r : Risen) (s : SearchedSpan) (spans : List SearchedSpan) → IsSpan a s
-      → fits old (digest_of a) ≡ true → bytes_eq (row_text s.from) (row_text row) ≡ false
-      → Outcome a listed row (s ∷ spans) (stand_after (goes (rest_at listed old false row n r))
-      (all_lines a listed (s ∷ spans)))
-      (wrote (goes (rest_at listed old false row n r)) (all_lines a listed (s ∷ spans)))
-  apart-first old row n r s spans h fit e =
-      let gap = gap-shape listed false old row n r (shape_of a listed s) (all_lines a listed spans)
-      (span-short a listed s sound h) fit e in
-      inr (
-        λ meet. absurd (cc (sym e ∙ ap (λ r. bytes_eq (row_text r) (row_text row)) meet.0 ∙ same (row_text row))),
-        subst IsEarly (sym gap.2) tt,
-        subst (IsBegun a listed row) (sym gap.3) (begun-here a listed row),
-      )
-
-  -- the rest behind a span that ends at the listing's end
-  behind-last : (digest : List ℕ) (r : Risen) (s : SearchedSpan) (spans : List SearchedSpan) (j : ℕ)
-      → fits digest (digest_of a) ≡ true → AllByRecursion (IsSpan a) spans
-      → so_far a.puzzle s.from ++ members_of a s ≡ members a.puzzle → j ≡ length (members a.puzzle)
-      → s.until ≡ [] → (text : List ℕ) → text ≡ listed_part listed a (length (so_far a.puzzle s.from)) (members_of a s)
-      → Outcome a listed s.from (s ∷ spans) (stand_after (goes (rest_at listed digest true [] j r))
-      (all_lines a listed spans))
-      (text ++ wrote (goes (rest_at listed digest true [] j r)) (all_lines a listed spans))
-  behind-last digest r s [] j fit each e count last text is =
-      let whole = joined-text a listed (so_far a.puzzle s.from) (members_of a s) (members a.puzzle) [] e in
-      let meets = subst (MeetBehind []) (sym last) refl in
-      inl (
-        (refl, meets),
-        (digest, r, ap (λ k. goes (rest_at listed digest true [] k r)) count),
-        ap (λ t. listed_part listed a 0 (so_far a.puzzle s.from) ++ (t ++ [])) is ∙ whole
-            ∙ append-nil (listed_part listed a 0 (members a.puzzle)),
-      )
-  behind-last digest r s (t ∷ spans) j fit each e count last text is =
-      let whole = joined-text a listed (so_far a.puzzle s.from) (members_of a s) (members a.puzzle) [] e in
-      let gap = gap-shape listed true digest [] j r (shape_of a listed t) (all_lines a listed spans)
-      (span-short a listed t sound each.0) fit refl in
-      let none = λ (meet : DoMeet s.from (s ∷ t ∷ spans)).
-      let more : t ∷ spans ≡ [] = subst (MeetBehind (t ∷ spans)) last meet.1 in absurd (cc more) in
-      inr (
-        none,
-        subst IsEarly (sym gap.2) tt,
-        subst (λ more. IsBegun a listed s.from (text ++ more)) (sym gap.3) (
-          [],
-          ap (λ t. listed_part listed a 0 (so_far a.puzzle s.from) ++ t) (append-nil (text ++ []) ∙ append-nil text
-              ∙ is ∙ sym (append-nil _)) ∙ whole ∙ append-nil (listed_part listed a 0 (members a.puzzle)),
-        ),
-      )
-
-  -- a chain from some row on is one from the row of the span before on
-  behind-span : (s : SearchedSpan) (spans : List SearchedSpan) (n : ℕ) (u : List ℕ) → s.until ≡ n ∷ u
-      → so_far a.puzzle s.from ++ members_of a s ≡ so_far a.puzzle (n ∷ u)
-      → (st : Stand) (more : List ℕ) → Outcome a listed (n ∷ u) spans st more
-      → Outcome a listed s.from (s ∷ spans) st
-      (listed_part listed a (length (so_far a.puzzle s.from)) (members_of a s) ++ more)
-  behind-span s spans n u last e st more (inl h) =
-      let meets = subst (MeetBehind spans) (sym last) h.0 in
-      inl (
-        (refl, meets),
-        h.1,
-        joined-text a listed (so_far a.puzzle s.from) (members_of a s) (so_far a.puzzle (n ∷ u)) more e ∙ h.2,
-      )
-  behind-span s spans n u last e st more (inr h) = grind (arith, append_assoc, joined-text)
-
-  -- the first span of a chain, and then the others
-  go-on : (old : List ℕ) (r : Risen) (s : SearchedSpan) (spans : List SearchedSpan) (j k : ℕ) → IsSpan a s
-      → fits old (digest_of a) ≡ true → j ≡ length (so_far a.puzzle s.from) → k ≡ j + length (members_of a s)
-      → (P : Stand → List ℕ → Type 0)
-      → ((q : Risen) → P (stand_after (goes (rest_at listed (digest_of a) (is_last s.until) s.until k q))
-      (all_lines a listed spans)) (listed_part listed a j (members_of a s)
-      ++ wrote (goes (rest_at listed (digest_of a) (is_last s.until) s.until k q)) (all_lines a listed spans)))
-      → P (stand_after (goes (rest_at listed old false s.from j r)) (all_lines a listed (s ∷ spans)))
-      (wrote (goes (rest_at listed old false s.from j r)) (all_lines a listed (s ∷ spans)))
-  go-on old r s spans j k h fit e f P rest =
-      let run = run-shape listed (shape_of a listed s) old j k r (span-short a listed s sound h) fit f in
-      let start = goes (rest_at listed old false s.from j r) in
-      let more = all_lines a listed spans in
-      let text : wrote start (span_lines a listed s) ≡ listed_part listed a j (members_of a s) =
-      run.run.says ∙ part-told listed a j (members_of a s) in
-      rw (
-        after-append start (span_lines a listed s) more,
-        wrote-append start (span_lines a listed s) more,
-        run.run.stands,
-        text,
-      )
-      (rest run.rising)
-
-  -- it goes on by where the first one ends
-  by-end : (q : Risen) (s : SearchedSpan) (spans : List SearchedSpan) (k : ℕ) (until : List ℕ) → s.until ≡ until
-      → IsSpan a s
-      → AllByRecursion (IsSpan a) spans → k ≡ length (so_far a.puzzle s.from) + length (members_of a s)
-      → ((n : ℕ) (u : List ℕ) (i : ℕ) → AreShort (n ∷ u) → i ≡ length (so_far a.puzzle (n ∷ u))
-      → Outcome a listed (n ∷ u) spans (stand_after (goes (rest_at listed (digest_of a) false (n ∷ u) i q))
-      (all_lines a listed spans))
-      (wrote (goes (rest_at listed (digest_of a) false (n ∷ u) i q)) (all_lines a listed spans)))
-      → Outcome a listed s.from (s ∷ spans) (stand_after
-      (goes (rest_at listed (digest_of a) (is_last until) until k q))
-      (all_lines a listed spans))
-      (listed_part listed a (length (so_far a.puzzle s.from)) (members_of a s)
-      ++ wrote (goes (rest_at listed (digest_of a) (is_last until) until k q)) (all_lines a listed spans))
-  by-end q s spans k [] e is each f later =
-      let all : so_far a.puzzle s.from ++ members_of a s ≡ members a.puzzle =
-      so_far-span a s is ∙ ap (λ u. between a.puzzle [] (end_at u)) e ∙ all_between a.puzzle in
-      let count : k ≡ length (members a.puzzle) =
-      f ∙ sym (length-append (so_far a.puzzle s.from) (members_of a s)) ∙ ap length all in
-      behind-last (digest_of a) q s spans k (fits-same (digest_of a)) each all count e _ refl
-  by-end q s spans k (n ∷ u) e is each f later =
-      let p = a.puzzle in
-      let short : AreShort (n ∷ u) = subst AreShort e (recursion_from_All (λ n. n < 2 ^ 64) s.until is.until) in
-      let all : so_far p s.from ++ members_of a s ≡ so_far p (n ∷ u) =
-      so_far-span a s is ∙ ap (λ u. between p [] (end_at u)) e in
-      let count : k ≡ length (so_far p (n ∷ u)) =
-      f ∙ sym (length-append (so_far p s.from) (members_of a s)) ∙ ap length all in
-      behind-span s spans n u e all _ _ (rw (not-dash n u short) (later n u k short count))
-
-  pub chain : (spans : List SearchedSpan) (old row : List ℕ) (j : ℕ) (r : Risen) → fits old (digest_of a) ≡ true
-      → AllByRecursion (IsSpan a) spans → AreShort row → j ≡ length (so_far a.puzzle row)
-      → Outcome a listed row spans (stand_after (goes (rest_at listed old false row j r)) (all_lines a listed spans))
-      (wrote (goes (rest_at listed old false row j r)) (all_lines a listed spans))
-  chain [] old row j r fit each short e = inr (λ h. h, (refl, refl), begun-here a listed row)
-  chain (s ∷ spans) old row j r fit each short e =
-      by_bool (bytes_eq (row_text s.from) (row_text row))
-      (λ yes.
-      let from = rows-same s.from row (recursion_from_All (λ n. n < 2 ^ 64) s.from each.0.from) short
-      ((bytes_eq-Decides (row_text s.from) (row_text row)).0 yes) in
-      subst (λ row. Outcome a listed row (s ∷ spans) (stand_after (goes (rest_at listed old false row j r)) (all_lines a
-      listed (s ∷ spans)))
-      (wrote (goes (rest_at listed old false row j r)) (all_lines a listed (s ∷ spans)))) from
-      (let count : j ≡ length (so_far a.puzzle s.from) = e ∙ ap (λ r. length (so_far a.puzzle r)) (sym from) in
-      go-on old r s spans j (j + length (members_of a s)) each.0 fit count refl (Outcome a listed s.from (s ∷ spans))
-      (λ q. rw count (by-end q s spans (length (so_far a.puzzle s.from) + length
-      (members_of a s)) s.until refl each.0 each.1 refl
-      (λ n u i h k. chain spans (digest_of a) (n ∷ u) i q (fits-same (digest_of a)) each.1 h k)))))
-      (λ other. apart-first old row j r s spans each.0 fit other)
-
--- ======== What is known of a text of spans once some of its lines were read.
-
--- ---- the whole listing
-
-past_most : (n : ℕ) (a : Named) (ms : List (List Choice)) → most_counted ≤ n → listed_from a n ms ≡ []
-past_most n a [] h = refl
-past_most n a (m ∷ ms) h = grind (arith, past_most (n + 1) a ms (omega (arith, h)))
-
-abbrev printed_from : Named → ℕ → ℕ → List (List Choice) → List ℕ
-printed_from a n most ms =
-    flat_map (member_text a) (filter (λ nm. is_printed 1 nm.0) (enumerate_from n (take most ms)))
-
-from-printed : (a : Named) (ms : List (List Choice)) (n most : ℕ) → n + most ≡ most_counted
-    → listed_from a n ms ≡ printed_from a (n + 1) most ms
-from-printed a [] n zero e = refl
-from-printed a [] n (suc most) e = refl
-from-printed a (m ∷ ms) n zero e = past_most n a (m ∷ ms) (omega (arith, e))
-from-printed a (m ∷ ms) n (suc most) e =
-    grind (arith, from-printed a ms (n + 1) most (omega (arith, e)))
-
-joined-is : (a : Named) (listed : Bool) → listed_part listed a 0 (members a.puzzle) ≡ joined a listed
-joined-is a true = from-printed a (members a.puzzle) 0 most_counted refl
-joined-is a false = refl
 
 pub start-is : (listed : Bool) → start listed ≡ rest_at listed [] false [] 0 (record { row = []; tied = None })
 start-is true = refl
@@ -375,10 +99,6 @@ start-is false = refl
 abbrev pub none-yet : Risen
 none-yet = record { row = []; tied = None }
 
-part-none : (listed : Bool) (a : Named) → listed_part listed a 0 [] ≡ []
-part-none true a = refl
-part-none false a = refl
-
 pub after-faulty : (ls : List (List ℕ)) → stand_after faulty ls ≡ faulty
 after-faulty [] = refl
 after-faulty (l ∷ ls) = after-faulty ls
@@ -387,29 +107,9 @@ pub after-mixed : (ls : List (List ℕ)) → stand_after mixed ls ≡ mixed
 after-mixed [] = refl
 after-mixed (l ∷ ls) = after-mixed ls
 
--- parts of what stands
-abbrev found_by : Stand → Option ℕ
-found_by (goes s) = s.found
-found_by faulty = None
-found_by mixed = None
-found_by (apart m n) = None
-
-abbrev finished_in : Stand → Bool
-finished_in (goes s) = s.finished
-finished_in faulty = false
-finished_in mixed = false
-finished_in (apart m n) = false
-
-abbrev total_in : Stand → ℕ
-total_in (goes s) = s.total
-total_in faulty = 0
-total_in mixed = 0
-total_in (apart m n) = 0
-
--- how a run ends over so many
-pub end_of-total : (a : Named) (total : ℕ) → total ≡ min most_counted (length (members a.puzzle))
-    → (if total == most_counted then Limit total else Done total) ≡ end_of a most_counted
-end_of-total a total e = grind (arith, nat_tests)
+pub wrote-mixed : (ls : List (List ℕ)) → wrote mixed ls ≡ []
+wrote-mixed [] = refl
+wrote-mixed (l ∷ ls) = wrote-mixed ls
 
 -- ---- lines of a text
 
@@ -437,97 +137,6 @@ module _ (all : List (List ℕ)) (whole_all : AreWhole all) (text : List ℕ) (i
         length-append (b ∷ rest) (10 ∷ []),
       ))
 
--- ---- lines of texts
-
-module _ (a : Named) (listed : Bool) (sound : IsSound a) where
-  whole-texts : (spans : List SearchedSpan) → AllByRecursion (IsSpan a) spans → AreWhole (all_lines a listed spans)
-  whole-texts [] each = tt
-  whole-texts (s ∷ spans) each =
-      whole-append (span_lines a listed s) (all_lines a listed spans)
-      (whole-shape listed (shape_of a listed s) (span-short a listed s sound each.0)) (whole-texts spans each.1)
-
-  spans-ended : (spans : List SearchedSpan) → flat_map (text_of a listed) spans ≡ ended (all_lines a listed spans)
-  spans-ended [] = refl
-  spans-ended (s ∷ spans) =
-      ap (λ t. t ++ flat_map (text_of a listed) spans) (text-shape a listed s ∙ text-ended listed (shape_of a listed s))
-      ∙ ap (λ t. ended (span_lines a listed s) ++ t) (spans-ended spans)
-      ∙ sym (ended-append (span_lines a listed s) (all_lines a listed spans))
-
-module _ (a : Named) (listed : Bool) (sound : IsSound a) (spans : List SearchedSpan) (text : List ℕ)
-    (are : AreTexts a listed spans text) where
-  each : AllByRecursion (IsSpan a) spans
-  each = recursion_from_All (IsSpan a) spans are.each
-
-  text-is : text ≡ ended (all_lines a listed spans)
-  text-is = sym are.whole ∙ spans-ended a listed sound spans
-
-  -- the lines that begin a text are its first lines
-  pub first-lines : (ls : List (List ℕ)) (rest : List ℕ) → AreWhole ls → text ≡ ended ls ++ rest
-      → all_lines a listed spans ≡ ls ++ lines_of rest
-  first-lines = lines-first (all_lines a listed spans) (whole-texts a listed sound spans each) text text-is
-
-  -- a text ends behind a line feed
-  pub no-rest : (ls : List (List ℕ)) (rest : List ℕ) → AreWhole ls → has 10 rest ≡ false → text ≡ ended ls ++ rest
-      → rest ≡ []
-  no-rest = none-cut (all_lines a listed spans) (whole-texts a listed sound spans each) text text-is
-
-  outcome : (DoMeet [] spans × IsDone listed (length (members a.puzzle))
-      (stand_after (goes (start listed)) (all_lines a listed spans))
-      × (wrote (goes (start listed)) (all_lines a listed spans) ≡ joined a listed))
-      ⊎ ((DoMeet [] spans → ⊥) × IsEarly (stand_after (goes (start listed)) (all_lines a listed spans))
-      × IsBeginning (wrote (goes (start listed)) (all_lines a listed spans)) (joined a listed))
-  outcome =
-      let none = so_far-none a.puzzle in
-      let front : listed_part listed a 0 (between a.puzzle [] (Some [])) ≡ [] =
-      ap (listed_part listed a 0) none ∙ part-none listed a in
-      rw (start-is listed) (elim (chain a listed sound spans [] [] 0 none-yet refl each tt (ap length (sym none))) [
-        | inl h ↦ inl (
-          h.0,
-          h.1,
-          ap (λ t. t ++ wrote (goes (rest_at listed [] false [] 0 none-yet)) (all_lines a listed spans))
-              (sym front) ∙ h.2 ∙ joined-is a listed,
-        )
-        | inr h ↦ inr (
-          h.0,
-          h.1,
-          (
-            h.2.0,
-            ap (λ t. t ++ (wrote (goes (rest_at listed [] false [] 0 none-yet))
-                (all_lines a listed spans) ++ h.2.0)) (sym front) ∙ h.2.1 ∙ joined-is a listed,
-          ),
-        )
-      ])
-
-  -- ---- behind some of the lines
-  module _ (ls more : List (List ℕ)) (first : all_lines a listed spans ≡ ls ++ more) where
-    ends-in : stand_after (goes (start listed)) (all_lines a listed spans)
-        ≡ stand_after (stand_after (goes (start listed)) ls) more
-    ends-in = ap (stand_after (goes (start listed))) first ∙ after-append (goes (start listed)) ls more
-
-    pub begins : IsBeginning (wrote (goes (start listed)) ls) (joined a listed)
-    begins =
-        let tail = wrote (stand_after (goes (start listed)) ls) more in
-        let split : wrote (goes (start listed)) (all_lines a listed spans) ≡ wrote (goes (start listed)) ls ++ tail =
-        ap (wrote (goes (start listed))) first ∙ wrote-append (goes (start listed)) ls more in
-        elim outcome [
-          | inl h ↦ (tail, sym split ∙ h.2)
-          | inr h ↦ (
-            tail ++ h.2.0,
-            sym (append_assoc (wrote (goes (start listed)) ls) tail h.2.0)
-                ∙ ap (λ t. t ++ h.2.0) (sym split) ∙ h.2.1,
-          )
-        ]
-
-  -- behind all lines
-  module _ (s : Join) (e : stand_after (goes (start listed)) (all_lines a listed spans) ≡ goes s) where
-    pub finished : s.finished ≡ true → DoMeet [] spans
-        × (wrote (goes (start listed)) (all_lines a listed spans) ≡ joined a listed)
-        × (s.total ≡ min most_counted (length (members a.puzzle)))
-    finished f = elim outcome [
-      | inl h ↦ (h.0, h.2, ap total_in (sym e ∙ h.1.2))
-      | inr h ↦ absurd (cc (f, (subst IsEarly e h.1).1))
-    ]
-
 -- ======== What the lines of texts come to, of whatever problems they are.
 
 -- ---- a text of another problem
@@ -536,23 +145,31 @@ begins-mixed : (s : Join) (digest row : List ℕ) (next : Stand) → is_same s d
     → begins_at s digest row next ≡ (mixed, [])
 begins-mixed s digest row next other = rw other refl
 
+-- these lines lead to such a text, and nothing is written for them
+abbrev IsMixed : Stand → List (List ℕ) → Type 0
+IsMixed s ls = (stand_after s ls ≡ mixed) × (wrote s ls ≡ [])
+
 mixed-first : (s : Join) (line : List ℕ) (ls : List (List ℕ)) → by_line s line ≡ (mixed, [])
-    → stand_after (goes s) (line ∷ ls) ≡ mixed
-mixed-first s line ls e = ap (λ r. stand_after r.0 ls) e ∙ after-mixed ls
+    → IsMixed (goes s) (line ∷ ls)
+mixed-first s line ls e = (
+  ap (λ r. stand_after r.0 ls) e ∙ after-mixed ls,
+  ap (λ r. r.1 ++ wrote r.0 ls) e ∙ wrote-mixed ls,
+)
 
 mixed-shape : (listed finished : Bool) (old row : List ℕ) (n : ℕ) (r : Risen) (t : SpanText) (ls : List (List ℕ))
     → IsShort listed t → fits old t.digest ≡ false
-    → stand_after (goes (rest_at listed old finished row n r)) (shape_lines listed t ++ ls) ≡ mixed
+    → IsMixed (goes (rest_at listed old finished row n r)) (shape_lines listed t ++ ls)
 mixed-shape true finished old row n r t ls h other =
-    let s = rest_at true old finished row n r in
     let line = heading_line t.span.from t.digest in
+    let s = line_noted (rest_at true old finished row n r) line in
     let told : Headed = record { row = row_text t.span.from; digest = t.digest } in
-    mixed-first s line (flat_map solution_lines (enumerate_from 1 t.found) ++ last_line t ∷ []
-    ++ ls) (heading-read-so s (words_in line) told (heading-read t.span.from t.digest h.from h.digest)
+    mixed-first (rest_at true old finished row n r) line
+    (flat_map solution_lines (enumerate_from 1 t.found) ++ last_line true t ∷ [] ++ ls)
+    (heading-read-so s (words_in line) told (heading-read t.span.from t.digest h.from h.digest)
     ∙ begins-mixed s t.digest (row_text t.span.from) (goes (opened s told)) other)
 mixed-shape false finished old row n r t ls h other =
     let s = rest_at false old finished row n r in
-    let line = last_line t in
+    let line = front_line t in
     let told : Told = record {
       from = row_text t.span.from;
       until = row_text t.span.until;
@@ -561,12 +178,172 @@ mixed-shape false finished old row n r t ls h other =
     let ends : ends_before (numbers_in (row_text t.span.from)) 0 (numbers_in (row_text t.span.until)) ≡ true =
     rw (numbers-row t.span.from h.from, numbers-row t.span.until h.until) (follow-none 0 t.span.from t.span.until
     (subst (λ ss. LieIn t.span.from (map (λ s. s.row) ss) t.span.until) h.counted h.rows)) in
-    mixed-first s line ls
-    (record-read-so s (words_in line) told (record-read t.span.from t.span.until t.span.branches t.count t.span.steps
-    t.digest h.from h.until h.branches h.few h.steps h.digest)
+    mixed-first s (last_line false t) ls
+    (closing-read-so s line (by_record s) ∙ record-read-so s (words_in line) told
+    (record-read t.span.from t.span.until t.span.branches t.count t.span.steps t.digest h.from h.until h.branches h.few
+    h.steps h.digest)
     ∙ ap (λ (x : Bool). if x then begins_at s t.digest (row_text t.span.from) (goes (recorded s told))
     else (faulty, [])) ends
     ∙ begins-mixed s t.digest (row_text t.span.from) (goes (recorded s told)) other)
+
+-- ---- what is written
+
+-- what is listed of texts behind so many solutions
+abbrev pub told_all : Bool → ℕ → List SpanText → List ℕ
+told_all listed n [] = []
+told_all listed n (t ∷ ts) = told_part listed n t.found ++ told_all listed (n + t.count) ts
+
+-- how many solutions there are with those of these texts
+abbrev pub count_all : ℕ → List SpanText → ℕ
+count_all n [] = n
+count_all n (t ∷ ts) = count_all (n + t.count) ts
+
+past_most : (n : ℕ) (ss : List ListedSolution) → most_counted ≤ n → told_from n ss ≡ []
+past_most n [] h = refl
+past_most n (s ∷ ss) h = grind (arith, past_most (n + 1) ss (omega (arith, h)))
+
+from-append : (n : ℕ) (xs ys : List ListedSolution)
+    → told_from n (xs ++ ys) ≡ told_from n xs ++ told_from (n + length xs) ys
+from-append n [] ys = let e : n ≡ n + 0 = omega arith in ap (λ k. told_from k ys) e
+from-append n (x ∷ xs) ys = grind (arith, shown, append_assoc, from-append (n + 1) xs ys)
+
+pub from-listed : (ss : List ListedSolution) (n most : ℕ) → n + most ≡ most_counted
+    → told_from n ss ≡ flat_map solution_text (enumerate_from (n + 1) (take most ss))
+from-listed [] n zero e = refl
+from-listed [] n (suc most) e = refl
+from-listed (s ∷ ss) n zero e = past_most n (s ∷ ss) (omega (arith, e))
+from-listed (s ∷ ss) n (suc most) e =
+    let low : nat_lt most_counted (n + 1) ≡ false = grind (arith, nat_tests) in
+    rw low (ap (λ t. solution_text (n + 1, s) ++ t) (from-listed ss (n + 1) most (omega (arith, e))))
+
+told-found : (ts : List SpanText) (n : ℕ) → AllByRecursion (IsShort true) ts
+    → told_all true n ts ≡ told_from n (flat_map (λ t. t.found) ts)
+told-found [] n each = refl
+told-found (t ∷ ts) n each =
+    let rest = flat_map (λ (t : SpanText). t.found) ts in
+    ap (λ x. told_from n t.found ++ x) (told-found ts (n + t.count) each.1
+    ∙ ap (λ k. told_from (n + k) rest) (sym each.0.counted)) ∙ sym (from-append n t.found rest)
+
+none-told : (ts : List SpanText) (n : ℕ) → told_all false n ts ≡ []
+none-told [] n = refl
+none-told (t ∷ ts) n = none-told ts (n + t.count)
+
+none-found : (ts : List SpanText) → AllByRecursion (IsShort false) ts → flat_map (λ t. t.found) ts ≡ []
+none-found [] each = refl
+none-found (t ∷ ts) each = cc (each.0.counted, none-found ts each.1)
+
+-- what is listed of all texts is what joining them writes
+pub joined-is : (listed : Bool) (ts : List SpanText) → AllByRecursion (IsShort listed) ts
+    → told_all listed 0 ts ≡ joined ts
+joined-is true ts each = told-found ts 0 each ∙ from-listed (flat_map (λ t. t.found) ts) 0 most_counted refl
+joined-is false ts each =
+    none-told ts 0 ∙ ap (λ ss. told_from 0 ss) (sym (none-found ts each))
+    ∙ from-listed (flat_map (λ t. t.found) ts) 0 most_counted refl
+
+count-is : (ts : List SpanText) (n : ℕ) → count_all n ts ≡ n + sum_by (λ t. t.count) ts
+count-is [] n = omega arith
+count-is (t ∷ ts) n = omega (arith, count-is ts (n + t.count), sum_by-cons (λ (t : SpanText). t.count) t ts)
+
+count-all : (ts : List SpanText) → count_all 0 ts ≡ sum_by (λ t. t.count) ts
+count-all ts = omega (arith, count-is ts 0)
+
+-- how a run ends over so many
+pub end-is : (n total : ℕ) → total ≡ min most_counted n
+    → (if total == most_counted then Limit total else Done total)
+    ≡ (if nat_lt n most_counted then Done n else Limit most_counted)
+end-is n total e = grind (arith, nat_tests)
+
+abbrev total_in : Stand → ℕ
+total_in (goes s) = s.total
+total_in faulty = 0
+total_in mixed = 0
+total_in (apart m n) = 0
+
+-- What was written for the lines of texts is a beginning of what is listed of them; where they led to the end of the
+-- listing it is the whole, and their number is known.
+pub record Writes (listed : Bool) (n : ℕ) (ts : List SpanText) (st : Stand) (text : List ℕ) : Type 0 where
+  pub begun : IsBeginning text (told_all listed n ts)
+  pub whole : (s : Join) → st ≡ goes s → s.finished ≡ true
+      → (text ≡ told_all listed n ts) × (s.total ≡ min most_counted (count_all n ts))
+
+-- a text may begin where the last one ended
+pub meets-so : (s : Join) (row : List ℕ) → meets s row ≡ true → (s.finished ≡ false) × (row ≡ s.met)
+meets-so s row h =
+    let parts = both (not s.finished) (bytes_eq row s.met) h in
+    (not-so s.finished parts.0, is-word row s.met parts.1)
+  where
+    not-so : (b : Bool) → not b ≡ true → b ≡ false
+    not-so true h = absurd (cc h)
+    not-so false h = refl
+
+module _ (listed : Bool) where
+  writes-none : (n : ℕ) (ts : List SpanText) (st : Stand) (text : List ℕ) → text ≡ []
+      → ((s : Join) → st ≡ goes s → ⊥) → Writes listed n ts st text
+  writes-none n ts st text e none = record {
+    begun = (told_all listed n ts, ap (λ t. t ++ told_all listed n ts) e);
+    whole = λ s is f. absurd (none s is);
+  }
+
+  writes-on : (n : ℕ) (t : SpanText) (ts : List SpanText) (st : Stand) (text : List ℕ)
+      → Writes listed (n + t.count) ts st text → Writes listed n (t ∷ ts) st (told_part listed n t.found ++ text)
+  writes-on n t ts st text h =
+      let part = told_part listed n t.found in
+      record {
+        begun = (h.begun.0, append_assoc part text h.begun.0 ∙ ap (λ x. part ++ x) h.begun.1);
+        whole = λ s is f. let so = h.whole s is f in (ap (λ x. part ++ x) so.0, so.1);
+      }
+
+  -- what texts write from some state on
+  abbrev WritesFrom : Join → ℕ → List SpanText → Type 0
+  WritesFrom s n ts =
+      Writes listed n ts (stand_after (goes s) (flat_map (shape_lines listed) ts))
+      (wrote (goes s) (flat_map (shape_lines listed) ts))
+
+  -- the first text was read, and then the others
+  writes-text : (old : List ℕ) (n : ℕ) (r : Risen) (t : SpanText) (ts : List SpanText) → IsShort listed t
+      → fits old t.digest ≡ true
+      → ((q : Risen) → WritesFrom (rest_at listed t.digest (is_last t.span.until) t.span.until (n + t.count) q)
+      (n + t.count) ts)
+      → WritesFrom (rest_at listed old false t.span.from n r) n (t ∷ ts)
+  writes-text old n r t ts short fit rest =
+      let run = run-shape listed t old n (n + t.count) r short fit refl in
+      let start = goes (rest_at listed old false t.span.from n r) in
+      let more = flat_map (shape_lines listed) ts in
+      rw (
+        after-append start (shape_lines listed t) more,
+        wrote-append start (shape_lines listed t) more,
+        run.run.stands,
+        run.run.says,
+      )
+      (writes-on n t ts _ _ (rest run.rising))
+
+  pub chain-writes : (ts : List SpanText) (old row : List ℕ) (finished : Bool) (n : ℕ) (r : Risen)
+      → AllByRecursion (IsShort listed) ts → AreShort row → WritesFrom (rest_at listed old finished row n r) n ts
+  chain-writes [] old row finished n r each short = record {
+    begun = ([], refl);
+    whole = λ s is f. (refl, ap total_in (sym is));
+  }
+  chain-writes (t ∷ ts) old row finished n r each short = by_bool (fits old t.digest)
+      (λ fit. by_bool (meets (rest_at listed old finished row n r) (row_text t.span.from))
+      (λ meet.
+      let so = meets-so (rest_at listed old finished row n r) (row_text t.span.from) meet in
+      let from = rows-same t.span.from row each.0.from short so.1 in
+      subst (λ f. WritesFrom (rest_at listed old f row n r) n (t ∷ ts)) (sym so.0)
+      (subst (λ row. WritesFrom (rest_at listed old false row n r) n (t ∷ ts)) from
+      (writes-text old n r t ts each.0 fit (λ q.
+      chain-writes ts t.digest t.span.until (is_last t.span.until) (n + t.count) q each.1 each.0.until))))
+      (λ other.
+      let gap = gap-at listed finished old row n r t (flat_map (shape_lines listed) ts) each.0 fit other in
+      writes-none n (t ∷ ts) _ _ gap.1 (λ s is. absurd (cc (sym gap.0 ∙ is)))))
+      (λ other.
+      let mixed_so = mixed-shape listed finished old row n r t (flat_map (shape_lines listed) ts) each.0 other in
+      writes-none n (t ∷ ts) _ _ mixed_so.1 (λ s is. absurd (cc (sym mixed_so.0 ∙ is))))
+
+-- from the beginning on
+writes-start : (listed : Bool) (ts : List SpanText) → AllByRecursion (IsShort listed) ts
+    → Writes listed 0 ts (stand_after (goes (start listed)) (flat_map (shape_lines listed) ts))
+    (wrote (goes (start listed)) (flat_map (shape_lines listed) ts))
+writes-start listed ts each = rw (start-is listed) (chain-writes listed ts [] [] false 0 none-yet each tt)
 
 -- ---- a chain
 
@@ -639,7 +416,7 @@ module _ (listed : Bool) where
       (subst (GapBehind (row_text []) (row_text t'.span.from) (spans_in (t' ∷ ts))) (sym e)
       (t'.span, spans_in ts, refl, refl, refl))))
       (λ other. says-mixed _ old t.span.from (t ∷ t' ∷ ts)
-      (mixed-shape listed true t.digest [] j q t' (lines_in ts) each.0 other)
+      ((mixed-shape listed true t.digest [] j q t' (lines_in ts) each.0 other).0)
       (λ alike. absurd (cc (sym other ∙ alike.1.0))))
 
   says-end : (old : List ℕ) (t : SpanText) (ts : List SpanText) (j : ℕ) (q : Risen) (until : List ℕ)
@@ -673,7 +450,7 @@ module _ (listed : Bool) where
       let apart_so = λ (is : t.span.from ≡ row). absurd (cc (sym other
       ∙ ap (λ f. bytes_eq (row_text f) (row_text row)) is ∙ same (row_text row))) in
       says-apart (row_text row) (row_text t.span.from) _ old row (t ∷ ts) gap.0 (inl (apart_so, refl, refl))))
-      (λ other. says-mixed _ old row (t ∷ ts) (mixed-shape listed false old row n r t (lines_in ts) each.0 other)
+      (λ other. says-mixed _ old row (t ∷ ts) ((mixed-shape listed false old row n r t (lines_in ts) each.0 other).0)
       (λ alike. absurd (cc (sym other ∙ alike.0))))
 
   whole-shapes : (ts : List SpanText) → AllByRecursion (IsShort listed) ts → AreWhole (lines_in ts)
@@ -704,6 +481,21 @@ module _ (listed : Bool) where
         ∙ after-append (goes (start listed)) ls (lines_of rest))
         (rw (start-is listed) (chain-says texts [] [] 0 none-yet each-short tt))
 
+    writes-all : Writes listed 0 texts (stand_after (goes (start listed)) (lines_in texts))
+        (wrote (goes (start listed)) (lines_in texts))
+    writes-all = writes-start listed texts each-short
+
+    pub shapes-begun : IsBeginning (wrote (goes (start listed)) ls) (joined texts)
+    shapes-begun =
+        let tail = wrote (stand_after (goes (start listed)) ls) (lines_of rest) in
+        let begun = writes-all.begun in (
+          tail ++ begun.0,
+          sym (append_assoc (wrote (goes (start listed)) ls) tail begun.0)
+              ∙ ap (λ t. t ++ begun.0) (sym (ap (wrote (goes (start listed))) lines-are
+              ∙ wrote-append (goes (start listed)) ls (lines_of rest)))
+              ∙ begun.1 ∙ joined-is listed texts each-short,
+        )
+
     pub shapes-not-faulty : stand_after (goes (start listed)) ls ≡ faulty → ⊥
     shapes-not-faulty f =
         subst (λ z. Says z [] [] texts) (ap (λ z. stand_after z (lines_of rest)) f
@@ -725,6 +517,18 @@ module _ (listed : Bool) where
       pub shapes-cut : rest ≡ []
       shapes-cut = none-cut (lines_in texts) (whole-shapes texts each-short) bytes bytes-are ls rest w free e
 
+      lines-all : lines_in texts ≡ ls
+      lines-all = lines-are ∙ ap (λ r. ls ++ lines_of r) shapes-cut ∙ append-nil ls
+
+      pub shapes-written : s.finished ≡ true → (wrote (goes (start listed)) ls ≡ joined texts)
+          × ((if s.total == most_counted then Limit s.total else Done s.total) ≡ end_of_texts texts)
+      shapes-written f =
+          let so = writes-all.whole s (ap (stand_after (goes (start listed))) lines-all ∙ at) f in (
+            sym (ap (wrote (goes (start listed))) lines-all) ∙ so.0 ∙ joined-is listed texts each-short,
+            end-is (sum_by (λ t. t.count) texts) s.total
+                (so.1 ∙ ap (min most_counted) (count-all texts)),
+          )
+
       says-end-of : Says (goes s) [] [] texts
       says-end-of = subst (λ z. Says z [] [] texts) (ap (λ r. stand_after (stand_after (goes (start listed)) ls)
           (lines_of r)) shapes-cut ∙ at) says-all
@@ -734,3 +538,61 @@ module _ (listed : Bool) where
 
       pub shapes-unfinished : s.finished ≡ false → IsFirstGap [] s.met (codes "-") (spans_in texts)
       shapes-unfinished = says-end-of.1
+
+-- spans that meet have no gap
+meet-all : (row m n : List ℕ) (spans : List SearchedSpan) → DoMeet row spans → IsFirstGap row m n spans → ⊥
+meet-all row m n [] meet gap = absurd meet
+meet-all row m n (s ∷ spans) meet (inl gap) = gap.0 meet.0
+meet-all row m n (s ∷ spans) meet (inr gap) = by-until s.until meet.1 gap.1 (λ row. meet-all row m n spans)
+  where
+    by-until : (until : List ℕ) → elim until as (λ u. Type 0) [ [] ↦ spans ≡ [] | k ∷ u ↦ DoMeet (k ∷ u) spans ]
+        → GapBehind m n spans until → ((row : List ℕ) → DoMeet row spans → IsFirstGap row m n spans → ⊥) → ⊥
+    by-until [] none some others = absurd (cc (sym none ∙ some.2))
+    by-until (k ∷ u) meet gap others = others (k ∷ u) meet gap
+
+-- the lines of texts of one problem that meet lead to the listing's end
+pub ends-whole : (listed : Bool) (ts : List SpanText) → AllByRecursion (IsShort listed) ts → DoMeet [] (spans_in ts)
+    → AreOfOneProblem ts
+    → (s : Join) × (stand_after (goes (start listed)) (flat_map (shape_lines listed) ts) ≡ goes s)
+    × (s.finished ≡ true)
+ends-whole listed ts each meet one =
+    by-stand _ refl (rw (start-is listed) (chain-says listed ts [] [] 0 none-yet each tt))
+  where
+    by-stand : (st : Stand) → stand_after (goes (start listed)) (flat_map (shape_lines listed) ts) ≡ st
+        → Says st [] [] ts
+        → (s : Join) × (stand_after (goes (start listed)) (flat_map (shape_lines listed) ts) ≡ goes s)
+        × (s.finished ≡ true)
+    by-stand (goes s) is h = by_bool s.finished (λ yes. (s, is, yes))
+        (λ no. absurd (meet-all [] s.met (codes "-") (spans_in ts) meet (h.1 no)))
+    by-stand faulty is h = absurd h
+    by-stand mixed is h =
+        absurd (h (alike-one [] one.0 ts refl (recursion_from_All (λ t. t.digest ≡ one.0) ts one.1)))
+    by-stand (apart m n) is h = absurd (meet-all [] m n (spans_in ts) meet h)
+
+-- the same bytes are read as texts in one way: what joining them writes, and their number
+module _ (listed : Bool) (ts us : List SpanText) (bytes : List ℕ) (are : AreShapes listed ts bytes)
+    (same : AreShapes listed us bytes) (meet : DoMeet [] (spans_in us)) (one : AreOfOneProblem us) where
+  short-ts : AllByRecursion (IsShort listed) ts
+  short-ts = shorts listed ts (recursion_from_All (HasShape listed) ts are.each)
+
+  short-us : AllByRecursion (IsShort listed) us
+  short-us = shorts listed us (recursion_from_All (HasShape listed) us same.each)
+
+  same-lines : flat_map (shape_lines listed) ts ≡ flat_map (shape_lines listed) us
+  same-lines =
+      sym (lines_of-all _ (whole-shapes listed ts short-ts))
+      ∙ ap lines_of (sym (texts-ended listed ts) ∙ are.whole ∙ sym same.whole ∙ texts-ended listed us)
+      ∙ lines_of-all _ (whole-shapes listed us short-us)
+
+  pub read-once : (joined ts ≡ joined us) × (end_of_texts ts ≡ end_of_texts us)
+  read-once =
+      let end = ends-whole listed us short-us meet one in
+      let us_so = (writes-start listed us short-us).whole end.0 end.1 end.2 in
+      let ts_so = (writes-start listed ts short-ts).whole end.0
+      (ap (stand_after (goes (start listed))) same-lines ∙ end.1) end.2 in
+      let total = end.0.total in (
+        sym (joined-is listed ts short-ts) ∙ sym ts_so.0 ∙ ap (wrote (goes (start listed))) same-lines ∙ us_so.0
+            ∙ joined-is listed us short-us,
+        sym (end-is (sum_by (λ t. t.count) ts) total (ts_so.1 ∙ ap (min most_counted) (count-all ts)))
+            ∙ end-is (sum_by (λ t. t.count) us) total (us_so.1 ∙ ap (min most_counted) (count-all us)),
+      )

@@ -5,3 +5,4 @@ pub mod Chains
 pub mod TakenLines
 pub mod ReadTexts
 pub mod Stopped
+pub mod Written

@@ -15,6 +15,7 @@ use Rattle.xc_input.specs.inner.Feeding.{ended, AreWhole}
 use Rattle.xc_input.proofs.ListLemmas.{each-append}
 use Rattle.xc_search.specs.Spans.{precedes}
 use Rattle.xc_check.specs.ListingLines.{branch_number, words_in, before_last}
+use Rattle.xc_list.specs.Digests.{begun_digest}
 use Rattle.xc_list.specs.SpanTexts.{row_text}
 use Rattle.xc_list.specs.SearchedSpans.{SearchedSpan}
 use Rattle.xc_list.proofs.OutputLemmas.{header_line}
@@ -23,14 +24,15 @@ use Rattle.xc_tools.specs.SpanShapes.{TellsCount, is_digest}
 use Rattle.xc_tools.specs.inner.SpanLines.{Risen, risen_after, ends_before, has_risen, Join, Stand, goes, faulty, mixed}
 use Rattle.xc_tools.specs.inner.SpanLines.{apart, by_heading, by_line, by_record, closed, ends_well, inside, is_header}
 use Rattle.xc_tools.specs.inner.SpanLines.{is_last_record, is_same, meets, opened, recorded, stand_after, start, Headed}
-use Rattle.xc_tools.specs.inner.SpanLines.{Told, numbers_in}
+use Rattle.xc_tools.specs.inner.SpanLines.{Told, by_digest, by_last, line_noted, numbers_in}
 use Rattle.xc_tools.specs.Joins.{AreOfOneProblem, DoMeet, spans_in}
-use Rattle.xc_tools.proofs.Chains.{after-apart, after-faulty, after-mixed}
-use Rattle.xc_tools.proofs.SpanLines.{shape-short, texts-ended, IsShort, fits, is_last, last_line, shape_lines}
-use Rattle.xc_tools.proofs.SpanLines.{solution_lines, well_at}
+use Rattle.xc_tools.proofs.Chains.{after-apart, after-faulty, after-mixed, meets-so}
+use Rattle.xc_tools.proofs.SpanLines.{shape-short, texts-ended, IsShort, fits, front_line, is_last, last_line}
+use Rattle.xc_tools.proofs.SpanLines.{listing_digest, listing_lines, shape_lines, solution_lines, text-append}
+use Rattle.xc_tools.proofs.SpanLines.{text_after, well_at}
 use Rattle.xc_tools.proofs.SpanWords.{IsAfter, ends-after, pushed, pushed-more, AreShort, heading_line, not-dash}
-use Rattle.xc_tools.proofs.SpanWords.{numbers-row, record_line}
-use Rattle.xc_tools.proofs.TakenLines.{HeadingIs, RecordIs, both, heading-so, is-word, record-so, some-if, Gives, Went}
+use Rattle.xc_tools.proofs.SpanWords.{both, closing-is, closing_line, is-word, numbers-row, record_line, some-if}
+use Rattle.xc_tools.proofs.TakenLines.{HeadingIs, RecordIs, heading-so, record-so, Gives, Went, digest-went}
 use Rattle.xc_tools.proofs.TakenLines.{a_choice, a_header, a_last, choice-went, header-went, heading-went, inside-went}
 use Rattle.xc_tools.proofs.TakenLines.{last-went, record-went}
 
@@ -136,6 +138,7 @@ pub record ReadAs (listed : Bool) (lines : List (List ℕ)) (s : Join) : Type 0 
   pub reached : Reached texts row s.finished
   pub rest : List (List ℕ)
   pub part : OpenWith s.found listed s row rest
+  pub noted : s.text ≡ text_after begun_digest rest
   pub is : lines ≡ texts_turned listed texts ++ rest
 
 -- ---- one line more
@@ -182,12 +185,6 @@ re-digest listed (t ∷ ts) old digest each same fit =
     let some : (length old == 0) ≡ false = grind (arith, nat_tests, ap length same.0) in
     let is : digest ≡ old = is-word digest old (rw some at fit) in
     (same.0 ∙ sym is, re-digest listed ts old digest each.1 same.1 fit)
-
--- a text may begin where the last one ended
-meets-so : (s : Join) (row : List ℕ) → meets s row ≡ true → (s.finished ≡ false) × (row ≡ s.met)
-meets-so s row h =
-    let parts = both (not s.finished) (bytes_eq row s.met) h in
-    (not-so s.finished parts.0, is-word row s.met parts.1)
 
 numbers-met : (word met row : List ℕ) → AreShort row → word ≡ met → met ≡ row_text row → numbers_in word ≡ row
 numbers-met word met row short e f = ap numbers_in (e ∙ f) ∙ numbers-row row short
@@ -283,7 +280,7 @@ lines-turn-on (s ∷ ss) tail =
 lines-turn : (ss : List ListedSolution) → lines_turned ss ≡ flat_map solution_lines (enumerate_from 1 (turn ss []))
 lines-turn ss = sym (append-nil (lines_turned ss)) ∙ lines-turn-on ss []
 
-alone : (listed : Bool) (t : SpanText) → listed ≡ false → last_line t ∷ [] ≡ shape_lines listed t
+alone : (listed : Bool) (t : SpanText) → listed ≡ false → last_line false t ∷ [] ≡ shape_lines listed t
 alone listed t e = ap (λ l. shape_lines l t) (sym e)
 
 module _ (listed : Bool) (lines : List (List ℕ)) (s : Join) (line : List ℕ) (read : ReadAs listed lines s)
@@ -294,13 +291,22 @@ module _ (listed : Bool) (lines : List (List ℕ)) (s : Join) (line : List ℕ) 
       ap (λ ls. ls ++ line ∷ []) read.is ∙ append_assoc (texts_turned listed read.texts) read.rest (line ∷ [])
       ∙ ap (λ ls. texts_turned listed read.texts ++ ls) e
 
+  -- the digest with one more line of an open text
+  noted-rest : (rest : List (List ℕ)) → read.rest ++ line ∷ [] ≡ rest
+      → text_after s.text (line ∷ []) ≡ text_after begun_digest rest
+  noted-rest rest e =
+      ap (λ d. text_after d (line ∷ [])) read.noted ∙ text-append begun_digest read.rest (line ∷ [])
+      ∙ ap (text_after begun_digest) e
+
   -- a heading
   read-heading : s.found ≡ None → listed ≡ true → (h : Headed) → HeadingIs line h → is_same s h.digest ≡ true
-      → meets s h.row ≡ true → ReadAs listed (lines ++ line ∷ []) (opened s h)
+      → meets s h.row ≡ true → ReadAs listed (lines ++ line ∷ []) (opened (line_noted s line) h)
   read-heading none list h is same meet =
       let at = meets-so s h.row meet in
       let row : numbers_in h.row ≡ read.row = numbers-met h.row s.met read.row read.short at.1 read.met in
       let empty : read.rest ≡ [] = subst (λ f. OpenWith f listed s read.row read.rest) none read.part in
+      let first : read.rest ++ line ∷ [] ≡ heading_line read.row h.digest ∷ [] =
+      ap (λ ls. ls ++ line ∷ []) empty ∙ ap (λ l. l ∷ []) (is.is ∙ ap (λ r. heading_line r h.digest) row) in
       record {
         listed_so = read.listed_so;
         texts = read.texts;
@@ -312,15 +318,16 @@ module _ (listed : Bool) (lines : List (List ℕ)) (s : Join) (line : List ℕ) 
         reached = read.reached;
         rest = heading_line read.row h.digest ∷ [];
         part = (list, at.0, is.digest, ([], refl, row, refl));
-        is = lines-rest (heading_line read.row h.digest ∷ []) (ap (λ ls. ls ++ line ∷ []) empty
-            ∙ ap (λ l. l ∷ []) (is.is ∙ ap (λ r. heading_line r h.digest) row));
+        noted = noted-rest (heading_line read.row h.digest ∷ []) first;
+        is = lines-rest (heading_line read.row h.digest ∷ []) first;
       }
 
   -- a record alone
-  read-record : s.found ≡ None → listed ≡ false → (t : Told) → RecordIs line t
+  read-record : s.found ≡ None → listed ≡ false → (front : List ℕ) (t : Told)
+      → line ≡ closing_line s.text front → RecordIs front t
       → ends_before (numbers_in t.from) 0 (numbers_in t.until) ≡ true → is_same s t.counts.digest ≡ true
       → meets s t.from ≡ true → ReadAs listed (lines ++ line ∷ []) (recorded s t)
-  read-record none list t is ends same meet =
+  read-record none list front t closing is ends same meet =
       let at = meets-so s t.from meet in
       let row : numbers_in t.from ≡ read.row = numbers-met t.from s.met read.row read.short at.1 read.met in
       let empty : read.rest ≡ [] = subst (λ f. OpenWith f listed s read.row read.rest) none read.part in
@@ -358,9 +365,12 @@ module _ (listed : Bool) (lines : List (List ℕ)) (s : Join) (line : List ℕ) 
         );
         rest = [];
         part = refl;
-        is = lines-rest (last_line text ∷ []) (ap (λ ls. ls ++ line ∷ []) empty
-            ∙ ap (λ l. l ∷ []) (is.is ∙ ap (λ r. record_line r until is.branches t.counts.solutions is.steps
-            t.counts.digest) row))
+        noted = refl;
+        is = lines-rest (last_line false text ∷ []) (ap (λ ls. ls ++ line ∷ []) empty
+            ∙ ap (λ l. l ∷ []) (closing
+            ∙ ap (λ d. closing_line d front) (read.noted ∙ ap (text_after begun_digest) empty)
+            ∙ ap (closing_line begun_digest) (is.is ∙ ap (λ r. record_line r until is.branches t.counts.solutions
+            is.steps t.counts.digest) row)))
             ∙ ap (λ ls. texts_turned listed read.texts ++ ls) (alone listed text list)
             ∙ sym (append-nil (texts_turned listed read.texts ++ shape_lines listed text));
       }
@@ -371,10 +381,13 @@ module _ (listed : Bool) (lines : List (List ℕ)) (s : Join) (line : List ℕ) 
 
     -- a choice line
     read-choice : 0 < k → (c : ℕ) (r : Risen) → branch_number line ≡ Some c → risen_after s.rising c ≡ Some r
-        → ReadAs listed (lines ++ line ∷ []) (record s { rising = r })
+        → ReadAs listed (lines ++ line ∷ []) (record (line_noted s line) { rising = r })
     read-choice more c r e f =
         let o = open_so in
         let longer_so = longer-opened read.row o.3.0 s.rising r c line (omega (arith, more, o.3.1)) e free f o.3.2 in
+        let rest = heading_line read.row s.digest ∷ lines_turned longer_so.0 in
+        let next : read.rest ++ line ∷ [] ≡ rest =
+        ap (λ ls. ls ++ line ∷ []) o.3.3 ∙ ap (λ ls. heading_line read.row s.digest ∷ ls) (sym longer_so.3) in
         record {
           listed_so = read.listed_so;
           texts = read.texts;
@@ -384,17 +397,16 @@ module _ (listed : Bool) (lines : List (List ℕ)) (s : Join) (line : List ℕ) 
           short = read.short;
           met = read.met;
           reached = read.reached;
-          rest = heading_line read.row s.digest ∷ lines_turned longer_so.0;
-          part = subst (λ f. OpenWith f listed (record s { rising = r }) read.row (heading_line read.row s.digest
-              ∷ lines_turned longer_so.0)) (sym some)
+          rest = rest;
+          part = subst (λ f. OpenWith f listed (record (line_noted s line) { rising = r }) read.row rest) (sym some)
               (o.0, o.1, o.2, (longer_so.0, longer_so.1 ∙ o.3.1, longer_so.2, refl));
-          is = lines-rest (heading_line read.row s.digest ∷ lines_turned longer_so.0)
-              (ap (λ ls. ls ++ line ∷ []) o.3.3 ∙ ap (λ ls. heading_line read.row s.digest ∷ ls) (sym longer_so.3));
+          noted = noted-rest rest next;
+          is = lines-rest rest next;
         }
 
     -- the header of a solution
     read-header : is_header (k + 1) line ≡ true → well_at s.rising k ≡ true → (full : Bool) (total : ℕ)
-        → ReadAs listed (lines ++ line ∷ []) (record s {
+        → ReadAs listed (lines ++ line ∷ []) (record (line_noted s line) {
           found = Some (k + 1);
           rising = record s.rising { tied = Some 0 };
           full = full;
@@ -406,6 +418,10 @@ module _ (listed : Bool) (lines : List (List ℕ)) (s : Join) (line : List ℕ) 
         let begun : List ListedSolution = record { row = []; lines = [] } ∷ ss in
         let whole = whole-opened read.row ss s.rising k o.3.1 well o.3.2 in
         let count : k + 1 ≡ length ss + 1 = omega (arith, o.3.1) in
+        let rest = heading_line read.row s.digest ∷ lines_turned begun in
+        let next : read.rest ++ line ∷ [] ≡ rest =
+        ap (λ ls. ls ++ line ∷ []) o.3.3 ∙ ap (λ l. heading_line read.row s.digest ∷ lines_turned ss ++ l ∷ [])
+        (header-is (k + 1) line h ∙ ap header_line count) in
         record {
           listed_so = read.listed_so;
           texts = read.texts;
@@ -415,7 +431,7 @@ module _ (listed : Bool) (lines : List (List ℕ)) (s : Join) (line : List ℕ) 
           short = read.short;
           met = read.met;
           reached = read.reached;
-          rest = heading_line read.row s.digest ∷ lines_turned begun;
+          rest = rest;
           part = (
             o.0,
             o.1,
@@ -430,15 +446,14 @@ module _ (listed : Bool) (lines : List (List ℕ)) (s : Join) (line : List ℕ) 
               refl,
             ),
           );
-          is = lines-rest (heading_line read.row s.digest ∷ lines_turned begun)
-              (ap (λ ls. ls ++ line ∷ []) o.3.3 ∙ ap (λ l. heading_line read.row s.digest ∷ lines_turned ss ++ l ∷ [])
-              (header-is (k + 1) line h ∙ ap header_line count));
+          noted = noted-rest rest next;
+          is = lines-rest rest next;
         }
 
     -- the record of a listing
-    read-last : (t : Told) → RecordIs line t → is_last_record s k t ≡ true
-        → ReadAs listed (lines ++ line ∷ []) (closed s t.until)
-    read-last t is right =
+    read-last : (front : List ℕ) (t : Told) → line ≡ closing_line s.text front → RecordIs front t
+        → is_last_record s k t ≡ true → ReadAs listed (lines ++ line ∷ []) (closed s t.until)
+    read-last front t closing is right =
         let o = open_so in
         let ss = o.3.0 in
         let so = last-parts s k t right in
@@ -451,6 +466,11 @@ module _ (listed : Bool) (lines : List (List ℕ)) (s : Join) (line : List ℕ) 
           found = turn ss [];
           digest = s.digest;
         } in
+        let listing : read.rest ≡ listing_lines true text =
+        o.3.3 ∙ ap (λ ls. heading_line read.row s.digest ∷ ls) (lines-turn ss) in
+        let front_so : front ≡ front_line text =
+        is.is ∙ ap (λ r. record_line r until is.branches t.counts.solutions is.steps t.counts.digest) row
+        ∙ ap (record_line read.row until is.branches t.counts.solutions is.steps) so.1 in
         let all = whole-turned read.row s.rising.row ss [] until whole tt
         (ends-rise s.rising.row k ss until o.3.1 so.4 read.row whole) in
         let short : IsShort listed text = record {
@@ -480,11 +500,11 @@ module _ (listed : Bool) (lines : List (List ℕ)) (s : Join) (line : List ℕ) 
           );
           rest = [];
           part = refl;
+          noted = refl;
           is = lines-rest (shape_lines listed text)
-              (ap (λ ls. ls ++ line ∷ []) o.3.3 ∙ ap (λ l. (heading_line read.row s.digest ∷ lines_turned ss) ++ l ∷ [])
-              (is.is ∙ ap (λ r. record_line r until is.branches t.counts.solutions is.steps t.counts.digest) row
-              ∙ ap (record_line read.row until is.branches t.counts.solutions is.steps) so.1)
-              ∙ ap (λ ls. (heading_line read.row s.digest ∷ ls) ++ last_line text ∷ []) (lines-turn ss)
+              (ap (λ ls. ls ++ line ∷ []) listing ∙ ap (λ l. listing_lines true text ++ l ∷ [])
+              (closing ∙ ap (λ d. closing_line d front) (read.noted ∙ ap (text_after begun_digest) listing)
+              ∙ ap (closing_line (listing_digest true text)) front_so)
               ∙ ap (λ l. shape_lines l text) (sym o.0))
               ∙ sym (append-nil (texts_turned listed read.texts ++ shape_lines listed text));
         }
@@ -495,37 +515,41 @@ module _ (listed : Bool) (lines : List (List ℕ)) (s : Join) (line : List ℕ) 
     where
       by-went : (k : ℕ) → s.found ≡ Some k → Went q text s k line → ReadAs listed (lines ++ line ∷ []) q
       by-went k some (a_choice more e) =
-          let so = choice-went q text s line e in
+          let so = choice-went q text (line_noted s line) line e in
           subst (ReadAs listed (lines ++ line ∷ [])) so.4 (read-choice k some (grind
           (arith, nat_tests)) so.0 so.1 so.2 so.3)
       by-went k some (a_last e) =
-          let so = last-went q text s k (words_in line) e in
-          subst (ReadAs listed (lines ++ line ∷ [])) so.3 (read-last k some so.0 (record-so line so.0 so.1) so.2)
+          let at = digest-went q text s line (by_last s k) e in
+          let so = last-went q text s k (words_in at.0) at.2 in
+          subst (ReadAs listed (lines ++ line ∷ [])) so.3
+          (read-last k some at.0 so.0 (closing-is s.text line at.0 at.1) (record-so at.0 so.0 so.1) so.2)
       by-went k some (a_header is well few e) =
-          let so = header-went q text s (k + 1) e in
+          let so = header-went q text (line_noted s line) (k + 1) e in
           subst (ReadAs listed (lines ++ line ∷ [])) so.2 (read-header k some is well so.0 so.1)
 
       by-listed : (b : Bool) → s.found ≡ None → listed ≡ b
-          → Gives (if b then by_heading s (words_in line) else by_record s (words_in line)) (goes q) text
+          → Gives (if b then by_heading (line_noted s line) (words_in line) else by_digest s line (by_record s))
+          (goes q) text
           → ReadAs listed (lines ++ line ∷ []) q
       by-listed true none list e =
-          let so = heading-went q text s (words_in line) e in
+          let so = heading-went q text (line_noted s line) (words_in line) e in
           subst (ReadAs listed (lines ++ line ∷ [])) so.4
           (read-heading none list so.0 (heading-so line so.0 so.1) so.2 so.3)
       by-listed false none list e =
-          let so = record-went q text s (words_in line) e in
+          let at = digest-went q text s line (by_record s) e in
+          let so = record-went q text s (words_in at.0) at.2 in
           subst (ReadAs listed (lines ++ line ∷ [])) so.5
-          (read-record none list so.0 (record-so line so.0 so.1) so.2 so.3 so.4)
+          (read-record none list at.0 so.0 (closing-is s.text line at.0 at.1) (record-so at.0 so.0 so.1) so.2 so.3 so.4)
 
       by-found : (f : Option ℕ) → s.found ≡ f
           → Gives (elim f [
             | Some found ↦ inside s found line
-            | None ↦ if s.listed then by_heading s (words_in line) else by_record s (words_in line)
+            | None ↦ if s.listed then by_heading (line_noted s line) (words_in line) else by_digest s line (by_record s)
           ]) (goes q) text
           → ReadAs listed (lines ++ line ∷ []) q
       by-found None none e =
-          by-listed listed none refl (subst (λ b. Gives (if b then by_heading s (words_in line)
-          else by_record s (words_in line)) (goes q) text) read.listed_so e)
+          by-listed listed none refl (subst (λ b. Gives (if b then by_heading (line_noted s line) (words_in line)
+          else by_digest s line (by_record s)) (goes q) text) read.listed_so e)
       by-found (Some k) some e = by-went k some (inside-went q text s k line e)
 
 -- ---- lines from the beginning on
@@ -561,6 +585,7 @@ start-read listed = record {
   reached = (refl, refl);
   rest = [];
   part = refl;
+  noted = refl;
   is = refl;
 }
 

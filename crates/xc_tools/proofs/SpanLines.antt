@@ -10,6 +10,7 @@ use Rattle.std.proofs.lemmas.Bool.Decides.{nat_tests}
 use Rattle.std.proofs.lemmas.Fmt.{decimal_nonempty}
 use Rattle.std.proofs.lemmas.Grind.{common_steps}
 use Rattle.std.proofs.lemmas.List.{length-map}
+use Rattle.std.proofs.lemmas.List.Sums.{fold-append}
 use Rattle.std.proofs.lemmas.List.Elements.{recursion_from_All, All-from_recursion}
 use Rattle.xc_input.specs.Named.{Named, IsKnownUse, IsSound}
 use Rattle.xc_input.specs.Problem.{IsOption, IsPrimary, Puzzle, colour_in, uses_of}
@@ -25,9 +26,11 @@ use Rattle.xc_search.specs.Listing.{whole}
 use Rattle.xc_search.specs.Cover.{members}
 use Rattle.xc_search.proofs.RowLemmas.{is_within, listing_rises}
 use Rattle.xc_check.specs.ListingLines.{branch_number, words_in}
-use Rattle.xc_list.specs.SpanTexts.{most_counted, row_text, branches_text, end_at, heading_text, record_text}
+use Rattle.xc_list.specs.SpanTexts.{closed_text, most_counted, row_text, branches_text, end_at, heading_text}
+use Rattle.xc_list.specs.SpanTexts.{record_front}
 use Rattle.xc_list.specs.Output.{choice_text, member_text}
-use Rattle.xc_list.specs.Digests.{digest_of}
+use Rattle.xc_list.specs.Digests.{after_byte, after_text, begun_digest, digest_of, digits_of}
+use Rattle.xc_list.specs.declared.text_digest.TextDigest.{TextDigest}
 use Rattle.xc_list.specs.SearchedSpans.{AreSmall, IsSpan, SearchedSpan, members_of, text_of}
 use Rattle.xc_list.proofs.OutputLemmas.{header_line, before_last-last, body_words, plain-name, plain-use, AreCounted}
 use Rattle.xc_list.proofs.OutputLemmas.{member_counted, choice-ended, choice_line, IsPlain, no_feed-header}
@@ -40,10 +43,10 @@ use Rattle.xc_tools.specs.inner.SpanLines.{Risen, risen_after, ends_before, has_
 use Rattle.xc_tools.specs.inner.SpanLines.{by_choice, stand_after, begins_with, by_header, begins_at, by_heading}
 use Rattle.xc_tools.specs.inner.SpanLines.{by_last, by_line, by_record, closed, is_header, is_last_record, is_same}
 use Rattle.xc_tools.specs.inner.SpanLines.{meets, opened, recorded, step, wrote, Headed, Told, heading_of, numbers_in}
-use Rattle.xc_tools.specs.inner.SpanLines.{record_of}
+use Rattle.xc_tools.specs.inner.SpanLines.{by_digest, line_noted, record_of}
 use Rattle.xc_tools.proofs.SpanWords.{IsAfter, pushed, pushed-first, rises, AreShort, AreShortIf, heading_line}
 use Rattle.xc_tools.proofs.SpanWords.{heading-read, numbers-row, record_line, record-read, same, feed-heading}
-use Rattle.xc_tools.proofs.SpanWords.{feed-record}
+use Rattle.xc_tools.proofs.SpanWords.{closing-read, closing_line, feed-closing, feed-record}
 
 -- ======== What the lines of a span's text come to.
 
@@ -67,17 +70,31 @@ pub runs-append : {a b c : Stand} {xs ys : List (List ℕ)} {s t : List ℕ} →
 runs-append {a = a} {b = b} {c = c} {xs = xs} {ys = ys} {s = s} {t = t} p q =
     grind (arith, after-append, wrote-append)
 
+-- the same where the state is told in another way
+runs-to : {a b c : Stand} {ls : List (List ℕ)} {s : List ℕ} → Runs a ls b s → b ≡ c → Runs a ls c s
+runs-to p e = record { stands = p.stands ∙ e; says = p.says }
+
 pub runs-line : (s : Join) (line : List ℕ) (new : Stand) (text : List ℕ) → by_line s line ≡ (new, text)
     → Runs (goes s) (line ∷ []) new text
 runs-line s line new text e = grind (arith, append-nil, by_line)
 
 -- ---- lines of solutions
 
+-- the digest of a text with these lines
+abbrev pub text_after : TextDigest → List (List ℕ) → TextDigest
+text_after text lines = after_text text (ended lines)
+
+pub text-append : (text : TextDigest) (xs ys : List (List ℕ))
+    → text_after (text_after text xs) ys ≡ text_after text (xs ++ ys)
+text-append text xs ys =
+    sym (ap (after_text text) (ended-append xs ys) ∙ fold-append after_byte text (ended xs) (ended ys))
+
 -- inside a listing of a problem that begins at this row, of which so many solutions were read, behind so many in all
-abbrev pub mid : List ℕ → List ℕ → ℕ → ℕ → Risen → Join
-mid digest row k n r = record {
+abbrev pub mid : List ℕ → List ℕ → ℕ → ℕ → Risen → TextDigest → Join
+mid digest row k n r text = record {
   listed = true;
   digest = digest;
+  text = text;
   met = row_text row;
   finished = false;
   found = Some k;
@@ -120,29 +137,35 @@ abbrev pub lines_text : List (List ℕ) → List ℕ
 lines_text lines = flat_map (λ line. line ++ codes "\n") lines
 
 module _ (digest row : List ℕ) (k n : ℕ) (some : 0 < k) where
-  choice-step : (line : List ℕ) (c : ℕ) (r q : Risen) → branch_number line ≡ Some c → risen_after r c ≡ Some q
-      → by_line (mid digest row k n r) line ≡ (goes (mid digest row k n q), shown n (line ++ codes "\n"))
-  choice-step line c r q e f =
+  choice-step : (line : List ℕ) (c : ℕ) (r q : Risen) (text : TextDigest) → branch_number line ≡ Some c
+      → risen_after r c ≡ Some q
+      → by_line (mid digest row k n r text) line
+      ≡ (goes (mid digest row k n q (text_after text (line ∷ []))), shown n (line ++ codes "\n"))
+  choice-step line c r q text e f =
       let begins = choice-spaced line c e in
       let more : nat_lt 0 k ≡ true = grind (arith, nat_tests) in
-      rw (begins, more) (choice-read-so (mid digest row k n r) line c q e f)
+      rw (begins, more) (choice-read-so (mid digest row k n r (text_after text (line ∷ []))) line c q e f)
 
-  pub run-choices : (lines : List (List ℕ)) (ks : List ℕ) (r q : Risen) → map branch_number lines ≡ map Some ks
-      → pushed r ks ≡ Some q
-      → Runs (goes (mid digest row k n r)) lines (goes (mid digest row k n q)) (shown n (lines_text lines))
-  run-choices [] [] r q e f =
-      let is : r ≡ q = cc f in record { stands = ap (λ r. goes (mid digest row k n r)) is; says = none n }
+  pub run-choices : (lines : List (List ℕ)) (ks : List ℕ) (r q : Risen) (text : TextDigest)
+      → map branch_number lines ≡ map Some ks → pushed r ks ≡ Some q
+      → Runs (goes (mid digest row k n r text)) lines (goes (mid digest row k n q (text_after text lines)))
+      (shown n (lines_text lines))
+  run-choices [] [] r q text e f =
+      let is : r ≡ q = cc f in record { stands = ap (λ r. goes (mid digest row k n r text)) is; says = none n }
     where
       none : (n : ℕ) → [] ≡ shown n []
       none n = grind (arith, nat_tests)
-  run-choices [] (c ∷ ks) r q e f = absurd (cc e)
-  run-choices (line ∷ lines) [] r q e f = absurd (cc e)
-  run-choices (line ∷ lines) (c ∷ ks) r q e f =
+  run-choices [] (c ∷ ks) r q text e f = absurd (cc e)
+  run-choices (line ∷ lines) [] r q text e f = absurd (cc e)
+  run-choices (line ∷ lines) (c ∷ ks) r q text e f =
       let first : branch_number line ≡ Some c = cc e in
       let others : map branch_number lines ≡ map Some ks = cc e in
       let taken = pushed-first r q c ks f in
-      runs-is (runs-append (runs-line (mid digest row k n r) line _ _ (choice-step line c r taken.0 first taken.1))
-      (run-choices lines ks taken.0 q others taken.2)) (shown-append n (line ++ codes "\n") (lines_text lines))
+      runs-to (runs-is (runs-append (runs-line (mid digest row k n r text) line _ _
+      (choice-step line c r taken.0 text first taken.1))
+      (run-choices lines ks taken.0 q (text_after text (line ∷ [])) others taken.2))
+      (shown-append n (line ++ codes "\n") (lines_text lines)))
+      (ap (λ t. goes (mid digest row k n q t)) (text-append text (line ∷ []) lines))
 
 not_spaced : (ds rest : List ℕ) → list_all is_ascii_digit ds ≡ true → 0 < length ds
     → (begins_with 32 (ds ++ rest) ≡ false) × (begins_with 102 (ds ++ rest) ≡ false)
@@ -160,13 +183,13 @@ least : (n : ℕ) → (n < most_counted) ⊎ (most_counted ≤ n)
 least n = grind (arith, nat_tests)
 
 module _ (digest row : List ℕ) where
-  by_header-mid : (k n : ℕ) (r : Risen) → by_header (mid digest row k n r) (k + 1)
+  by_header-mid : (k n : ℕ) (r : Risen) (text : TextDigest) → by_header (mid digest row k n r text) (k + 1)
       ≡ (
-        goes (mid digest row (k + 1) (n + 1) (record r { tied = Some 0 })),
+        goes (mid digest row (k + 1) (n + 1) (record r { tied = Some 0 }) text),
         shown (n + 1)
             (decimal (n + 1) ++ codes ":\n"),
       )
-  by_header-mid k n r = elim (least n) [
+  by_header-mid k n r text = elim (least n) [
     | inl h ↦
         let total : min most_counted n ≡ n = omega (arith, h) in
         let next : min most_counted (n + 1) ≡ n + 1 = omega (arith, h) in
@@ -181,20 +204,23 @@ module _ (digest row : List ℕ) where
         rw (total, next, high) refl
   ]
 
-  header-step : (k n : ℕ) (r : Risen) → k < most_counted → well_at r k ≡ true
-      → by_line (mid digest row k n r) (header_line (k + 1)) ≡ by_header (mid digest row k n r) (k + 1)
-  header-step k n r h well =
+  header-step : (k n : ℕ) (r : Risen) (text : TextDigest) → k < most_counted → well_at r k ≡ true
+      → by_line (mid digest row k n r text) (header_line (k + 1))
+      ≡ by_header (mid digest row k n r (text_after text (header_line (k + 1) ∷ []))) (k + 1)
+  header-step k n r text h well =
       let apart = not_spaced (decimal (k + 1)) (codes ":") (digits (k + 1) (omega (arith, h)))
       (grind (arith, decimal_nonempty)) in
       let few : nat_lt k most_counted ≡ true = grind (arith, nat_tests) in
       rw (apart.0, apart.1, few, header-yes (k + 1) (omega (arith, h)), well) refl
 
-  run-header : (k n : ℕ) (r : Risen) → k < most_counted → well_at r k ≡ true
-      → Runs (goes (mid digest row k n r)) (header_line (k + 1) ∷ [])
-      (goes (mid digest row (k + 1) (n + 1) (record r { tied = Some 0 })))
+  run-header : (k n : ℕ) (r : Risen) (text : TextDigest) → k < most_counted → well_at r k ≡ true
+      → Runs (goes (mid digest row k n r text)) (header_line (k + 1) ∷ [])
+      (goes (mid digest row (k + 1) (n + 1) (record r { tied = Some 0 })
+      (text_after text (header_line (k + 1) ∷ []))))
       (shown (n + 1) (decimal (n + 1) ++ codes ":\n"))
-  run-header k n r h well =
-      runs-line (mid digest row k n r) (header_line (k + 1)) _ _ (header-step k n r h well ∙ by_header-mid k n r)
+  run-header k n r text h well =
+      runs-line (mid digest row k n r text) (header_line (k + 1)) _ _ (header-step k n r text h well
+      ∙ by_header-mid k n r (text_after text (header_line (k + 1) ∷ [])))
 
 -- the lines of a numbered solution
 abbrev pub solution_lines : ℕ × ListedSolution → List (List ℕ)
@@ -227,35 +253,38 @@ told_from n (s ∷ ss) = shown (n + 1) (solution_text (n + 1, s)) ++ told_from (
 
 module _ (digest row : List ℕ) where
   -- lines lead to so many solutions, the last of which ends well
-  pub record Lists (k n : ℕ) (r : Risen) (lines : List (List ℕ)) (i j : ℕ) (text : List ℕ) : Type 0 where
-    pub rising : Risen
-    pub run : Runs (goes (mid digest row k n r)) lines (goes (mid digest row i j rising)) text
-    pub well : well_at rising i ≡ true
+  pub record Lists (k n : ℕ) (r : Risen) (d : TextDigest) (lines : List (List ℕ)) (i j : ℕ) (text : List ℕ) : Type 0
+    where
+      pub rising : Risen
+      pub run : Runs (goes (mid digest row k n r d)) lines (goes (mid digest row i j rising (text_after d lines))) text
+      pub well : well_at rising i ≡ true
 
-  run-solution : (k n : ℕ) (r : Risen) (s : ListedSolution) → k < most_counted → well_at r k ≡ true → IsSolution s
-      → IsAfter (k == 0) r.row s.row
-      → (l : Lists k n r (solution_lines (k + 1, s)) (k + 1) (n + 1) (shown (n + 1) (solution_text (n + 1, s))))
+  run-solution : (k n : ℕ) (r : Risen) (d : TextDigest) (s : ListedSolution) → k < most_counted → well_at r k ≡ true
+      → IsSolution s → IsAfter (k == 0) r.row s.row
+      → (l : Lists k n r d (solution_lines (k + 1, s)) (k + 1) (n + 1) (shown (n + 1) (solution_text (n + 1, s))))
       × (l.rising.row ≡ s.row)
-  run-solution k n r s h well is behind =
+  run-solution k n r d s h well is behind =
       let up = rises (k == 0) r.row s.row behind in
       let none : (k + 1 == 0) ≡ false = grind (arith, nat_tests) in
       let one : (k + 1 == 1) ≡ (k == 0) = grind (arith, nat_tests) in
       let ends : well_at up.0 (k + 1) ≡ true = rw (none, one) up.3 in
-      let run = runs-is (runs-append (run-header digest row k n r h well)
-      (run-choices digest row (k + 1) (n + 1) (omega arith) s.lines s.row _ up.0 is.choices up.1))
-      (shown-append (n + 1) (decimal (n + 1) ++ codes ":\n") (lines_text s.lines)) in
+      let header = header_line (k + 1) ∷ [] in
+      let run = runs-to (runs-is (runs-append (run-header digest row k n r d h well)
+      (run-choices digest row (k + 1) (n + 1) (omega arith) s.lines s.row _ up.0 (text_after d header) is.choices up.1))
+      (shown-append (n + 1) (decimal (n + 1) ++ codes ":\n") (lines_text s.lines)))
+      (ap (λ t. goes (mid digest row (k + 1) (n + 1) up.0 t)) (text-append d header s.lines)) in
       (record { rising = up.0; run = run; well = ends }, up.2)
 
-  pub run-solutions : (k n i j : ℕ) (r : Risen) (ss : List ListedSolution) (until : List ℕ)
+  pub run-solutions : (k n i j : ℕ) (r : Risen) (d : TextDigest) (ss : List ListedSolution) (until : List ℕ)
       → k + length ss ≤ most_counted
       → i ≡ k + length ss → j ≡ n + length ss → well_at r k ≡ true → AllByRecursion IsSolution ss
       → Follow (k == 0) r.row (map (λ s. s.row) ss) until
-      → (l : Lists k n r (flat_map solution_lines (enumerate_from (k + 1) ss)) i j (told_from n ss))
+      → (l : Lists k n r d (flat_map solution_lines (enumerate_from (k + 1) ss)) i j (told_from n ss))
       × (ends_before l.rising.row i until ≡ true)
-  run-solutions k n i j r [] until h e f well all follow =
+  run-solutions k n i j r d [] until h e f well all follow =
       let i_is : k ≡ i = omega (arith, e) in
       let j_is : n ≡ j = omega (arith, f) in
-      let same : goes (mid digest row k n r) ≡ goes (mid digest row i j r) = cc (i_is, j_is) in (
+      let same : goes (mid digest row k n r d) ≡ goes (mid digest row i j r d) = cc (i_is, j_is) in (
         record {
           rising = r;
           run = record { stands = same; says = refl };
@@ -263,17 +292,19 @@ module _ (digest row : List ℕ) where
         },
         rw (← i_is) (follow-none k r.row until follow),
       )
-  run-solutions k n i j r (s ∷ ss) until h e f well all follow =
+  run-solutions k n i j r d (s ∷ ss) until h e f well all follow =
       let parts = follow-first (k == 0) r.row s.row until (map (λ s. s.row) ss) follow in
-      let one = run-solution k n r s (omega (arith, h)) well all.0 parts.0 in
+      let one = run-solution k n r d s (omega (arith, h)) well all.0 parts.0 in
       let none : (k + 1 == 0) ≡ false = grind (arith, nat_tests) in
       let next : Follow (k + 1 == 0) one.0.rising.row (map (λ s. s.row) ss) until =
       rw (none, one.1) parts.1 in
-      let more = run-solutions (k + 1) (n + 1) i j one.0.rising ss until (omega (arith, h)) (omega (arith, e))
-      (omega (arith, f)) one.0.well all.1 next in (
+      let first = solution_lines (k + 1, s) in
+      let more = run-solutions (k + 1) (n + 1) i j one.0.rising (text_after d first) ss until (omega (arith, h))
+      (omega (arith, e)) (omega (arith, f)) one.0.well all.1 next in (
         record {
           rising = more.0.rising;
-          run = runs-append one.0.run more.0.run;
+          run = runs-to (runs-append one.0.run more.0.run) (ap (λ t. goes (mid digest row i j more.0.rising t))
+              (text-append d first (flat_map solution_lines (enumerate_from (k + 1 + 1) ss))));
           well = more.0.well;
         },
         more.1,
@@ -286,6 +317,7 @@ abbrev pub rest_at : Bool → List ℕ → Bool → List ℕ → ℕ → Risen �
 rest_at listed digest finished row n r = record {
   listed = listed;
   digest = digest;
+  text = begun_digest;
   met = row_text row;
   finished = finished;
   found = None;
@@ -305,6 +337,12 @@ heading-read-so s words h e =
       | None ↦ (faulty, [])
       | Some h ↦ begins_at s h.digest h.row (goes (opened s h))
     ]) e
+
+pub closing-read-so : (s : Join) (front : List ℕ) (next : List (List ℕ) → Stand × List ℕ)
+    → by_digest s (closing_line s.text front) next ≡ next (words_in front)
+closing-read-so s front next =
+    ap (λ (o : Option (List ℕ)). elim o [ None ↦ (faulty, []) | Some front ↦ next (words_in front) ])
+    (closing-read s.text front)
 
 pub last-read-so : (s : Join) (k : ℕ) (words : List (List ℕ)) (t : Told) → record_of words ≡ Some t
     → by_last s k words ≡ (if is_last_record s k t then (goes (closed s t.until), []) else (faulty, []))
@@ -345,37 +383,42 @@ begun_at row r = record r { row = row }
 module _ (old digest row : List ℕ) (n : ℕ) (r : Risen) (short : AreShort row) (d : is_digest digest ≡ true)
     (fit : fits old digest ≡ true) where
   pub run-heading : Runs (goes (rest_at true old false row n r)) (heading_line row digest ∷ [])
-      (goes (mid digest row 0 n (begun_at row r))) []
+      (goes (mid digest row 0 n (begun_at row r) (text_after begun_digest (heading_line row digest ∷ [])))) []
   run-heading =
-      let s = rest_at true old false row n r in
+      let line = heading_line row digest in
+      let text = text_after begun_digest (line ∷ []) in
+      let s = line_noted (rest_at true old false row n r) line in
       let h : Headed = record { row = row_text row; digest = digest } in
-      runs-line s (heading_line row digest) (goes (mid digest row 0 n (begun_at row r))) []
-      (heading-read-so s (words_in (heading_line row digest)) h (heading-read row digest short d)
+      runs-line (rest_at true old false row n r) line (goes (mid digest row 0 n (begun_at row r) text)) []
+      (heading-read-so s (words_in line) h (heading-read row digest short d)
       ∙ begins-well s digest (row_text row) (goes (opened s h)) fit (meets-rest true old row n r)
-      ∙ ap (λ row'. (goes (mid digest row 0 n (begun_at row' r)), [])) (numbers-row row short))
+      ∙ ap (λ row'. (goes (mid digest row 0 n (begun_at row' r) text), [])) (numbers-row row short))
 
 module _ (digest row until : List ℕ) (branches : Option (List ℕ)) (k steps : ℕ) (f : AreShort row) (u : AreShort until)
     (b : AreShortIf branches) (h : k < 2 ^ 64) (l : steps < 2 ^ 64) (d : is_digest digest ≡ true) where
   told : Told
   told = record { from = row_text row; until = row_text until; counts = record { solutions = k; digest = digest } }
 
-  run-last : (n : ℕ) (r : Risen) → well_at r k ≡ true → ends_before r.row k until ≡ true
-      → Runs (goes (mid digest row k n r)) (record_line row until branches k steps digest ∷ [])
+  run-last : (n : ℕ) (r : Risen) (text : TextDigest) → well_at r k ≡ true → ends_before r.row k until ≡ true
+      → Runs (goes (mid digest row k n r text))
+      (closing_line text (record_line row until branches k steps digest) ∷ [])
       (goes (rest_at true digest (is_last until) until n r)) []
   unfolding told
-  run-last n r well ends =
-      let s = mid digest row k n r in
+  run-last n r text well ends =
+      let s = mid digest row k n r text in
       let line = record_line row until branches k steps digest in
       let number : (k == k) ≡ true = grind (arith, nat_tests) in
       let right : is_last_record s k told ≡ true =
       rw (same (row_text row), same digest, number, well, numbers-row until u) ends in
-      runs-line s line (goes (rest_at true digest (is_last until) until n r)) []
-      (last-read-so s k (words_in line) told (record-read row until branches k steps digest f u b h l d)
+      runs-line s (closing_line text line) (goes (rest_at true digest (is_last until) until n r)) []
+      (closing-read-so s line (by_last s k) ∙ last-read-so s k (words_in line) told
+      (record-read row until branches k steps digest f u b h l d)
       ∙ ap (λ (x : Bool). if x then (goes (closed s (row_text until)), []) else (faulty, [])) right)
 
   run-record : (old : List ℕ) (n j : ℕ) (r : Risen) → fits old digest ≡ true → ends_before row 0 until ≡ true
       → j ≡ n + k
-      → Runs (goes (rest_at false old false row n r)) (record_line row until branches k steps digest ∷ [])
+      → Runs (goes (rest_at false old false row n r))
+      (closing_line begun_digest (record_line row until branches k steps digest) ∷ [])
       (goes (rest_at false digest (is_last until) until j (begun_at row r))) []
   unfolding told
   run-record old n j r fit ends e =
@@ -384,8 +427,10 @@ module _ (digest row until : List ℕ) (branches : Option (List ℕ)) (k steps :
       let total : min most_counted (min most_counted n + k) ≡ min most_counted j = omega (arith, e) in
       let right : ends_before (numbers_in (row_text row)) 0 (numbers_in (row_text until)) ≡ true =
       rw (numbers-row row f, numbers-row until u) ends in
-      runs-line s line (goes (rest_at false digest (is_last until) until j (begun_at row r))) []
-      (record-read-so s (words_in line) told (record-read row until branches k steps digest f u b h l d)
+      runs-line s (closing_line begun_digest line)
+      (goes (rest_at false digest (is_last until) until j (begun_at row r))) []
+      (closing-read-so s line (by_record s) ∙ record-read-so s (words_in line) told
+      (record-read row until branches k steps digest f u b h l d)
       ∙ ap (λ (x : Bool). if x then begins_at s digest (row_text row) (goes (recorded s told)) else (faulty, [])) right
       ∙ begins-well s digest (row_text row) (goes (recorded s told)) fit (meets-rest false old row n r)
       ∙ ap (λ row'. (
@@ -404,11 +449,19 @@ abbrev pub listing_lines : Bool → SpanText → List (List ℕ)
 listing_lines true t = heading_line t.span.from t.digest ∷ flat_map solution_lines (enumerate_from 1 t.found)
 listing_lines false t = []
 
-abbrev pub last_line : SpanText → List ℕ
-last_line t = record_line t.span.from t.span.until t.span.branches t.count t.span.steps t.digest
+-- its record, up to the digest of the text
+abbrev pub front_line : SpanText → List ℕ
+front_line t = record_line t.span.from t.span.until t.span.branches t.count t.span.steps t.digest
+
+-- the digest of what is before that
+abbrev pub listing_digest : Bool → SpanText → TextDigest
+listing_digest listed t = text_after begun_digest (listing_lines listed t)
+
+abbrev pub last_line : Bool → SpanText → List ℕ
+last_line listed t = closing_line (listing_digest listed t) (front_line t)
 
 abbrev pub shape_lines : Bool → SpanText → List (List ℕ)
-shape_lines listed t = listing_lines listed t ++ last_line t ∷ []
+shape_lines listed t = listing_lines listed t ++ last_line listed t ∷ []
 
 -- what is listed of solutions behind so many others
 abbrev pub told_part : Bool → ℕ → List ListedSolution → List ℕ
@@ -439,14 +492,18 @@ pub run-shape : (listed : Bool) (t : SpanText) (old : List ℕ) (n j : ℕ) (r :
     (told_part listed n t.found)
 run-shape true t old n j r is fit e =
     let count : t.count ≡ length t.found = sym is.counted in
-    let all = run-solutions t.digest t.span.from 0 n t.count j (begun_at t.span.from r) t.found t.span.until
+    let heading = heading_line t.span.from t.digest ∷ [] in
+    let all = run-solutions t.digest t.span.from 0 n t.count j (begun_at t.span.from r)
+    (text_after begun_digest heading) t.found t.span.until
     (omega (arith, is.few, count)) (omega (arith, count)) (omega (arith, e, count)) refl is.each is.rows in
     let last = run-last t.digest t.span.from t.span.until t.span.branches t.count t.span.steps is.from is.until
-    is.branches is.few is.steps is.digest j all.0.rising all.0.well all.1 in
+    is.branches is.few is.steps is.digest j all.0.rising (listing_digest true t) all.0.well all.1 in
     record {
       rising = all.0.rising;
-      run = runs-is (runs-append (runs-append (run-heading old t.digest t.span.from n r is.from is.digest fit)
-          all.0.run) last) (append-nil (told_from n t.found));
+      run = runs-is (runs-append (runs-to (runs-append (run-heading old t.digest t.span.from n r is.from is.digest fit)
+          all.0.run) (ap (λ d. goes (mid t.digest t.span.from t.count j all.0.rising d))
+          (text-append begun_digest heading (flat_map solution_lines (enumerate_from 1 t.found))))) last)
+          (append-nil (told_from n t.found));
     }
 run-shape false t old n j r is fit e =
     let none : LieIn t.span.from [] t.span.until =
@@ -475,22 +532,44 @@ solutions-ended (ns ∷ nss) = grind (arith, common_steps, solution-ended, ended
 heading-ended : (from digest : List ℕ) → heading_text from digest ≡ heading_line from digest ++ 10 ∷ []
 heading-ended from digest = simp append_assoc
 
--- ten parts, and one that ends them
-ten-parts : (a f b u c d n e s p r : List ℕ) → a ++ f ++ b ++ u ++ c ++ d ++ n ++ e ++ s ++ (p ++ r)
-    ≡ (a ++ (f ++ (b ++ (u ++ (c ++ (d ++ (n ++ (e ++ (s ++ p))))))))) ++ r
-ten-parts a f b u c d n e s p r = simp append_assoc
+-- a text whose last line has the digest of what is before that
+closed-ended : (front last : List ℕ)
+    → closed_text (front ++ last) ≡ front ++ (closing_line (after_text begun_digest front) last ++ 10 ∷ [])
+closed-ended front last =
+    ap (λ d. front ++ last ++ codes " text " ++ digits_of d ++ codes "\n")
+    (fold-append after_byte begun_digest front last)
+    ∙ parted front last (codes " text ") (digits_of (after_text (after_text begun_digest front) last)) (codes "\n")
+  where
+    parted : (a b c d e : List ℕ) → a ++ b ++ c ++ d ++ e ≡ a ++ ((b ++ (c ++ d)) ++ e)
+    parted a b c d e = simp append_assoc
 
-record-ended : (from until : List ℕ) (branches : Option (List ℕ)) (n steps : ℕ) (digest : List ℕ)
-    → record_text from until branches n steps digest ≡ record_line from until branches n steps digest ++ 10 ∷ []
-record-ended from until branches n steps digest =
-    ten-parts (codes "from ") (row_text from) (codes " until ") (row_text until) (branches_text branches)
-    (codes " solutions ") (decimal n) (codes " steps ") (decimal steps) (codes " problem " ++ digest) (codes "\n")
+listing-ended : (t : SpanText)
+    → heading_text t.span.from t.digest ++ flat_map solution_text (enumerate_from 1 t.found)
+    ≡ ended (listing_lines true t)
+listing-ended t = grind (arith, heading-ended, ended-append, solutions-ended (enumerate_from 1 t.found), append_assoc)
+
+shape-ended : (listed : Bool) (t : SpanText)
+    → closed_text (ended (listing_lines listed t) ++ front_line t) ≡ ended (shape_lines listed t)
+shape-ended listed t =
+    closed-ended (ended (listing_lines listed t)) (front_line t)
+    ∙ sym (ended-append (listing_lines listed t) (last_line listed t ∷ []))
+
+front-parts : (a f b u c d n e s p : List ℕ) → a ++ f ++ b ++ u ++ c ++ d ++ n ++ e ++ s ++ p
+    ≡ a ++ (f ++ (b ++ (u ++ (c ++ (d ++ (n ++ (e ++ (s ++ p))))))))
+front-parts a f b u c d n e s p = simp append_assoc
+
+front-is : (t : SpanText)
+    → record_front t.span.from t.span.until t.span.branches t.count t.span.steps t.digest ≡ front_line t
+front-is t =
+    front-parts (codes "from ") (row_text t.span.from) (codes " until ") (row_text t.span.until)
+    (branches_text t.span.branches) (codes " solutions ") (decimal t.count) (codes " steps ") (decimal t.span.steps)
+    (codes " problem " ++ t.digest)
 
 pub text-ended : (listed : Bool) (t : SpanText) → bytes_of listed t ≡ ended (shape_lines listed t)
 text-ended true t =
-    grind (arith, heading-ended, record-ended, ended-append, solutions-ended (enumerate_from 1 t.found), append_assoc)
-text-ended false t =
-    record-ended t.span.from t.span.until t.span.branches t.count t.span.steps t.digest
+    ap (λ f. closed_text ((heading_text t.span.from t.digest ++ flat_map solution_text (enumerate_from 1 t.found))
+    ++ f)) (front-is t) ∙ ap (λ l. closed_text (l ++ front_line t)) (listing-ended t) ∙ shape-ended true t
+text-ended false t = ap closed_text (front-is t) ∙ shape-ended false t
 
 pub texts-ended : (listed : Bool) (ts : List SpanText)
     → flat_map (bytes_of listed) ts ≡ ended (flat_map (shape_lines listed) ts)
@@ -517,17 +596,17 @@ whole-solutions k (s ∷ ss) h all =
 
 pub whole-shape : (listed : Bool) (t : SpanText) → IsShort listed t → AreWhole (shape_lines listed t)
 whole-shape true t is =
-    whole-append (listing_lines true t) (last_line t ∷ []) (
+    whole-append (listing_lines true t) (last_line true t ∷ []) (
       feed-heading t.span.from t.digest is.from is.digest,
       whole-solutions 1 t.found (omega (arith, is.few, is.counted)) is.each,
     ) (
-      feed-record t.span.from t.span.until t.span.branches t.count t.span.steps t.digest is.from is.until is.branches
-          is.few is.steps is.digest,
+      feed-closing (listing_digest true t) (front_line t) (feed-record t.span.from t.span.until t.span.branches t.count
+          t.span.steps t.digest is.from is.until is.branches is.few is.steps is.digest),
       tt,
     )
 whole-shape false t is = (
-  feed-record t.span.from t.span.until t.span.branches t.count t.span.steps t.digest is.from is.until is.branches
-      is.few is.steps is.digest,
+  feed-closing begun_digest (front_line t) (feed-record t.span.from t.span.until t.span.branches t.count
+      t.span.steps t.digest is.from is.until is.branches is.few is.steps is.digest),
   tt,
 )
 
@@ -604,8 +683,8 @@ members-solutions a k (m ∷ ms) =
 
 pub text-shape : (a : Named) (listed : Bool) (s : SearchedSpan) → text_of a listed s
     ≡ bytes_of listed (shape_of a listed s)
-text-shape a true s = ap (λ t. heading_text s.from (digest_of a) ++ t
-    ++ record_text s.from s.until s.branches (length (members_of a s)) s.steps (digest_of a))
+text-shape a true s = ap (λ t. closed_text ((heading_text s.from (digest_of a) ++ t)
+    ++ record_front s.from s.until s.branches (length (members_of a s)) s.steps (digest_of a)))
     (members-solutions a 1 (members_of a s))
 text-shape a false s = refl
 

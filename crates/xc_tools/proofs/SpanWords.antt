@@ -2,10 +2,12 @@
 use Rattle.std.proofs.Common.{◌≡◌, ℕ, ◌+◌, ◌<◌, inl, inr, Bool, true, false, List, [], ◌∷◌, ◌++◌, Option, None, Some}
 use Rattle.std.proofs.Common.{length, refl, sym, ap, ◌∙◌, arith, append_assoc, append-nil, length-append, nat_lt, take}
 use Rattle.std.proofs.Common.{◌^◌, flat_map, map}
-use Rattle.std.specs.Prelude.{◌==◌, slice_get, codes, decimal, nat_eq, fold, ◌*◌, ◌-◌, min}
+use Rattle.std.specs.Prelude.{◌==◌, ◌&&◌, not, slice_get, codes, decimal, nat_eq, nat_le, fold, ◌*◌, ◌-◌, min}
+use Rattle.std.specs.Prelude.{drop, if◌then◌else◌}
 use Rattle.std.proofs.lemmas.Bool.Decides.{nat_tests}
 use Rattle.std.proofs.lemmas.Option.{slice_get_past}
-use Rattle.std.proofs.Math.Seq.{take-append_seam}
+use Rattle.std.proofs.Math.Seq.{take-append_seam, drop-append_seam}
+use Rattle.std.proofs.lemmas.List.{take-append-drop}
 use Rattle.std.specs.Char.{is_ascii_digit}
 use Rattle.std.specs.List.{AllByRecursion, list_all, list_any, slice_split}
 use Rattle.std.specs.Str.{byte, bytes_eq}
@@ -22,10 +24,26 @@ use Rattle.xc_input.proofs.FaultLemmas.{not_false}
 use Rattle.xc_search.specs.Spans.{precedes}
 use Rattle.xc_search.proofs.RowLemmas.{before_first, less_before, less_behind, same_beginning}
 use Rattle.xc_check.specs.ListingLines.{words_in}
+use Rattle.xc_list.specs.Digests.{after_text, digits_of}
 use Rattle.xc_list.specs.SpanTexts.{row_text, branches_text, most_counted}
+use Rattle.xc_list.proofs.Writing.{digits-digits, digits-length}
+use Rattle.xc_list.specs.declared.text_digest.TextDigest.{TextDigest}
 use Rattle.xc_tools.specs.inner.SpanLines.{Risen, risen_after, has_risen, heading_of, is_number, is_row, numbers_in}
-use Rattle.xc_tools.specs.inner.SpanLines.{record_of, saturating_number}
+use Rattle.xc_tools.specs.inner.SpanLines.{before_digest, record_of, saturating_number}
 use Rattle.xc_tools.specs.SpanShapes.{is_digest, is_hex}
+
+-- ---- tests
+
+pub both : (a b : Bool) → (a && b) ≡ true → (a ≡ true) × (b ≡ true)
+both true b h = (refl, h)
+both false b h = absurd (cc h)
+
+pub some-if : {X : Type 0} (b : Bool) (x y : X) → (if b then Some x else None) ≡ Some y → (b ≡ true) × (x ≡ y)
+some-if true x y h = (refl, cc h)
+some-if false x y h = absurd (cc h)
+
+pub is-word : (a b : List ℕ) → bytes_eq a b ≡ true → a ≡ b
+is-word a b h = (bytes_eq-Decides a b).0 h
 
 -- ======== The row of a solution whose numbers are taken one by one.
 
@@ -473,6 +491,54 @@ feed-record from until branches n steps digest f u b h k d =
     (lacks-append 10 (branches_text branches) _ (feed-branches branches b)
     (lacks-append 10 (decimal n) _ (feed-decimal n h)
     (lacks-append 10 (decimal steps) _ (feed-decimal steps k) (feed-digest digest d)))))
+
+-- ---- the digest of a text
+
+free-digits : (d : TextDigest) → has 10 (digits_of d) ≡ false
+free-digits d = digest-lacks (λ b. nat_eq b 10) hex-feed (digits_of d) (digits-digits d)
+
+-- the last line of a text: a front, and the digest of the text up to there
+abbrev pub closing_line : TextDigest → List ℕ → List ℕ
+closing_line text front = front ++ (codes " text " ++ digits_of (after_text text front))
+
+pub feed-closing : (text : TextDigest) (front : List ℕ) → has 10 front ≡ false
+    → has 10 (closing_line text front) ≡ false
+feed-closing text front free =
+    lacks-append 10 front (codes " text " ++ digits_of (after_text text front)) free
+    (free-digits (after_text text front))
+
+pub closing-read : (text : TextDigest) (front : List ℕ) → before_digest text (closing_line text front) ≡ Some front
+closing-read text front =
+    let digits = digits_of (after_text text front) in
+    let last = codes " text " ++ digits in
+    let name : length (codes " text ") ≡ 6 = refl in
+    let long : length (front ++ last) ≡ length front + 22 = omega (
+      arith,
+      length-append front last,
+      length-append (codes " text ") digits,
+      digits-length (after_text text front),
+      name,
+    ) in
+    let most : nat_le 22 (length (front ++ last)) ≡ true = grind (arith, nat_tests) in
+    let at : length (front ++ last) - 22 ≡ length front = omega (arith, long) in
+    rw (most, at, take-append_seam front last, drop-append_seam front last, same digits) refl
+
+pub closing-is : (text : TextDigest) (line front : List ℕ) → before_digest text line ≡ Some front
+    → line ≡ closing_line text front
+closing-is text line front e =
+    let n = length line - 22 in
+    let last = drop n line in
+    let digits = digits_of (after_text text (take n line)) in
+    let so = some-if (nat_le 22 (length line) && bytes_eq (take 6 last) (codes " text ")
+    && bytes_eq (drop 6 last) digits) (take n line) front e in
+    let two = both (nat_le 22 (length line) && bytes_eq (take 6 last) (codes " text ")) (bytes_eq (drop 6 last) digits)
+    so.0 in
+    let one = both (nat_le 22 (length line)) (bytes_eq (take 6 last) (codes " text ")) two.0 in
+    sym (take-append-drop n line)
+    ∙ ap (λ t. take n line ++ t) (sym (take-append-drop 6 last)
+    ∙ ap (λ t. t ++ drop 6 last) (is-word (take 6 last) (codes " text ") one.1)
+    ∙ ap (λ t. codes " text " ++ t) (is-word (drop 6 last) digits two.1))
+    ∙ ap (closing_line text) so.1
 
 -- ---- rows by their texts
 

@@ -1,29 +1,20 @@
--- What is known of spans where a run stopped, of lines read one after another, and of what runs wrote.
+-- What is known of spans where a run stopped, and of lines read one after another.
 use Rattle.std.proofs.Common.{◌≡◌, ℕ, Bool, false, List, [], ◌∷◌, ◌++◌, Result, Err, Ok, OnOk, refl, sym, ap, ◌∙◌}
-use Rattle.std.proofs.Common.{arith, append_assoc, append-nil, subst, ◌⊎◌, inl, inr, ◌+◌, true, flat_map, map}
+use Rattle.std.proofs.Common.{arith, append_assoc, append-nil, subst, ◌⊎◌, inl, inr, ◌+◌, true, flat_map}
 use Rattle.std.specs.Prelude.{◌==◌, IsTrue, codes, if◌then◌else◌}
 use Rattle.std.specs.Io.KnownBytes.{Keeps}
-use Rattle.std.specs.List.{AllByRecursion}
-use Rattle.std.proofs.lemmas.Bool.Decides.{nat_tests}
-use Rattle.std.proofs.lemmas.List.Elements.{All-from_recursion, recursion_from_All}
 use Rattle.xc_input.specs.Words.{has}
 use Rattle.xc_input.specs.inner.Feeding.{ended, AreWhole}
 use Rattle.xc_input.specs.Calls.{Rose, one_more}
 use Rattle.xc_input.specs.LinesRead.{Advanced, LinesRead}
 use Rattle.xc_input.specs.declared.line_reader.Unread.{Unread}
 use Rattle.xc_input.specs.Pieces.{SourceState, Gave, GaveAll}
-use Rattle.xc_input.specs.Named.{Named, IsSound}
-use Rattle.xc_input.specs.Lines.{lines_of}
 use Rattle.xc_input.proofs.LineLemmas.{came-gave, gave_then, ended-append, gave_none}
 use Rattle.xc_streams.specs.Texts.{SinkState, Took, BrokeOff, WasTold}
 use Rattle.xc_list.specs.SpanTexts.{most_counted}
 use Rattle.xc_list.specs.Messages.{summary_text}
-use Rattle.xc_list.specs.Runs.{end_of}
 use Rattle.xc_list.specs.declared.ends.End.{End}
 use Rattle.xc_list.specs.declared.ends.End.TheVariants.{Done, Limit}
-use Rattle.xc_list.specs.SearchedSpans.{SearchedSpan, IsSpan, text_of}
-use Rattle.xc_list.specs.SpanRuns.{searched}
-use Rattle.xc_list.specs.SpanWords.{is_span}
 use Rattle.xc_streams.proofs.SinkLemmas.{then_broke, then_took, took_nothing, appends_kept}
 use Rattle.xc_tools.specs.declared.outcomes.Stop.{Stop}
 use Rattle.xc_tools.specs.declared.outcomes.Stop.TheVariants.{NotText, Other, Gap, Device, Memory, WriteFailed}
@@ -34,16 +25,14 @@ use Rattle.xc_tools.specs.inner.SpanLines.{join_of}
 use Rattle.xc_tools.specs.inner.Joining.{Adds, EndsAt, StopsIn, StopsReading, stand_reached, says_of, stop_of}
 use Rattle.xc_tools.specs.inner.Joining.{unread_stop, IsLast, JoinsAll, ToldStop, joined_text, NoWriteFailed}
 use Rattle.xc_tools.specs.inner.Joining.{NothingFailed}
-use Rattle.xc_tools.specs.Joins.{IsFirstGap, AreOfOneProblem, AreTexts, DidJoin, DoMeet, ForShapes, ForTexts, HasBegun}
-use Rattle.xc_tools.specs.Joins.{IsBeginning, OfInput, spans_in, joined, ListsWhole}
+use Rattle.xc_tools.specs.Joins.{IsFirstGap, AreOfOneProblem, DidJoin, DoMeet, ForShapes, HasBegun, IsBeginning}
+use Rattle.xc_tools.specs.Joins.{OfInput, end_of_texts, joined, spans_in}
 use Rattle.xc_tools.specs.WholeRuns.{Sinks, TookAll, FailedBehind}
-use Rattle.xc_tools.specs.SpanShapes.{AreShapes, SpanText, HasShape, bytes_of}
+use Rattle.xc_tools.specs.SpanShapes.{AreShapes, SpanText, bytes_of}
 use Rattle.xc_streams.specs.Flushes.{FlushFailed, WasFlushed}
-use Rattle.xc_tools.specs.SpanRuns.{AreWritten, IsWritten}
-use Rattle.xc_tools.proofs.SpanLines.{after-append, wrote-append, whole-append, shape-short, shape_of, span-short}
-use Rattle.xc_tools.proofs.SpanLines.{text-shape}
-use Rattle.xc_tools.proofs.Chains.{shapes-apart, shapes-cut, shapes-mixed, shapes-not-faulty, shapes-open}
-use Rattle.xc_tools.proofs.Chains.{shapes-unfinished, all_lines, begins, end_of-total, finished, first-lines, no-rest}
+use Rattle.xc_tools.proofs.SpanLines.{after-append, wrote-append, whole-append}
+use Rattle.xc_tools.proofs.Chains.{shapes-apart, shapes-begun, shapes-cut, shapes-mixed, shapes-not-faulty, shapes-open}
+use Rattle.xc_tools.proofs.Chains.{shapes-unfinished, shapes-written}
 use Rattle.xc_tools.proofs.ReadTexts.{ReadAs, meet-read, one-read, read-lines, shapes-read, start-read, texts_read}
 use Rattle.xc_tools.proofs.RunLemmas.{took_all}
 use Rattle.xc_tools.specs.declared.outcomes.Refusal.TheVariants as refusals
@@ -241,41 +230,13 @@ module _ (listed : Bool) (texts : List SpanText) (bytes : List ℕ) (are : AreSh
   ends-so free old new at Memory h = tt
   ends-so free old new at WriteFailed h = tt
 
-module _ (a : Named) (listed : Bool) (sound : IsSound a) (spans : List SearchedSpan) (text : List ℕ)
-    (are : AreTexts a listed spans text) (ls : List (List ℕ)) (rest : List ℕ) (w : AreWhole ls)
-    (e : text ≡ ended ls ++ rest) where
-  lines-first : all_lines a listed spans ≡ ls ++ lines_of rest
-  lines-first = first-lines a listed sound spans text are ls rest w e
-
-  begins-so : IsBeginning (joined_text listed ls) (joined a listed)
-  begins-so = begins a listed sound spans text are ls (lines_of rest) lines-first
-
-  module _ (free : has 10 rest ≡ false) (s : Join) (at : stand_reached listed ls ≡ goes s) where
-    none-left : rest ≡ []
-    none-left = no-rest a listed sound spans text are ls rest w free e
-
-    all-read : stand_reached listed (all_lines a listed spans) ≡ goes s
-    all-read = ap (stand_reached listed) (lines-first ∙ ap (λ r. ls ++ lines_of r) none-left ∙ append-nil ls) ∙ at
-
-    written-all : joined_text listed (all_lines a listed spans) ≡ joined_text listed ls
-    written-all = ap (joined_text listed) (lines-first ∙ ap (λ r. ls ++ lines_of r) none-left ∙ append-nil ls)
-
-    joined-so : (old new : Joint) → s ≡ join_of old → EndsAt rest old new (Ok tt) → DoMeet [] spans
-        × (joined_text listed ls ≡ joined a listed)
-        × ((if new.total == most_counted then Limit new.total else Done new.total) ≡ end_of a most_counted)
-    joined-so old new is h =
-        let so = finished a listed sound spans text are s all-read (ap (λ (j : Join). j.finished) is ∙ h.1) in
-        let total = ap (λ (j : Joint). j.total) h.3 ∙ ap (λ (j : Join). j.total) (sym is) ∙ so.2 in
-        (so.0, sym written-all ∙ so.1, end_of-total a new.total total)
-
 -- ---- a run that stopped
 
 -- the text that was being written, and what is known then
 record Reached (listed : Bool) (new : Joint) (e : Stop) (a b : SourceState) (x y : SinkState) : Type 0 where
   pub text : List ℕ
   pub said : says_of e x y text
-  pub of : OfInput (λ bytes. ForTexts listed (λ p _. IsBeginning text (joined p listed)) bytes
-      × ForShapes listed (so_at new e) bytes) a b
+  pub of : OfInput (ForShapes listed (λ texts. IsBeginning text (joined texts) × so_at new e texts)) a b
 
 module _ (listed : Bool) (new : Joint) (a b : SourceState) (x y : SinkState) where
   in-lines : (e : Stop) (bytes : List ℕ) → Gave a b bytes → StopsIn listed [] bytes new x y e
@@ -287,11 +248,11 @@ module _ (listed : Bool) (new : Joint) (a b : SourceState) (x y : SinkState) whe
       bytes,
       inr (
         g,
-        λ more.
+        λ more texts are.
             let is = ap (λ t. t ++ more) h.front ∙ append_assoc (ended h.lines) h.rest more in (
-              λ p spans sound are. subst (λ t. IsBeginning t (joined p listed)) h.adds.more
-                  (begins-so p listed sound spans (bytes ++ more) are h.lines (h.rest ++ more) h.whole is),
-              λ texts are. last-so listed texts (bytes ++ more) are h.lines (h.rest ++ more) h.whole is new e h.last,
+              subst (λ t. IsBeginning t (joined texts)) h.adds.more
+                  (shapes-begun listed texts (bytes ++ more) are h.lines (h.rest ++ more) h.whole is),
+              last-so listed texts (bytes ++ more) are h.lines (h.rest ++ more) h.whole is new e h.last,
             ),
       ),
     );
@@ -310,11 +271,8 @@ module _ (listed : Bool) (new : Joint) (a b : SourceState) (x y : SinkState) whe
       ended ls ++ rest,
       inr (
         g,
-        λ more. (
-          λ p spans sound are.
-              begins-so p listed sound spans _ are ls (rest ++ more) w (append_assoc (ended ls) rest more),
-          λ texts are. tt,
-        ),
+        λ more texts are.
+            (shapes-begun listed texts _ are ls (rest ++ more) w (append_assoc (ended ls) rest more), tt),
       ),
     );
   }
@@ -329,9 +287,9 @@ module _ (listed : Bool) (new : Joint) (a b : SourceState) (x y : SinkState) whe
       ended ls ++ rest,
       inl (
         g,
-        (
-          λ p spans sound are. begins-so p listed sound spans _ are ls rest w refl,
-          λ texts are. ends-so listed texts _ are ls rest w refl free old new at e ends,
+        λ texts are. (
+          shapes-begun listed texts _ are ls rest w refl,
+          ends-so listed texts _ are ls rest w refl free old new at e ends,
         ),
       ),
     );
@@ -407,8 +365,8 @@ begun-as listed new e says written a b x y f g h = record {
   text = h.text;
   is_written = g h.text h.said;
   of = elim h.of.1 [
-    | inl q ↦ (h.of.0, inl (q.0, (q.1.0, λ texts are. f texts (q.1.1 texts are))))
-    | inr q ↦ (h.of.0, inr (q.0, λ more. let r = q.1 more in (r.0, λ texts are. f texts (r.1 texts are))))
+    | inl q ↦ (h.of.0, inl (q.0, λ texts are. let r = q.1 texts are in (r.0, f texts r.1)))
+    | inr q ↦ (h.of.0, inr (q.0, λ more texts are. let r = q.1 more texts are in (r.0, f texts r.1)))
   ];
 }
 
@@ -488,15 +446,13 @@ pub run-unstarted : {O E : Type 0} (listed : Bool) (status : ℕ) (i : SourceSta
     × WasTold from.err.state to.err.state (codes "Write failed.\n"))
     → DidJoin listed files status i i from to
 run-unstarted listed status i from to files (inl h) =
-    let of : OfInput (λ bytes. ForTexts listed (λ p _. IsBeginning [] (joined p listed)) bytes
-    × ForShapes listed (λ _. Unit {0}) bytes) i i =
-    ([], inr (gave_none i, λ more. (λ p spans sound are. (joined p listed, refl), λ texts are. tt))) in
+    let of : OfInput (ForShapes listed (λ texts. IsBeginning [] (joined texts) × Unit {0})) i i =
+    ([], inr (gave_none i, λ more texts are. ((joined texts, refl), tt))) in
     let all = flushed-all to.out.state (took_nothing from.out.state) h.1 in
     inr (inr (inr (inl (h.0, (refl, record { text = []; is_written = all; of = of }), h.2))))
 run-unstarted listed status i from to files (inr h) =
-    let of : OfInput (λ bytes. ForTexts listed (λ p _. IsBeginning [] (joined p listed)) bytes
-    × ForShapes listed (λ _. Unit {0}) bytes) i i =
-    ([], inr (gave_none i, λ more. (λ p spans sound are. (joined p listed, refl), λ texts are. tt))) in
+    let of : OfInput (ForShapes listed (λ texts. IsBeginning [] (joined texts) × Unit {0})) i i =
+    ([], inr (gave_none i, λ more texts are. ((joined texts, refl), tt))) in
     let failed = failed-behind to.out.state (took_nothing from.out.state) h.1 in
     inr (inr (inl (h.0, inr (inl (record { text = []; is_written = inr failed; of = of }, h.2)))))
 
@@ -514,24 +470,35 @@ module _ {O E : Type 0} (listed : Bool) (status : ℕ) (i j : SourceState) (from
   begun-whole written wrote = record {
     text = joined_text listed ls;
     is_written = wrote;
-    of = (
-      ended ls ++ rest,
-      inl (
-        g,
-        (
-          λ p spans sound are. begins-so p listed sound spans _ are ls rest w refl,
-          λ
-              texts are. tt,
-        ),
-      ),
-    );
+    of = (ended ls ++ rest, inl (g, λ texts are. (shapes-begun listed texts _ are ls rest w refl, tt)));
   }
 
   read-whole : ReadAs listed ls (join_of old)
   read-whole = read-lines listed [] ls (start listed) (join_of old) (start-read listed) w at
 
-  all-fed : ended ls ≡ ended ls ++ rest
-  all-fed = sym (append-nil (ended ls)) ∙ ap (λ r. ended ls ++ r) (sym ends.0)
+  texts : List SpanText
+  texts = texts_read listed ls (join_of old) read-whole ends.2 ends.1
+
+  shapes : AreShapes listed texts (ended ls)
+  unfolding texts
+  shapes = shapes-read listed ls (join_of old) read-whole ends.2 ends.1
+
+  meet : DoMeet [] (spans_in texts)
+  unfolding texts
+  meet = meet-read listed ls (join_of old) read-whole ends.2 ends.1
+
+  one : AreOfOneProblem texts
+  unfolding texts
+  one = one-read listed ls (join_of old) read-whole ends.2 ends.1
+
+  written : (joined_text listed ls ≡ joined texts) × (end ≡ end_of_texts texts)
+  written =
+      let so = shapes-written listed texts (ended ls) shapes ls [] w (sym (append-nil (ended ls))) refl (join_of old) at
+      ends.1 in
+      (so.0, is ∙ ap (λ (j : Joint). if j.total == most_counted then Limit j.total else Done j.total) ends.3 ∙ so.1)
+
+  all-fed : ended ls ++ rest ≡ flat_map (bytes_of listed) texts
+  all-fed = ap (λ r. ended ls ++ r) ends.0 ∙ append-nil (ended ls) ∙ sym shapes.whole
 
   whole-run : ((status ≡ 0) × (to.out.state.failures ≡ y.failures) × IsTrue to.out.state.settled
       × Took from.err.state to.err.state (summary_text end))
@@ -542,20 +509,13 @@ module _ {O E : Type 0} (listed : Bool) (status : ℕ) (i j : SourceState) (from
   whole-run (inl h) = inl (
     h.0,
     record {
-      bytes = ended ls ++ rest;
-      gave = g;
-      texts = texts_read listed ls (join_of old) read-whole ends.2 ends.1;
-      shapes = subst (AreShapes listed (texts_read listed ls (join_of old) read-whole ends.2 ends.1)) all-fed
-          (shapes-read listed ls (join_of old) read-whole ends.2 ends.1);
-      meet = meet-read listed ls (join_of old) read-whole ends.2 ends.1;
-      one = one-read listed ls (join_of old) read-whole ends.2 ends.1;
-      text = joined_text listed ls;
-      taken = took_all to.out.state took kept flushed h.1 h.2;
-      end = end;
-      told = h.3;
-      whole = λ p spans sound are.
-          let so = joined-so p listed sound spans _ are ls rest w refl free (join_of old) at old new refl ends in
-          (so.0, so.1, is ∙ so.2);
+      texts = texts;
+      gave = subst (GaveAll i j) all-fed g;
+      shapes = shapes.each;
+      meet = meet;
+      one = one;
+      taken = subst (TookAll from.out.state to.out.state) written.0 (took_all to.out.state took kept flushed h.1 h.2);
+      told = subst (λ e. Took from.err.state to.err.state (summary_text e)) written.1 h.3;
     },
   )
   whole-run (inr (inl h)) = inr (inr (inl (
@@ -590,91 +550,3 @@ pub run-ended : {O E : Type 0} (listed : Bool) (new : Joint) (y : SinkState) (st
 run-ended listed new y status i j from to files end u (inl h) is kept flushed did = absurd (cc h.1)
 run-ended listed new y status i j from to files end u (inr h) is kept flushed did =
     whole-run listed status i j from to files y h.0 h.1 h.2 new h.3 h.4 h.5 h.6 h.7 h.8 kept flushed end is did
-
--- ======== Texts that runs over spans of one problem wrote, one after another.
-
--- the span of a text that was written
-span-written : (a : Named) (listed : Bool) (from until text : List ℕ) → IsWritten a listed from until text
-    → (s : SearchedSpan) × IsSpan a s × (text_of a listed s ≡ text) × (s.from ≡ from) × (s.until ≡ until)
-span-written a listed from until text w =
-    let of = w.of in
-    let s = searched w.asked of.row of.branches w.went in
-    let one : is_span w.asked.from w.asked.until ≡ true = grind (arith, nat_tests, w.is_asked.2) in
-    (s, of.is_one one w.counted, ap (λ l. text_of a l s) (sym w.is_asked.0) ∙ of.said, w.is_asked.1, w.up_to)
-
-pub written-meet : (a : Named) (listed : Bool) (row : List ℕ) (texts : List (List ℕ)) → AreWritten a listed row texts
-    → (spans : List SearchedSpan) × AllByRecursion (IsSpan a) spans
-    × (flat_map (text_of a listed) spans ≡ flat_map (λ t. t) texts) × DoMeet row spans
-written-meet a listed row [] w = absurd w
-written-meet a listed row (text ∷ texts) w = by-until w.0 w.1 w.2 (λ n u. written-meet a listed (n ∷ u) texts)
-  where
-    by-until : (until : List ℕ) → IsWritten a listed row until text
-        → elim until as (λ u. Type 0) [ [] ↦ texts ≡ [] | n ∷ u ↦ AreWritten a listed (n ∷ u) texts ]
-        → ((n : ℕ) (u : List ℕ) → AreWritten a listed (n ∷ u) texts → (spans : List SearchedSpan)
-        × AllByRecursion (IsSpan a) spans × (flat_map (text_of a listed) spans ≡ flat_map (λ t. t) texts)
-        × DoMeet (n ∷ u) spans)
-        → (spans : List SearchedSpan) × AllByRecursion (IsSpan a) spans
-        × (flat_map (text_of a listed) spans ≡ flat_map (λ t. t) (text ∷ texts)) × DoMeet row spans
-    by-until [] w last more =
-        let one = span-written a listed row [] text w in
-        let none : List SearchedSpan = [] in (
-          one.0 ∷ [],
-          (one.1, tt),
-          cc (one.2, last),
-          (
-            one.3,
-            subst (λ until. elim until as (λ u. Type 0) [ [] ↦ none ≡ [] | n ∷ u ↦ DoMeet (n ∷ u) none ])
-                (sym one.4) refl,
-          ),
-        )
-    by-until (n ∷ u) w next more =
-        let one = span-written a listed row (n ∷ u) text w in
-        let rest = more n u next in (
-          one.0 ∷ rest.0,
-          (one.1, rest.1),
-          cc (one.2, rest.2),
-          (
-            one.3,
-            subst (λ until. elim until as (λ u. Type 0) [ [] ↦ rest.0 ≡ [] | n ∷ u ↦ DoMeet (n ∷ u) rest.0 ])
-                (sym one.4) rest.3,
-          ),
-        )
-
-pub written-texts : (a : Named) (listed : Bool) (texts : List (List ℕ)) → AreWritten a listed [] texts
-    → (spans : List SearchedSpan) × AreTexts a listed spans (flat_map (λ t. t) texts) × DoMeet [] spans
-written-texts a listed texts w =
-    let so = written-meet a listed [] texts w in
-    (so.0, record { each = All-from_recursion (IsSpan a) so.0 so.1; whole = so.2 }, so.3)
-
-pub joined-written : (a : Named) (listed : Bool) (texts : List (List ℕ)) (text : List ℕ) (end : End) → IsSound a
-    → AreWritten a listed [] texts → ListsWhole listed text end (flat_map (λ t. t) texts)
-    → (text ≡ joined a listed) × (end ≡ end_of a most_counted)
-joined-written a listed texts text end sound w j =
-    let so = written-texts a listed texts w in
-    let whole = j a so.0 sound so.1 in
-    (whole.1, whole.2)
-
--- ---- shapes
-
-shapes-are : (a : Named) (listed : Bool) (spans : List SearchedSpan) → IsSound a → AllByRecursion (IsSpan a) spans
-    → AllByRecursion (HasShape listed) (map (shape_of a listed) spans)
-    × (flat_map (bytes_of listed) (map (shape_of a listed) spans) ≡ flat_map (text_of a listed) spans)
-    × (spans_in (map (shape_of a listed) spans) ≡ spans)
-shapes-are a listed [] sound each = (tt, refl, refl)
-shapes-are a listed (s ∷ spans) sound each =
-    let rest = shapes-are a listed spans sound each.1 in
-    let text = text-shape a listed s in (
-      (shape-short listed (shape_of a listed s) (span-short a listed s sound each.0), rest.0),
-      cc (sym text, rest.1),
-      ap (λ ss. s ∷ ss) rest.2,
-    )
-
-pub texts-shapes : (a : Named) (listed : Bool) (spans : List SearchedSpan) (bytes : List ℕ) → IsSound a
-    → AreTexts a listed spans bytes
-    → (texts : List SpanText) × AreShapes listed texts bytes × (spans_in texts ≡ spans)
-texts-shapes a listed spans bytes sound are =
-    let so = shapes-are a listed spans sound (recursion_from_All (IsSpan a) spans are.each) in (
-      map (shape_of a listed) spans,
-      record { each = All-from_recursion (HasShape listed) _ so.0; whole = so.1 ∙ are.whole },
-      so.2,
-    )

@@ -17,22 +17,11 @@ use Rattle.xc_tools.specs.inner.SpanLines.{recorded_counts, row_parts, saturatin
 use Rattle.xc_tools.specs.inner.SpanLines.{ends_before, Join, Stand, goes, faulty, mixed, apart, begins_at, begins_with}
 use Rattle.xc_tools.specs.inner.SpanLines.{by_choice, by_header, by_heading, by_last, by_record, closed, ends_well}
 use Rattle.xc_tools.specs.inner.SpanLines.{inside, is_header, is_last_record, is_same, meets, opened, recorded}
-use Rattle.xc_tools.proofs.SpanWords.{AreShort, AreShortIf, counts_words, heading_line, problem_words, record_line}
+use Rattle.xc_tools.specs.inner.SpanLines.{before_digest, by_digest, line_noted}
+use Rattle.xc_tools.proofs.SpanWords.{AreShort, AreShortIf, both, counts_words, heading_line, is-word, problem_words}
+use Rattle.xc_tools.proofs.SpanWords.{record_line, some-if}
 
 -- ======== What words that were read stand for.
-
--- ---- tests
-
-pub both : (a b : Bool) → (a && b) ≡ true → (a ≡ true) × (b ≡ true)
-both true b h = (refl, h)
-both false b h = absurd (cc h)
-
-pub some-if : {X : Type 0} (b : Bool) (x y : X) → (if b then Some x else None) ≡ Some y → (b ≡ true) × (x ≡ y)
-some-if true x y h = (refl, cc h)
-some-if false x y h = absurd (cc h)
-
-pub is-word : (a b : List ℕ) → bytes_eq a b ≡ true → a ≡ b
-is-word a b h = (bytes_eq-Decides a b).0 h
 
 -- ---- numbers and rows
 
@@ -366,6 +355,18 @@ module _ (q : Join) (text : List ℕ) where
           let so = begun-went s t.counts.digest t.from (recorded s t) test.1 in
           (t, is, test.0, so.0, so.1, so.2)
 
+  -- the last line of a text was taken by what is before its digest
+  pub digest-went : (s : Join) (line : List ℕ) (next : List (List ℕ) → Stand × List ℕ)
+      → by_digest s line next ≡ (goes q, text)
+      → (front : List ℕ) × (before_digest s.text line ≡ Some front) × (next (words_in front) ≡ (goes q, text))
+  digest-went s line next e = read (before_digest s.text line) refl e
+    where
+      read : (o : Option (List ℕ)) → before_digest s.text line ≡ o
+          → Gives (elim o [ None ↦ (faulty, []) | Some front ↦ next (words_in front) ]) (goes q) text
+          → (front : List ℕ) × (before_digest s.text line ≡ Some front) × (next (words_in front) ≡ (goes q, text))
+      read None is e = absurd (not-faulty e)
+      read (Some front) is e = (front, is, e)
+
   pub last-went : (s : Join) (k : ℕ) (words : List (List ℕ)) → by_last s k words ≡ (goes q, text)
       → (t : Told) × (record_of words ≡ Some t) × (is_last_record s k t ≡ true) × (closed s t.until ≡ q)
   last-went s k words e = read (record_of words) refl e
@@ -436,10 +437,10 @@ module _ (q : Join) (text : List ℕ) where
 
   -- a line of an open listing: what it was
   pub data Went (s : Join) (k : ℕ) (line : List ℕ) : Type 0 where
-    a_choice : nat_lt 0 k ≡ true → by_choice s line ≡ (goes q, text) → Went s k line
-    a_last : by_last s k (words_in line) ≡ (goes q, text) → Went s k line
+    a_choice : nat_lt 0 k ≡ true → by_choice (line_noted s line) line ≡ (goes q, text) → Went s k line
+    a_last : by_digest s line (by_last s k) ≡ (goes q, text) → Went s k line
     a_header : is_header (k + 1) line ≡ true → ends_well s k ≡ true → nat_lt k most_counted ≡ true
-        → by_header s (k + 1) ≡ (goes q, text) → Went s k line
+        → by_header (line_noted s line) (k + 1) ≡ (goes q, text) → Went s k line
 
   pub inside-went : (s : Join) (k : ℕ) (line : List ℕ) → inside s k line ≡ (goes q, text) → Went s k line
   inside-went s k line e = by_bool (begins_with 32 line && nat_lt 0 k)
@@ -447,7 +448,8 @@ module _ (q : Join) (text : List ℕ) where
       (λ no_choice. by_bool (begins_with 102 line)
       (λ yes. a_last (rw (no_choice, yes) at e))
       (λ no_last.
-      let test = by-test (nat_lt k most_counted && is_header (k + 1) line && ends_well s k) (by_header s (k + 1))
+      let test = by-test (nat_lt k most_counted && is_header (k + 1) line && ends_well s k)
+      (by_header (line_noted s line) (k + 1))
       (rw (no_choice, no_last) at e) in
       let two = both (nat_lt k most_counted && is_header (k + 1) line) (ends_well s k) test.0 in
       let one = both (nat_lt k most_counted) (is_header (k + 1) line) two.0 in

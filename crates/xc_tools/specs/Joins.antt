@@ -1,26 +1,20 @@
 -- What a whole run that joins spans does.
 use Rattle.std.specs.Prelude.{ℕ, ◌≡◌, ◌⊎◌, All, Bool, true, false, List, [], ◌∷◌, ◌++◌, Option, Some}
 use Rattle.std.specs.Prelude.{None}
-use Rattle.std.specs.Prelude.{MatchOption, drop, map, flat_map, codes, decimal, if◌then◌else◌}
+use Rattle.std.specs.Prelude.{MatchOption, drop, map, flat_map, codes, decimal, if◌then◌else◌, take, sum_by, nat_lt}
+use Rattle.std.specs.List.{enumerate_from}
 use Rattle.std.specs.Str.{bytes_eq}
 use Rattle.xc_input.specs.Calls.{Rose}
-use Rattle.xc_input.specs.Named.{Named, IsSound}
 use Rattle.xc_input.specs.Pieces.{SourceState, Gave, GaveAll}
 use Rattle.xc_list.specs.SpanTexts.{most_counted, row_text}
 use Rattle.xc_list.specs.Messages.{summary_text}
-use Rattle.xc_list.specs.Output.{output}
-use Rattle.xc_list.specs.Runs.{end_of}
-use Rattle.xc_list.specs.SearchedSpans.{SearchedSpan, IsSpan, text_of}
+use Rattle.xc_list.specs.SearchedSpans.{SearchedSpan}
 use Rattle.xc_streams.specs.Texts.{Seen, Took, BrokeOff, WasTold}
 use Rattle.xc_list.specs.declared.ends.End.{End}
-use Rattle.xc_tools.specs.SpanShapes.{AreShapes, SpanText}
+use Rattle.xc_list.specs.declared.ends.End.TheVariants.{Done, Limit}
+use Rattle.xc_tools.specs.SpanShapes.{AreShapes, HasShape, SpanText, bytes_of, solution_text}
 use Rattle.xc_streams.specs.ShownNames.{source_text, OfSource}
 use Rattle.xc_tools.specs.WholeRuns.{Sinks, TookAll, FailedBehind, IsRefused}
-
--- These are the texts of spans of a problem, one after another.
-pub record AreTexts (a : Named) (listed : Bool) (spans : List SearchedSpan) (text : List ℕ) : Type 0 where
-  pub each : All (IsSpan a) spans
-  pub whole : flat_map (text_of a listed) spans ≡ text
 
 -- The first span begins at this row, each other one where the one before it ended, and the last ends at the listing's
 -- end.
@@ -50,18 +44,18 @@ IsFirstGap row met next (s ∷ spans) =
 
 -- ---- a run
 
--- what joining writes: the whole listing, if it is listed
-abbrev pub joined : Named → Bool → List ℕ
-joined a listed = if listed then output a 1 most_counted else []
+-- what joining writes: the solutions of all texts, numbered anew as far as numbers go
+abbrev pub joined : List SpanText → List ℕ
+joined texts = flat_map solution_text (enumerate_from 1 (take most_counted (flat_map (λ t. t.found) texts)))
+
+-- its end, by how many solutions these texts have
+abbrev pub end_of_texts : List SpanText → End
+end_of_texts texts =
+    let n = sum_by (λ t. t.count) texts in if nat_lt n most_counted then Done n else Limit most_counted
 
 -- a text is a beginning of another
 abbrev pub IsBeginning : List ℕ → List ℕ → Type 0
 IsBeginning text whole = (tail : List ℕ) × (text ++ tail ≡ whole)
-
--- this is so of each sound problem and spans of it whose texts these bytes are
-abbrev pub ForTexts : Bool → (Named → List SearchedSpan → Type 0) → List ℕ → Type 0
-ForTexts listed says bytes =
-    (a : Named) (spans : List SearchedSpan) → IsSound a → AreTexts a listed spans bytes → says a spans
 
 -- this is so of whatever texts these bytes may be, of spans of any problems
 abbrev pub ForShapes : Bool → (List SpanText → Type 0) → List ℕ → Type 0
@@ -72,35 +66,24 @@ abbrev pub OfInput : (List ℕ → Type 0) → SourceState → SourceState → T
 OfInput says old new = (bytes : List ℕ) × ((GaveAll old new bytes × says bytes)
     ⊎ (Gave old new bytes × ((more : List ℕ) → says (bytes ++ more))))
 
--- Where these bytes are texts of spans of a sound problem, the spans meet from its listing's beginning to its end, the
--- text is the whole listing, if it is listed, and the end tells the number of its members.
-abbrev pub ListsWhole : Bool → List ℕ → End → List ℕ → Type 0
-ListsWhole listed text end bytes =
-    ForTexts listed (λ a spans. DoMeet [] spans × (text ≡ joined a listed) × (end ≡ end_of a most_counted)) bytes
-
 -- 0: The source gave texts of spans of one problem, which meet from the listing's beginning to its end; the output took
--- a text, and an end was printed, which list the whole.
+-- their solutions, and the last line says how many there are.
 pub record IsJoined {O E : Type 0} (listed : Bool) (from to : SourceState) (old new : Sinks O E) : Type 0 where
-  pub bytes : List ℕ
-  pub gave : GaveAll from to bytes
   pub texts : List SpanText
-  pub shapes : AreShapes listed texts bytes
+  pub gave : GaveAll from to (flat_map (bytes_of listed) texts)
+  pub shapes : All (HasShape listed) texts
   pub meet : DoMeet [] (spans_in texts)
   pub one : AreOfOneProblem texts
-  pub text : List ℕ
-  pub taken : TookAll old.out.state new.out.state text
-  pub end : End
-  pub told : Took old.err.state new.err.state (summary_text end)
-  pub whole : ListsWhole listed text end bytes
+  pub taken : TookAll old.out.state new.out.state (joined texts)
+  pub told : Took old.err.state new.err.state (summary_text (end_of_texts texts))
 
--- A text was written so. Where the input is texts of spans of a sound problem, or their beginning, it is a beginning of
--- the whole listing. And this is so of whatever texts the input may be, or begin.
+-- A text was written so, and this is so of whatever texts the input may be, or begin: what was written is a beginning
+-- of what joining them writes.
 pub record HasBegun (listed : Bool) (says : List SpanText → Type 0) (from to : SourceState)
     (written : List ℕ → Type 0) : Type 0 where
   pub text : List ℕ
   pub is_written : written text
-  pub of : OfInput (λ bytes. ForTexts listed (λ a _. IsBeginning text (joined a listed)) bytes
-      × ForShapes listed says bytes) from to
+  pub of : OfInput (ForShapes listed (λ texts. IsBeginning text (joined texts) × says texts)) from to
 
 -- the front of a message about a line of a file, or of standard input
 abbrev pub at_line : Option (List ℕ) → ℕ → List ℕ

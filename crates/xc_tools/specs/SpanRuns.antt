@@ -1,12 +1,13 @@
 -- What a whole run over a span of a listing does.
 use Rattle.std.specs.Prelude.{ℕ, ◌^◌, ◌<◌, ◌≡◌, ◌⊎◌, List, [], ◌∷◌, Option, None, MatchOption, codes, option_map}
 use Rattle.std.specs.Prelude.{option_and_then}
-use Rattle.std.specs.Prelude.{Bool, false, is_some, ◌&&◌, IsTrue}
+use Rattle.std.specs.Prelude.{All, Bool, false, flat_map, is_some, ◌&&◌, IsTrue}
 use Rattle.xc_input.specs.declared.kind.Kind.{Kind}
 use Rattle.xc_input.specs.Named.{Named}
 use Rattle.xc_input.specs.Pieces.{SourceState}
 use Rattle.xc_search.specs.Cover.{EachMemberCovers, EachCoverIsListedOnce}
 use Rattle.xc_search.specs.declared.went.Went.{Went}
+use Rattle.xc_list.specs.SearchedSpans.{SearchedSpan, IsSpan, text_of}
 use Rattle.xc_list.specs.SpanRuns.{OfSpan}
 use Rattle.xc_list.specs.SpanWords.{AskedSpan, is_span, read_span_words, take_memory}
 use Rattle.xc_streams.specs.Texts.{Seen, SinkState}
@@ -45,6 +46,11 @@ DidSpanWords words status from to old new =
     (IsRefused status old new))
 
 -- ---- texts of spans, one after another
+
+-- These are the texts of spans of a problem, one after another.
+pub record AreTexts (a : Named) (listed : Bool) (spans : List SearchedSpan) (text : List ℕ) : Type 0 where
+  pub each : All (IsSpan a) spans
+  pub whole : flat_map (text_of a listed) spans ≡ text
 
 -- A run over a span of a problem wrote this text, from this row up to that one, and its members were counted.
 pub record IsWritten (a : Named) (listed : Bool) (from until text : List ℕ) : Type 0 where

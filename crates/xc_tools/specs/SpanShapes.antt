@@ -9,7 +9,7 @@ use Rattle.xc_input.specs.Words.{has}
 use Rattle.xc_search.specs.Spans.{is_before, precedes}
 use Rattle.xc_check.specs.ListingLines.{branch_number}
 use Rattle.xc_list.specs.SearchedSpans.{AreSmall, SearchedSpan}
-use Rattle.xc_list.specs.SpanTexts.{end_at, heading_text, record_text}
+use Rattle.xc_list.specs.SpanTexts.{closed_text, end_at, heading_text, record_front}
 
 -- a hexadecimal digit in lower case
 abbrev pub is_hex : ℕ → Bool
@@ -40,11 +40,11 @@ pub record SpanText : Type 0 where
 abbrev pub solution_text : ℕ × ListedSolution → List ℕ
 solution_text ns = decimal ns.0 ++ codes ":\n" ++ flat_map (λ line. line ++ codes "\n") ns.1.lines
 
--- its bytes
+-- its bytes, closed by their digest
 abbrev pub bytes_of : Bool → SpanText → List ℕ
-bytes_of listed t =
+bytes_of listed t = closed_text (
     (if listed then heading_text t.span.from t.digest ++ flat_map solution_text (enumerate_from 1 t.found) else [])
-    ++ record_text t.span.from t.span.until t.span.branches t.count t.span.steps t.digest
+    ++ record_front t.span.from t.span.until t.span.branches t.count t.span.steps t.digest)
 
 -- Each row comes after the one in front of it, and the last before the span's end.
 abbrev pub Rise : List ℕ → List (List ℕ) → List ℕ → Type 0

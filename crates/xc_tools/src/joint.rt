@@ -1,6 +1,7 @@
 //! What a run that joins spans knows behind some lines.
 
 use xc_input::Given;
+use xc_list::TextDigest;
 
 /// The row of an open solution beside the one before it.
 #[derive(Drop)]
@@ -18,6 +19,8 @@ pub(crate) struct Joint {
     pub listed: bool,
     /// The digest of the problem, once a text has begun.
     pub digest: Vec<u8>,
+    /// The digest of the bytes of the open text up to now.
+    pub text: TextDigest,
     /// The row where the last text ended.
     pub met: Vec<u8>,
     /// It ended at the listing's end.

@@ -1,24 +1,34 @@
 //! Programs over the command line and the standard streams.
-ghost use Rattle.std.specs.Prelude.{◌≡◌, MatchResult};
+ghost use Rattle.std.specs.Prelude.{◌≡◌, codes, MatchResult};
 ghost use Rattle.std.specs.Process.{exit_status};
+ghost use Rattle.xc_streams.specs.Texts.{WasTold};
 
 use crate::solving::solve_by;
 use std::alloc::AllocError;
 use std::io::IsTerminal;
 use std::process::ExitCode;
 use xc_input::Kind;
+use xc_list::Sink;
 use xc_streams::status::out_of_memory;
 use xc_streams::{Direct, Incoming, Outgoing, random_seed, words};
+
+/// The status of a program, or 4, which is reported, if there was no memory for its words and streams.
+fn told_status<E: Sink>(status: Result<u8, AllocError>, err: &mut E) -> u8
+    ensures { MatchResult status (λ s. (result ≡ s) × (E.state err.new ≡ E.state err.old))
+        (λ _. (result ≡ 4) × WasTold (E.state err.old) (E.state err.new) (codes "Out of memory.\n")) }
+{
+    match status {
+        Ok(status) => status,
+        Err(AllocError) => out_of_memory(err),
+    }
+}
 
 /// The exit code of a program with this status, or 4, which is reported, if there was no memory for its words and
 /// streams.
 pub fn exit_code(rt: &HostRuntime, status: Result<u8, AllocError>) -> ExitCode
     ensures { MatchResult status (λ s. exit_status result ≡ s) (λ _. exit_status result ≡ 4) }
 {
-    match status {
-        Ok(status) => ExitCode::from(status),
-        Err(AllocError) => ExitCode::from(out_of_memory(&mut Direct::new(rt.stderr()))),
-    }
+    ExitCode::from(told_status(status, &mut Direct::new(rt.stderr())))
 }
 
 /// Solves what comes on standard input, and returns the status.

@@ -3,9 +3,11 @@ ghost use Rattle.std.specs.Prelude.{IsTrue, ℕ, List, ◌==◌, ◌||◌, ◌�
 ghost use Rattle.std.specs.Prelude.{option_map};
 ghost use Rattle.std.specs.Str.{byte, bytes_eq};
 ghost use Rattle.xc_check.specs.ListingLines.{before_last, words_in};
-ghost use Rattle.xc_tools.specs.inner.SpanLines.{act_text, begins_with, by_choice, by_header, by_heading, by_last};
-ghost use Rattle.xc_tools.specs.inner.SpanLines.{by_line, by_record, closed, ends_well, inside, is_header, goes};
-ghost use Rattle.xc_tools.specs.inner.SpanLines.{join_of, meets, start, KeepsProblem, TakesLine, Unmet};
+ghost use Rattle.xc_list.specs.Digests.{after_text, digits_of};
+ghost use Rattle.xc_tools.specs.inner.SpanLines.{act_text, before_digest, begins_with, by_choice, by_digest};
+ghost use Rattle.xc_tools.specs.inner.SpanLines.{by_header, by_heading, by_last, by_line, by_record, closed, ends_well};
+ghost use Rattle.xc_tools.specs.inner.SpanLines.{inside, is_header, goes, join_of, line_noted, meets, start};
+ghost use Rattle.xc_tools.specs.inner.SpanLines.{KeepsProblem, TakesLine, Unmet};
 ghost use Rattle.xc_tools.specs.declared.outcomes.Refusal.TheVariants.{Memory};
 ghost use Rattle.xc_tools.specs.declared.outcomes.Act.TheVariants.{Nothing};
 
@@ -14,7 +16,7 @@ use crate::outcomes::{Act, Refusal};
 use crate::span_words::{heading_of, put_numbers, record_of, words_of};
 use itoa::Buffer;
 use std::alloc::{AllocError, Global};
-use xc_list::branch_number;
+use xc_list::{TextDigest, branch_number};
 
 fn begins_with(line: &[u8], byte: u8) -> bool
     ensures { result ≡ begins_with byte line.now }
@@ -43,6 +45,30 @@ fn is_header(line: &[u8], number: u64) -> bool
     }
 }
 
+/// The digest of a text and these bytes, as it is written.
+fn digits_after(text: TextDigest, bytes: &[u8]) -> [u8; 16]
+    ensures { result ≡ digits_of (after_text text bytes.now) }
+{
+    let mut whole = text;
+    whole.take(bytes);
+    whole.digits()
+}
+
+/// What is before the digest of a text in its last line, if this is the digest of the text up to there.
+fn before_digest<'a>(text: TextDigest, line: &'a [u8]) -> Option<&'a [u8]>
+    ensures { option_map (λ front. front.now) result ≡ before_digest text line.now }
+{
+    if line.len() < 22 {
+        return None;
+    }
+    let front = &line[..line.len() - 22];
+    let last = &line[line.len() - 22..];
+    if &last[..6] == b" text ".as_slice() && &last[6..] == digits_after(text, front).as_slice() {
+        return Some(front);
+    }
+    None
+}
+
 /// Takes a word in place of the one before.
 pub(crate) fn put_word(store: &mut Vec<u8>, word: &[u8]) -> Result<(), AllocError>
     ensures { OnOk result (store.new.items ≡ word.now) }
@@ -61,6 +87,7 @@ impl Joint {
         Ok(Joint {
             listed,
             digest: Vec::new(alloc),
+            text: TextDigest::new(),
             met,
             finished: false,
             found: None,
@@ -73,6 +100,15 @@ impl Joint {
             next: Vec::new(alloc),
             until: Vec::new(alloc),
         })
+    }
+
+    /// Takes a line and its line feed into the digest of the open text.
+    fn note(&mut self, line: &[u8])
+        ensures listed { self.new.listed ≡ self.old.listed }
+        ensures noted { join_of self.new ≡ line_noted (join_of self.old) line.now }
+    {
+        self.text.take(line);
+        self.text.take(b"\n");
     }
 
     /// A text is of this problem, as are all others.
@@ -110,6 +146,7 @@ impl Joint {
             (λ act. (act ≡ Nothing) × (join_of self.new ≡ closed (join_of self.old) until.now)) (λ e. e ≡ Memory) }
     {
         put_word(&mut self.met, until)?;
+        self.text = TextDigest::new();
         self.finished = until == b"-".as_slice();
         self.found = None;
         Ok(Act::Nothing)
@@ -134,9 +171,13 @@ impl Joint {
     /// Takes a text that is a record alone.
     fn take_record(&mut self, alloc: Global, line: &[u8]) -> Result<Act, Refusal>
         ensures listed { self.new.listed ≡ self.old.listed }
-        ensures step { TakesLine (by_record (join_of self.old) (words_in line.now)) line.now result self.new }
+        ensures step { TakesLine (by_digest (join_of self.old) line.now (by_record (join_of self.old)))
+            line.now result self.new }
     {
-        let words = words_of(alloc, line)?;
+        let Some(front) = before_digest(self.text, line) else {
+            return Err(Refusal::NotText);
+        };
+        let words = words_of(alloc, front)?;
         let Some(record) = record_of(&words) else {
             return Err(Refusal::NotText);
         };
@@ -161,9 +202,13 @@ impl Joint {
     /// Takes the record of a listing with so many solutions.
     fn take_last(&mut self, alloc: Global, found: u64, line: &[u8]) -> Result<Act, Refusal>
         ensures listed { self.new.listed ≡ self.old.listed }
-        ensures step { TakesLine (by_last (join_of self.old) found (words_in line.now)) line.now result self.new }
+        ensures step { TakesLine (by_digest (join_of self.old) line.now (by_last (join_of self.old) found))
+            line.now result self.new }
     {
-        let words = words_of(alloc, line)?;
+        let Some(front) = before_digest(self.text, line) else {
+            return Err(Refusal::NotText);
+        };
+        let words = words_of(alloc, front)?;
         let Some(record) = record_of(&words) else {
             return Err(Refusal::NotText);
         };
@@ -215,12 +260,14 @@ impl Joint {
         ensures step { TakesLine (inside (join_of self.old) found line.now) line.now result self.new }
     {
         if begins_with(line, b' ') && found > 0 {
+            self.note(line);
             return self.take_choice(line);
         }
         if begins_with(line, b'f') {
             return self.take_last(alloc, found, line);
         }
         if found < u64::MAX && is_header(line, found + 1) && self.ends_well(found) {
+            self.note(line);
             return Ok(self.take_header(found + 1));
         }
         Err(Refusal::NotText)
@@ -233,7 +280,10 @@ impl Joint {
     {
         match self.found {
             Some(found) => self.take_inside(alloc, found, line),
-            None if self.listed => self.take_heading(alloc, line),
+            None if self.listed => {
+                self.note(line);
+                self.take_heading(alloc, line)
+            }
             None => self.take_record(alloc, line),
         }
     }

@@ -1,12 +1,14 @@
 -- No public clause cites this module. What is made of the lines of the texts of spans, word by word and one by
 -- one.
 use Rattle.std.specs.Prelude.{ℕ, ◌+◌, ◌==◌, ◌&&◌, ◌||◌, not, nat_lt, Bool, true, false, ◌≡◌, List, [], ◌∷◌, ◌++◌}
-use Rattle.std.specs.Prelude.{length, take, slice_get, Option, Some, None, if◌then◌else◌, ◌-◌, ◌*◌, min, map, fold}
-use Rattle.std.specs.Prelude.{decimal, codes, option_map, Result, Ok, Err}
+use Rattle.std.specs.Prelude.{length, take, drop, nat_le, slice_get, Option, Some, None, if◌then◌else◌, ◌-◌, ◌*◌, min}
+use Rattle.std.specs.Prelude.{map, fold, decimal, codes, option_map, Result, Ok, Err}
 use Rattle.std.specs.List.{list_all, slice_split}
 use Rattle.std.specs.Str.{byte, bytes_eq}
 use Rattle.xc_search.specs.Spans.{precedes}
+use Rattle.xc_list.specs.Digests.{after_text, begun_digest, digits_of}
 use Rattle.xc_list.specs.SpanTexts.{most_counted}
+use Rattle.xc_list.specs.declared.text_digest.TextDigest.{TextDigest}
 use Rattle.xc_check.specs.ListingLines.{before_last, branch_number, words_in}
 use Rattle.xc_tools.specs.declared.joint.Rising.{Rising}
 use Rattle.xc_tools.specs.SpanShapes.{is_digest}
@@ -159,15 +161,24 @@ told_of r = record {
   counts = record { solutions = r.solutions; digest = r.digest.now };
 }
 
+-- what is before the digest of a text in its last line, if this is the digest of the text up to there
+abbrev pub before_digest : TextDigest → List ℕ → Option (List ℕ)
+before_digest text line =
+    let front = take (length line - 22) line in let last = drop (length line - 22) line in
+    if nat_le 22 (length line) && bytes_eq (take 6 last) (codes " text ")
+    && bytes_eq (drop 6 last) (digits_of (after_text text front))
+    then Some front else None
+
 -- ======== What is made of the lines of the texts of spans, one by one.
 
--- How far texts were read: whether they are listings; the digest of the first one's problem, once there is one; the
--- word
--- of the row where the last one ended, and whether that was the end of the listing; how many solutions the open text
--- has, if one is open, and the row of the last one; how many there are in all, and whether there are more than that.
+-- How far texts were read: whether they are listings; the digest of the first one's problem, once there is one; that of
+-- the bytes of the open text up to now; the word of the row where the last one ended, and whether that was the end of
+-- the listing; how many solutions the open text has, if one is open, and the row of the last one; how many there are in
+-- all, and whether there are more than that.
 pub record Join : Type 0 where
   pub listed : Bool
   pub digest : List ℕ
+  pub text : TextDigest
   pub met : List ℕ
   pub finished : Bool
   pub found : Option ℕ
@@ -202,7 +213,15 @@ begins_at s digest row next =
 
 -- a text ended at this row
 abbrev pub closed : Join → List ℕ → Join
-closed s until = record s { met = until; finished = bytes_eq until (codes "-"); found = None }
+closed s until = record s { text = begun_digest; met = until; finished = bytes_eq until (codes "-"); found = None }
+
+-- a line was taken into the digest of the open text
+abbrev pub line_noted : Join → List ℕ → Join
+line_noted s line = record s { text = after_text s.text (line ++ 10 ∷ []) }
+
+-- what is made of the last line of a text, where it tells the digest of that
+abbrev pub by_digest : Join → List ℕ → (List (List ℕ) → Stand × List ℕ) → Stand × List ℕ
+by_digest s line next = elim (before_digest s.text line) [ None ↦ (faulty, []) | Some front ↦ next (words_in front) ]
 
 -- where a listing begins
 abbrev pub opened : Join → Headed → Join
@@ -276,16 +295,17 @@ by_choice s line = elim (row_after s line) [
 -- a line of an open listing with so many solutions
 abbrev pub inside : Join → ℕ → List ℕ → Stand × List ℕ
 inside s found line =
-    if begins_with 32 line && nat_lt 0 found then by_choice s line
-    else if begins_with 102 line then by_last s found (words_in line)
-    else if nat_lt found most_counted && is_header (found + 1) line && ends_well s found then by_header s (found + 1)
+    if begins_with 32 line && nat_lt 0 found then by_choice (line_noted s line) line
+    else if begins_with 102 line then by_digest s line (by_last s found)
+    else if nat_lt found most_counted && is_header (found + 1) line && ends_well s found
+    then by_header (line_noted s line) (found + 1)
     else (faulty, [])
 
 -- a line, and what is written for it
 abbrev pub by_line : Join → List ℕ → Stand × List ℕ
 by_line s line = elim s.found [
   | Some found ↦ inside s found line
-  | None ↦ if s.listed then by_heading s (words_in line) else by_record s (words_in line)
+  | None ↦ if s.listed then by_heading (line_noted s line) (words_in line) else by_digest s line (by_record s)
 ]
 
 -- what is written for a line
@@ -299,6 +319,7 @@ abbrev pub join_of : Joint → Join
 join_of j = record {
   listed = j.listed;
   digest = j.digest.items;
+  text = j.text;
   met = j.met.items;
   finished = j.finished;
   found = j.found;
@@ -338,6 +359,7 @@ abbrev pub start : Bool → Join
 start listed = record {
   listed = listed;
   digest = [];
+  text = begun_digest;
   met = codes "-";
   finished = false;
   found = None;

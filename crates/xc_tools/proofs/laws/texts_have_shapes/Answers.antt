@@ -1,4 +1,4 @@
-use Rattle.xc_tools.proofs.Stopped.{texts-shapes}
+use Rattle.xc_tools.proofs.Written.{texts-shapes}
 use Rattle.xc_tools.proofs.laws.texts_have_shapes.Goals as goal
 
 pub returns : goal.returns

@@ -1,4 +1,4 @@
-use Rattle.xc_tools.proofs.Stopped.{written-texts}
+use Rattle.xc_tools.proofs.Written.{written-texts}
 use Rattle.xc_tools.proofs.laws.written_texts_meet.Goals as goal
 
 pub returns : goal.returns
