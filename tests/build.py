@@ -1,22 +1,26 @@
 #!/usr/bin/env python3
-"""Tests of scripts/build over a toolchain that only pretends: what is built, what is taken as it is, what is told."""
+"""Tests of scripts/build over a toolchain that only pretends: what is built, what is taken as it is, what is told; and
+of what is installed and packed then.
+"""
 
 from __future__ import annotations
 
 import os
 import shutil
 import subprocess
+import sys
 import tempfile
 import unittest
 from pathlib import Path
 
 TOP = Path(__file__).resolve().parent.parent
+PROGRAMS = ["dlx1", "dlx2", "dlx3", "dlxcheck", "dlx_span", "dlx_join", "dlx_count"]
 RT = """#!/bin/sh
+[ "$1" != version ] || exec echo a kit
 echo 'so far: 3 of 9 functions checked'
 name=$(basename "$PWD")
 [ ! -e "$PWD/broken" ] || { echo "no proof of $name"; exit 1; }
 case $1 in
-version) echo a kit ;;
 run) mkdir -p out && printf '#!/bin/sh\\n' >"out/$name" && chmod +x "out/$name" ;;
 esac
 """
@@ -74,8 +78,8 @@ class Build(unittest.TestCase):
         self.assertIn("no proof of low", told)
 
 
-class Whole(unittest.TestCase):
-    """`make all` over the crates of the repository, by a toolchain that says much and proves nothing."""
+class Tree(unittest.TestCase):
+    """The crates of the repository by their names, and a toolchain that says much and proves nothing."""
 
     def setUp(self) -> None:
         self.top = Path(tempfile.mkdtemp())
@@ -90,14 +94,22 @@ class Whole(unittest.TestCase):
             (self.top / "crates" / crate.name / "src" / "lib.rt").write_text(crate.name)
         (self.top / "kit").mkdir()
         talking = "seq -f 'so far: %g of 300 functions checked' 300; echo \"$1 $PWD\" >>\"$(dirname \"$0\")/calls\"\n"
-        (self.top / "kit" / "rt").write_text(RT.replace("name=", f"[ $1 = version ] || {{ {talking}}}\nname=", 1))
+        (self.top / "kit" / "rt").write_text(RT.replace("name=", f"{talking}name=", 1))
         (self.top / "kit" / "rt").chmod(0o755)
 
-    def make(self) -> list[str]:
-        environment = {**ENVIRONMENT, "PATH": f"{self.top / 'kit'}:{os.environ['PATH']}"}
-        ran = subprocess.run(["make", "all"], cwd=self.top, capture_output=True, text=True, env=environment)
+    def run_make(self, *words: str, path: str | None = None) -> subprocess.CompletedProcess[str]:
+        """`make` with words, with the toolchain on the path, or by another path."""
+        environment = {**ENVIRONMENT, "PATH": path or f"{self.top / 'kit'}:{os.environ['PATH']}"}
+        return subprocess.run(["make", *words], cwd=self.top, capture_output=True, text=True, env=environment)
+
+    def make(self, target: str = "all") -> list[str]:
+        ran = self.run_make(target)
         self.assertEqual((ran.returncode, ran.stderr), (0, ""))
         return ran.stdout.splitlines()
+
+
+class Whole(Tree):
+    """`make all`, and what it leaves in `bin`."""
 
     def calls(self) -> list[str]:
         """The crates that the toolchain was at."""
@@ -126,31 +138,99 @@ class Whole(unittest.TestCase):
         self.assertTrue((self.top / "bin" / "dlx1").is_file())
 
     def test_nothing_is_installed_before_it_is_built(self) -> None:
-        words = ["make", "install", f"DESTDIR={self.top / 'to'}"]
-        ran = subprocess.run(words, cwd=self.top, capture_output=True, text=True, env=ENVIRONMENT)
+        ran = self.run_make("install", f"DESTDIR={self.top / 'to'}")
         self.assertIn("bin/dlx1 isn't built: run make all\n", ran.stderr)
         self.assertFalse((self.top / "to").exists())
 
     def test_behind_the_gate_nothing_is_built(self) -> None:
-        names = ["dlx1", "dlx2", "dlx3", "dlxcheck", "dlx_span", "dlx_join", "dlx_count"]
-        for name in names:
+        for name in PROGRAMS:
             (self.top / "crates" / name / "out").mkdir()
             (self.top / "crates" / name / "out" / name).write_text("a program")
         environment = {**os.environ, "PATH": f"{self.top / 'kit'}:{os.environ['PATH']}"}
         # As tests/gate.sh does where `rt ci` passed.
         gate = (TOP / "tests" / "gate.sh").read_text()
-        self.assertIn(f"scripts/build --note {' '.join(names)}\n", gate)
-        subprocess.run([self.top / "scripts" / "build", "--note", *names], check=True, env=environment)
+        self.assertIn(f"scripts/build --note {' '.join(PROGRAMS)}\n", gate)
+        subprocess.run([self.top / "scripts" / "build", "--note", *PROGRAMS], check=True, env=environment)
         for _ in range(2):
-            self.assertEqual(self.make(), [f"built already: {' '.join(names)}"])
+            self.assertEqual(self.make(), [f"built already: {' '.join(PROGRAMS)}"])
         self.assertEqual(self.calls(), [])
+
+
+class Packed(Tree):
+    """What is installed and packed."""
+
+    def setUp(self) -> None:
+        super().setUp()
+        for name in ("docs", "examples", "man", "release", "python/helgrothy"):
+            shutil.copytree(TOP / name, self.top / name, ignore=shutil.ignore_patterns("*.pyc"))
+        for name in ("CHANGELOG.md", ".gitignore", "python/README.md", "python/pyproject.toml", "bindings/c/helgrothy.h"):
+            (self.top / name).parent.mkdir(parents=True, exist_ok=True)
+            shutil.copy(TOP / name, self.top / name)
+        # These name the version.
+        for name in ("bindings/rust/Cargo.toml", "crates/xc_c/src/lib.rt"):
+            (self.top / name).parent.mkdir(parents=True, exist_ok=True)
+            shutil.copy(TOP / name, self.top / name)
+        words = ["git", "-c", "user.name=x", "-c", "user.email=x", "-c", "init.defaultBranch=main"]
+        for more in (["init", "-q"], ["add", "."], ["commit", "-q", "-m", "all"]):
+            subprocess.run([*words, *more], cwd=self.top, check=True)
+        self.make()
+
+    def stranger(self, *names: str) -> None:
+        """Puts another program in some places."""
+        for name in names:
+            (self.top / name).unlink(missing_ok=True)
+            (self.top / name).write_text("#!/bin/sh\necho another\n")
+            (self.top / name).chmod(0o755)
+
+    def refused(self, told: str, *words: str) -> None:
+        """A target that fails, tells why, and makes nothing."""
+        ran = self.run_make("-s", *words, f"DESTDIR={self.top / 'to'}", "PREFIX=")
+        self.assertIn(f"{told}\n", ran.stderr)
+        self.assertNotIn("Traceback", ran.stderr)
+        self.assertNotEqual(ran.returncode, 0)
+        self.assertFalse((self.top / "to").exists() or (self.top / "dist").exists())
+
+    def test_what_was_built_is_installed_without_the_toolchain(self) -> None:
+        tools = self.top / "tools"
+        tools.mkdir()
+        (tools / "python3").symlink_to(sys.executable)
+        ran = self.run_make("install", f"DESTDIR={self.top / 'to'}", "PREFIX=", path=f"{tools}:/usr/bin:/bin")
+        self.assertEqual((ran.returncode, ran.stderr), (0, ""))
+        for name in PROGRAMS:
+            self.assertTrue(os.access(self.top / "to" / "bin" / name.replace("_", "-"), os.X_OK))
+
+    def test_a_program_of_other_sources_is_neither_installed_nor_packed(self) -> None:
+        (self.top / "crates" / "xc_list" / "src" / "lib.rt").write_text("another")
+        for target in ("install", "dist", "deb", "wheel", "release"):
+            self.refused("bin/dlx1 was built of other sources than these: run make all", target)
+        self.make()
+        self.make("dist")
+
+    def test_a_program_that_was_not_built_is_not_installed(self) -> None:
+        self.stranger("crates/dlx2/out/dlx2")
+        self.refused("bin/dlx2 isn't the program that was built: run make all", "install")
+        self.make()
+        (self.top / "crates" / "dlx_span" / "out" / "dlx_span").unlink()
+        self.stranger("bin/dlx-span")
+        self.refused("bin/dlx-span isn't the program that was built: run make all", "install")
+        self.refused("bin/dlx-span isn't the program that was built: run make all", "wheel")
+        self.make()
+        (self.top / "bin" / ".built" / "dlx3").unlink()
+        self.refused("nothing says of what bin/dlx3 was built: run make all", "install")
+        self.make()
+        self.make("wheel")
+
+    def test_a_program_of_another_toolchain_is_not_installed(self) -> None:
+        kit = self.top / "kit" / "rt"
+        kit.write_text(kit.read_text().replace("a kit", "a newer kit"))
+        self.refused("bin/dlx1 was built by another toolchain, a kit: run make all", "install")
 
 
 class Help(unittest.TestCase):
     def test_make_help_names_all_targets(self) -> None:
         lines = (TOP / "Makefile").read_text().splitlines()
         targets = {word for line in lines if line.startswith(".PHONY:") for word in line.split()[1:]}
-        targets -= {"help", "$(PROGRAMS)", "$(DASHED_CRATES)", "install-lib", "uninstall-lib"}
+        targets -= {"help", "$(PROGRAMS)", "$(DASHED_CRATES)", "checked", "install-lib", "uninstall-lib"}
         words = ["make", "-s", "-C", TOP, "help"]
         ran = subprocess.run(words, capture_output=True, text=True, check=True, env=ENVIRONMENT)
         told = [line.partition(": ")[0] for line in ran.stdout.splitlines()]
