@@ -45,11 +45,13 @@ class Build(unittest.TestCase):
         (self.top / "kit" / "rt").chmod(0o755)
 
     def build(self, *words: str) -> tuple[int, list[str]]:
-        path = f"{self.top / 'kit'}:{os.environ['PATH']}"
-        ran = subprocess.run(
-            [self.top / "scripts" / "build", *words], capture_output=True, text=True, env={**os.environ, "PATH": path}
-        )
+        ran = self.ran(*words)
         return ran.returncode, sorted(ran.stdout.splitlines())
+
+    def ran(self, *words: str) -> subprocess.CompletedProcess[str]:
+        path = f"{self.top / 'kit'}:{os.environ['PATH']}"
+        how = {"capture_output": True, "text": True, "env": {**os.environ, "PATH": path}, "timeout": 60}
+        return subprocess.run([self.top / "scripts" / "build", *words], **how)
 
     def test_from_nothing(self) -> None:
         told = ["built: one", "built: two", "crate 1 of 2: low", "crate 2 of 2: high"]
@@ -64,11 +66,76 @@ class Build(unittest.TestCase):
         (self.top / "crates" / "two" / "out" / "two").write_text("not what was built")
         self.assertIn("built: two", self.build("two")[1])
 
+    def program(self, name: str) -> Path:
+        """A program, as another command than this one builds it."""
+        built = self.top / "crates" / name / "out" / name
+        built.parent.mkdir(exist_ok=True)
+        built.write_text("a program")
+        return built
+
     def test_what_the_gate_built_is_taken(self) -> None:
-        (self.top / "crates" / "one" / "out").mkdir()
-        (self.top / "crates" / "one" / "out" / "one").write_text("a program")
-        self.assertEqual(self.build("--note", "one", "two"), (0, []))
+        before = self.ran("--before", "one", "two").stdout
+        self.program("one")
+        noted = self.ran("--note", before, "one", "two")
+        self.assertEqual((noted.returncode, noted.stdout), (1, ""))
+        self.assertEqual(noted.stderr, "two isn't taken as built: it wasn't built meanwhile\n")
         self.assertEqual(self.build("one"), (0, ["built already: one"]))
+
+    def test_what_was_there_before_is_not_taken_for_what_the_gate_built(self) -> None:
+        self.build("one")
+        (self.top / "crates" / "one" / "src" / "lib.rt").write_text("another")
+        before = self.ran("--before", "one").stdout
+        for state in (before, "", "one", "one a b", "one a b c\n\n"):
+            self.assertEqual(self.build("--note", state, "one"), (1, []))
+        self.assertIn("built: one", self.build("one")[1])
+
+    def test_no_program_is_taken_whose_sources_were_touched_meanwhile(self) -> None:
+        source = self.top / "crates" / "low" / "src" / "lib.rt"
+        kit = self.top / "kit" / "rt"
+        given = kit.read_text()
+        told = "one isn't taken as built: its sources, or the toolchain, were touched meanwhile\n"
+        # Changed; changed back; another source; another toolchain.
+        for texts in (["another"], ["another", "low"]):
+            before = self.ran("--before", "one").stdout
+            self.program("one")
+            for text in texts:
+                source.write_text(text)
+            self.assertEqual(self.ran("--note", before, "one").stderr, told)
+        before = self.ran("--before", "one").stdout
+        self.program("one")
+        (source.parent / "more.rt").write_text("")
+        self.assertEqual(self.ran("--note", before, "one").stderr, told)
+        before = self.ran("--before", "one").stdout
+        self.program("one")
+        kit.write_text(given.replace("a kit", "a newer kit"))
+        self.assertEqual(self.ran("--note", before, "one").stderr, told)
+        self.assertFalse((self.top / "bin" / ".built" / "one").exists())
+        # While it is built here.
+        kit.write_text(given.replace("run)", f"run) echo changed >{source};"))
+        built = self.ran("one")
+        self.assertEqual((built.returncode, built.stderr), (1, told))
+
+    def test_a_damaged_note_counts_as_none(self) -> None:
+        note = self.top / "bin" / ".built" / "one"
+        damages = [
+            lambda: note.symlink_to("/etc/passwd"),
+            lambda: note.mkdir(),
+            lambda: (note.mkdir(), (note / "a").touch()),
+            lambda: note.write_bytes(b"\377\376 \0 \n"),
+            lambda: note.touch(),
+            lambda: note.write_text("a b c d\ne f\n"),
+            lambda: os.mkfifo(note),
+            lambda: (shutil.rmtree(note.parent), note.parent.touch()),
+            lambda: (shutil.rmtree(note.parent), note.parent.symlink_to("nowhere")),
+        ]
+        for damage in damages:
+            self.build("one")
+            note.unlink()
+            damage()
+            checked, built = self.ran("--check", "one"), self.ran("one")
+            self.assertEqual((checked.stderr, built.stderr), ("bin/one isn't built: run make all\n", ""))
+            self.assertEqual((built.returncode, built.stdout.splitlines()[-1]), (0, "built: one"))
+            self.assertEqual(self.build("one"), (0, ["built already: one"]))
 
     def test_a_failure_is_shown(self) -> None:
         (self.top / "crates" / "low" / "broken").touch()
@@ -142,18 +209,34 @@ class Whole(Tree):
         self.assertIn("bin/dlx1 isn't built: run make all\n", ran.stderr)
         self.assertFalse((self.top / "to").exists())
 
+    def gate(self, *also: str) -> list[str]:
+        """tests/gate.sh with an `rt ci` that builds all programs, and does some things more. What it says of them."""
+        (self.top / "tests").mkdir(exist_ok=True)
+        shutil.copy(TOP / "tests" / "gate.sh", self.top / "tests")
+        kit = self.top / "kit"
+        names = " ".join(PROGRAMS)
+        builds = f'for name in {names}; do mkdir -p crates/$name/out; echo $$ >crates/$name/out/$name; done'
+        (kit / "rt").write_text(f"#!/bin/sh\ncase $1 in\nversion) echo a kit ;;\nci) {'; '.join([builds, *also])} ;;\nesac\n")
+        environment = {**os.environ, "PATH": f"{kit}:{os.environ['PATH']}"}
+        ran = subprocess.run(["sh", self.top / "tests" / "gate.sh"], capture_output=True, text=True, env=environment)
+        self.assertEqual((ran.returncode, ran.stdout), (0, ""))
+        return ran.stderr.splitlines()
+
     def test_behind_the_gate_nothing_is_built(self) -> None:
-        for name in PROGRAMS:
-            (self.top / "crates" / name / "out").mkdir()
-            (self.top / "crates" / name / "out" / name).write_text("a program")
-        environment = {**os.environ, "PATH": f"{self.top / 'kit'}:{os.environ['PATH']}"}
-        # As tests/gate.sh does where `rt ci` passed.
-        gate = (TOP / "tests" / "gate.sh").read_text()
-        self.assertIn(f"scripts/build --note {' '.join(PROGRAMS)}\n", gate)
-        subprocess.run([self.top / "scripts" / "build", "--note", *PROGRAMS], check=True, env=environment)
+        self.assertEqual(self.gate(), [])
         for _ in range(2):
             self.assertEqual(self.make(), [f"built already: {' '.join(PROGRAMS)}"])
         self.assertEqual(self.calls(), [])
+
+    def test_what_changed_while_the_gate_ran_is_built_again(self) -> None:
+        source = f"{self.top}/crates/dlx3/src/lib.rt"
+        told = "dlx3 isn't taken as built: its sources, or the toolchain, were touched meanwhile"
+        self.assertEqual(self.gate(f"echo changed >{source}"), [told])
+        others = [name for name in PROGRAMS if name != "dlx3"]
+        environment = {**os.environ, "PATH": f"{self.top / 'kit'}:{os.environ['PATH']}"}
+        words = [self.top / "scripts" / "build", *PROGRAMS]
+        ran = subprocess.run(words, capture_output=True, text=True, env=environment)
+        self.assertEqual(ran.stdout.splitlines()[0], f"built already: {' '.join(others)}")
 
 
 class Packed(Tree):
