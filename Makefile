@@ -176,15 +176,16 @@ uninstall: uninstall-lib ## take away what was installed
 	rm -rf "$(DESTDIR)$(pythondir)/helgrothy"
 	rmdir --ignore-fail-on-non-empty "$(DESTDIR)$(docdir)/python" "$(DESTDIR)$(docdir)" "$(DESTDIR)$(pythondir)"
 
-# Each of these makes a file in `dist`. The same files give the same bytes: whatever is packed is of this time.
+# Each of these makes a file in `dist`, of the programs and of what git tracks. The same files give the same bytes:
+# whatever is packed is of this time.
 SOURCE_DATE_EPOCH := $(or $(SOURCE_DATE_EPOCH),$(shell git log -1 --format=%ct 2>/dev/null))
 export SOURCE_DATE_EPOCH
 dist: checked version ## pack the archive
-	@sh release/dist.sh $(VERSION)
+	@sh release/tracked.sh sh release/dist.sh $(VERSION)
 deb: checked version ## pack the Debian package
-	@sh release/deb.sh $(VERSION)
+	@sh release/tracked.sh sh release/deb.sh $(VERSION)
 wheel: checked version ## pack the wheel
-	@python3 release/wheel.py $(VERSION)
+	@sh release/tracked.sh python3 release/wheel.py $(VERSION)
 # The version as a number, which C has: 10000 times the first part, 100 times the second, and the third.
 NUMBER = $(shell echo $(VERSION) | awk -F. '{ print 10000 * $$1 + 100 * $$2 + $$3 }')
 version: ## check that all files name the version

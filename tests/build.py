@@ -9,8 +9,10 @@ import os
 import shutil
 import subprocess
 import sys
+import tarfile
 import tempfile
 import unittest
+import zipfile
 from pathlib import Path
 
 TOP = Path(__file__).resolve().parent.parent
@@ -26,8 +28,8 @@ esac
 """
 
 
-# `make` says which folder it is in where another one calls it, as `make test` does.
-ENVIRONMENT = {name: value for name, value in os.environ.items() if not name.startswith("MAKE") and name != "MFLAGS"}
+# `make` says which folder it is in where another one calls it, as `make test` does; git tells its hooks where it is.
+ENVIRONMENT = {name: value for name, value in os.environ.items() if not name.startswith(("MAKE", "MFLAGS", "GIT_"))}
 
 
 class Build(unittest.TestCase):
@@ -254,8 +256,8 @@ class Packed(Tree):
             (self.top / name).parent.mkdir(parents=True, exist_ok=True)
             shutil.copy(TOP / name, self.top / name)
         words = ["git", "-c", "user.name=x", "-c", "user.email=x", "-c", "init.defaultBranch=main"]
-        for more in (["init", "-q"], ["add", "."], ["commit", "-q", "-m", "all"]):
-            subprocess.run([*words, *more], cwd=self.top, check=True)
+        for more in (["init", "-q"], ["add", "."], ["commit", "-q", "--no-gpg-sign", "-m", "all"]):
+            subprocess.run([*words, *more], cwd=self.top, check=True, env=ENVIRONMENT)
         self.make()
 
     def stranger(self, *names: str) -> None:
@@ -302,6 +304,52 @@ class Packed(Tree):
         self.refused("nothing says of what bin/dlx3 was built: run make all", "install")
         self.make()
         self.make("wheel")
+
+    def packed(self) -> set[str]:
+        """What is in the archive and in the wheel, but for the folders."""
+        self.make("dist")
+        self.make("wheel")
+        (archive,), (wheel,) = (list((self.top / "dist").glob(f"*.{ending}")) for ending in ("tar.gz", "whl"))
+        with tarfile.open(archive) as first, zipfile.ZipFile(wheel) as second:
+            return {it.name for it in first if not it.isdir()} | set(second.namelist())
+
+    def test_what_git_does_not_track_is_not_packed(self) -> None:
+        before = self.packed()
+        for name in ("docs/notes.txt~", "examples/.x.swp", "man/x.1", "release/x", "python/helgrothy/.secret"):
+            (self.top / name).write_text("secret")
+        cache = self.top / "python" / "helgrothy" / ".mypy_cache"
+        cache.mkdir()
+        (cache / "x.json").write_text("{}")
+        (self.top / "docs" / "link.md").symlink_to("/etc/hostname")
+        (self.top / "examples" / "folder").symlink_to("/etc/ssl")
+        self.assertEqual(self.packed(), before)
+        self.assertEqual(len([name for name in before if name.endswith("GUIDE.md")]), 1)
+
+    def test_what_git_tracks_is_packed_as_it_is_or_nothing(self) -> None:
+        shutil.rmtree(self.top / "dist", ignore_errors=True)
+        guide = self.top / "docs" / "GUIDE.md"
+        text = guide.read_text()
+        for damage in (lambda: None, lambda: guide.symlink_to("/etc/hostname"), guide.mkdir):
+            guide.unlink()
+            damage()
+            for target in ("dist", "wheel"):
+                self.refused("what git tracks is missing, or no plain file:\ndocs/GUIDE.md", target)
+            guide.rmdir() if damage == guide.mkdir else guide.unlink(missing_ok=True)
+            guide.write_text(text)
+        (self.top / "docs").rename(self.top / "elsewhere")
+        (self.top / "docs").symlink_to("elsewhere")
+        self.refused("docs/GUIDE.md", "dist")
+
+    def test_nothing_is_packed_that_was_built_of_what_git_does_not_track(self) -> None:
+        (self.top / "crates" / "dlx2" / "src" / "more.rt").write_text("more")
+        self.make()
+        for target in ("dist", "deb", "wheel"):
+            self.refused("built of files that git doesn't track:\ncrates/dlx2/src/more.rt", target)
+
+    def test_nothing_is_packed_without_git(self) -> None:
+        shutil.rmtree(self.top / ".git")
+        for target in ("dist", "deb", "wheel"):
+            self.refused("this folder isn't the top of a repository of git", target)
 
     def test_a_program_of_another_toolchain_is_not_installed(self) -> None:
         kit = self.top / "kit" / "rt"
