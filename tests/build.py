@@ -346,6 +346,20 @@ class Packed(Tree):
         for target in ("dist", "deb", "wheel"):
             self.refused("built of files that git doesn't track:\ncrates/dlx2/src/more.rt", target)
 
+    def test_an_archive_stays_where_another_cannot_be_packed(self) -> None:
+        self.packed()
+        before = {file: file.read_bytes() for file in (self.top / "dist").iterdir()}
+        # Each of these writes something first.
+        for name in ("tar", "gzip", "sort", "sha256sum"):
+            fails = self.top / "kit" / name
+            fails.write_text("#!/bin/sh\necho some\nexit 1\n")
+            fails.chmod(0o755)
+            self.assertNotEqual(self.run_make("-s", "dist").returncode, 0, name)
+            self.assertEqual({file: file.read_bytes() for file in (self.top / "dist").iterdir()}, before, name)
+            fails.unlink()
+        self.packed()
+        self.assertEqual({file: file.read_bytes() for file in (self.top / "dist").iterdir()}, before)
+
     def test_nothing_is_packed_without_git(self) -> None:
         shutil.rmtree(self.top / ".git")
         for target in ("dist", "deb", "wheel"):
