@@ -371,6 +371,66 @@ class Packed(Tree):
         self.refused("bin/dlx1 was built by another toolchain, a kit: run make all", "install")
 
 
+class Places(unittest.TestCase):
+    """The programs that are run where a tree's own path, or HELGROTHY_BIN, has a colon."""
+
+    def setUp(self) -> None:
+        self.top = Path(tempfile.mkdtemp()).resolve()
+        self.addCleanup(shutil.rmtree, self.top)
+
+    def programs(self, folder: Path, told: str) -> None:
+        folder.mkdir(parents=True, exist_ok=True)
+        for name in ("dlx1", "dlx2", "dlx3", "dlxcheck"):
+            (folder / name).write_text(f"#!/bin/sh\necho {told} >&2\nexit 1\n")
+            (folder / name).chmod(0o755)
+
+    def tree(self, name: str) -> Path:
+        """A folder as an archive has it."""
+        tree = self.top / name
+        shutil.copytree(TOP / "python" / "helgrothy", tree / "python" / "helgrothy", ignore=shutil.ignore_patterns("*.pyc"))
+        self.programs(tree / "bin", "OWN")
+        shutil.copy(TOP / "scripts" / "helgrothy", tree / "bin")
+        return tree
+
+    def run_in(self, folder: Path, tree: Path, given: str | None = None) -> str:
+        """What a command says, with a HELGROTHY_BIN, in a folder."""
+        environment = {name: value for name, value in ENVIRONMENT.items() if name != "HELGROTHY_BIN"}
+        if given is not None:
+            environment["HELGROTHY_BIN"] = given
+        words = [tree / "bin" / "helgrothy", "queens", "4"]
+        environment["PYTHONDONTWRITEBYTECODE"] = "1"
+        return subprocess.run(words, cwd=folder, capture_output=True, text=True, env=environment).stderr
+
+    def test_no_program_of_the_current_folder_is_run(self) -> None:
+        stranger = self.top / "a"
+        for folder in ("", "bin", "bin/bin", "b", "b/bin", "c/b/bin"):
+            self.programs(stranger / folder, "ANOTHER")
+        for name in ("a:bin", "a:b", "a:", "a::", "a:c/b", "a:b:bin", ":b", "a:/bin", "plain"):
+            said = self.run_in(stranger, self.tree(name))
+            self.assertIn("OWN", said, name)
+            self.assertNotIn("ANOTHER", said, name)
+        tree = self.top / "plain"
+        for given in (".", "bin", "./bin", ":bin", "bin:", "bin:.", "../a", "::", f"bin:{self.top}/none:b"):
+            self.assertNotIn("ANOTHER", self.run_in(stranger, tree, given), given)
+
+    def test_programs_are_run_by_whole_paths(self) -> None:
+        tree = self.tree("tree")
+        for name in ("first", "second:b", "third"):
+            self.programs(self.top / name, name.upper())
+        top = self.top
+        for given, told in (
+            (f"{top}/first", "FIRST"),
+            (f"{top}/first:", "FIRST"),
+            (f":{top}/first:{top}/third", "FIRST"),
+            (f"{top}/none:{top}/third", "THIRD"),
+            (f"{top}/none::{top}/third", "THIRD"),
+            (f"bin:{top}/third", "THIRD"),
+            (f"{top}/second:b", "SECOND:B"),
+            (f"{top}/none:{top}/second:b:{top}/first", "SECOND:B"),
+        ):
+            self.assertIn(told, self.run_in(top, tree, given), given)
+
+
 class Help(unittest.TestCase):
     def test_make_help_names_all_targets(self) -> None:
         lines = (TOP / "Makefile").read_text().splitlines()
