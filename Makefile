@@ -20,10 +20,10 @@ LIBRARY = $(wildcard bindings/out/libhelgrothy.so)
 # The number rises where a program that was linked with an earlier library couldn't run with this one.
 SONAME = libhelgrothy.so.0
 
-.PHONY: help run bin all $(PROGRAMS) $(DASHED_CRATES) test test-mutants test-hostile test-hostile-python test-python
-.PHONY: test-count test-search test-page test-docs
+.PHONY: help run bin all quick $(PROGRAMS) $(DASHED_CRATES) test test-mutants test-hostile test-hostile-python
+.PHONY: test-python test-count test-search test-page test-docs
 .PHONY: pictures completion believed names bench bench-forms test-bench test-build
-.PHONY: lib install install-lib uninstall uninstall-lib dist deb wheel version release
+.PHONY: lib checked install install-lib uninstall uninstall-lib dist deb wheel version release
 .PHONY: test-library test-bindings test-install test-dist test-deb test-wheel
 # Without a target: the list of targets.
 help:
@@ -96,6 +96,10 @@ test-bench: ## test the scripts that measure
 all: ## build all programs, which proves the libraries first
 	@scripts/build $(PROGRAMS) $(DASHED_CRATES)
 	@$(MAKE) -s --no-print-directory bin
+# They are for trying out: what isn't proved is neither installed nor packed.
+quick: ## build all programs without proofs
+	@scripts/build --unproved $(PROGRAMS) $(DASHED_CRATES)
+	@$(MAKE) -s --no-print-directory bin
 $(PROGRAMS) $(DASHED_CRATES):
 	@scripts/build $@
 	@$(MAKE) -s --no-print-directory bin
@@ -128,8 +132,10 @@ COMMANDS = $(PROGRAMS) $(DASHED:%=dlx-%) dlx-progress helgrothy
 copy = find -L $(1) -type f ! -name '*.pyc' -exec sh -c \
     'for file; do install -D -m 644 "$$file" "$(2)/$$file" || exit 1; done' copy {} +
 
-install: bin install-lib ## install under PREFIX, in DESTDIR
-	@for command in $(COMMANDS); do [ -x bin/$$command ] || { echo "bin/$$command isn't built: run make all" >&2; exit 1; }; done
+# A program that isn't the one of its note, or is of other sources than these, is neither installed nor packed.
+checked: bin
+	@scripts/build --check $(PROGRAMS) $(DASHED_CRATES)
+install: checked install-lib ## install under PREFIX, in DESTDIR
 	install -d "$(DESTDIR)$(bindir)" "$(DESTDIR)$(mandir)/man1" "$(DESTDIR)$(mandir)/man5" "$(DESTDIR)$(completiondir)"
 	for command in $(COMMANDS); do install -m 755 bin/$$command "$(DESTDIR)$(bindir)/" || exit 1; done
 	for page in man/*.[15]; do \
@@ -147,7 +153,7 @@ install: bin install-lib ## install under PREFIX, in DESTDIR
 	sed -i '1s/$$/ $(VERSION)/' "$(DESTDIR)$(docdir)/README.md"
 	cd python && $(call copy,helgrothy,$(DESTDIR)$(pythondir))
 
-install-lib:
+install-lib: checked
 	$(if $(LIBRARY),install -D -m 644 $(LIBRARY:.so=.a) "$(DESTDIR)$(libdir)/libhelgrothy.a")
 	$(if $(LIBRARY),install -m 644 $(LIBRARY) "$(DESTDIR)$(libdir)/libhelgrothy.so.$(VERSION)")
 	$(if $(LIBRARY),ln -sfn libhelgrothy.so.$(VERSION) "$(DESTDIR)$(libdir)/$(SONAME)")
@@ -175,15 +181,16 @@ uninstall: uninstall-lib ## take away what was installed
 	rm -rf "$(DESTDIR)$(pythondir)/helgrothy"
 	rmdir --ignore-fail-on-non-empty "$(DESTDIR)$(docdir)/python" "$(DESTDIR)$(docdir)" "$(DESTDIR)$(pythondir)"
 
-# Each of these makes a file in `dist`. The same files give the same bytes: whatever is packed is of this time.
+# Each of these makes a file in `dist`, of the programs and of what git tracks. The same files give the same bytes:
+# whatever is packed is of this time.
 SOURCE_DATE_EPOCH := $(or $(SOURCE_DATE_EPOCH),$(shell git log -1 --format=%ct 2>/dev/null))
 export SOURCE_DATE_EPOCH
-dist: bin version ## pack the archive
-	@sh release/dist.sh $(VERSION)
-deb: bin version ## pack the Debian package
-	@sh release/deb.sh $(VERSION)
-wheel: bin version ## pack the wheel
-	@python3 release/wheel.py $(VERSION)
+dist: checked version ## pack the archive
+	@sh release/tracked.sh sh release/dist.sh $(VERSION)
+deb: checked version ## pack the Debian package
+	@sh release/tracked.sh sh release/deb.sh $(VERSION)
+wheel: checked version ## pack the wheel
+	@sh release/tracked.sh python3 release/wheel.py $(VERSION)
 # The version as a number, which C has: 10000 times the first part, 100 times the second, and the third.
 NUMBER = $(shell echo $(VERSION) | awk -F. '{ print 10000 * $$1 + 100 * $$2 + $$3 }')
 version: ## check that all files name the version

@@ -22,20 +22,29 @@ ln -s helgrothy.1.gz "$root/usr/share/man/man1/dlx-progress.1.gz"
 for program in dlx1 dlx2 dlx3 dlxcheck dlx-span dlx-join dlx-count; do strip --strip-unneeded "$root/usr/bin/$program"; done
 doc=$root/usr/share/doc/helgrothy
 cp release/copyright "$doc/copyright"
+# No pipes: of these the status of the last command alone counts.
+date=$(date -R -u -d "@${SOURCE_DATE_EPOCH:?}")
 {
     printf 'helgrothy (%s) unstable; urgency=medium\n\n  * What is new is in CHANGELOG.md.\n\n' "$version"
-    printf ' -- %s  %s\n' "$maintainer" "$(date -R -u -d "@${SOURCE_DATE_EPOCH:?}")"
-} | gzip -9n >"$doc/changelog.gz"
+    printf ' -- %s  %s\n' "$maintainer" "$date"
+} >"$doc/changelog"
+gzip -9n "$doc/changelog"
 
 mkdir "$root/DEBIAN"
 for script in postinst prerm; do install -m 755 "release/$script" "$root/DEBIAN/$script"; done
-(cd "$root" && find usr -type f | sort | xargs md5sum >DEBIAN/md5sums)
+cd "$root"
+find usr -type f >DEBIAN/md5sums
+sort -o DEBIAN/md5sums DEBIAN/md5sums
+xargs md5sum <DEBIAN/md5sums >DEBIAN/sums
+mv DEBIAN/sums DEBIAN/md5sums
+cd "$OLDPWD"
+size=$(du -sk --apparent-size "$root/usr")
 cat >"$root/DEBIAN/control" <<END
 Package: helgrothy
 Version: $version
 Architecture: amd64
 Maintainer: $maintainer
-Installed-Size: $(du -sk --apparent-size "$root/usr" | cut -f 1)
+Installed-Size: ${size%%[!0-9]*}
 Depends: libc6 (>= 2.34)
 Recommends: python3 (>= 3.9)
 Section: math

@@ -8,9 +8,11 @@ page=
 [ "${1-}" != --page ] || page=${2:?PAGE}
 jobs=${RT_JOBS:-$(nproc)}
 begun=$(date +%s)
+# `make all` takes the programs that this builds, unless somebody touches a source of theirs meanwhile.
+programs="dlx1 dlx2 dlx3 dlxcheck dlx_span dlx_join dlx_count"
+before=$(scripts/build --before $programs) || exit
 RT_JOBS=$jobs rt ci || exit
-# `make all` takes the programs that this built.
-scripts/build --note dlx1 dlx2 dlx3 dlxcheck dlx_span dlx_join dlx_count
+scripts/build --note "$before" $programs
 if [ -n "$page" ]; then
     taken=$(mktemp) || exit 2
     times >"$taken"

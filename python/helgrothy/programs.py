@@ -1,8 +1,8 @@
 """The programs: where they are, and how one is run.
 
-A program is looked for in the folders of `HELGROTHY_BIN` (parted as those of `PATH` are), then beside the package
-(`bin` in it, as an installed wheel has it; `bin` of an unpacked release; where a repository builds it), and last
-on the path, of which only whole paths count: what lies in the current folder is never run.
+A program is looked for in the folders of `HELGROTHY_BIN`, which are parted by colons, then beside the package (`bin`
+in it, as an installed wheel has it; `bin` of an unpacked release; where a repository builds it), and last on the path.
+Of both variables only whole paths count: what lies in the current folder is never run.
 """
 
 from __future__ import annotations
@@ -34,12 +34,19 @@ _LAST_LINE = re.compile(r"Altogether (\d+) solutions?( \(limit\))?\.\Z")
 def folders(program: str) -> list[str]:
     """The folders in which a program is looked for before the path, in their order."""
     package, top = _package(), _top()
-    given = [folder for folder in os.environ.get(VARIABLE, "").split(os.pathsep) if folder]
     beside = [os.path.join(package, "bin")]
     # Anybody may make a `bin` beside a package that lies in a folder of /tmp.
     if _is_anybodys(package) or not _is_anybodys(top):
         beside += [os.path.join(top, "bin"), os.path.join(top, "crates", program, "out")]
-    return given + beside
+    return _given(package) + beside
+
+
+def _given(package: str) -> list[str]:
+    """The folders of the variable, of which the command's own folder is one."""
+    # A folder's name may have colons in it: one parts two folders only where the second is a whole path.
+    parts = re.split(r":+(?=/)|:+\Z", os.environ.get(VARIABLE, ""))
+    # And where such a name ends with one, what stands before it is a part of the command's own folder.
+    return [it for it in parts if os.path.isabs(it) and not re.match(re.escape(it) + ":+/", package)]
 
 
 def _package() -> str:
