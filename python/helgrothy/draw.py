@@ -538,23 +538,9 @@ def drawing_of(problem: Problem[Any]) -> Drawing:
     # The makers make problems, which are drawn here: so they can't be imported with the module.
     from .make import KINDS
     from .make.kind import kind_of
+    from .sheet import as_made
 
     name = kind_of(problem.comments)
     if name is None or name not in KINDS:
         raise NoPicture("no comment of the problem says that `helgrothy make` made it; patterns can draw it")
-
-    def as_made(draw: Callable[[Any], Any], given: Any) -> Any:
-        try:
-            return draw(given)
-        except NoPicture:
-            raise
-        except (StopIteration, LookupError, ValueError, ArithmeticError):
-            raise NoPicture(f"the problem isn't as `helgrothy make {name}` made it") from None
-
-    drawing: Drawing = as_made(KINDS[name].drawing, problem)
-
-    def draw(lines: Sequence[str]) -> Picture:
-        picture: Picture = as_made(drawing, lines)
-        return picture
-
-    return draw
+    return as_made(name, as_made(name, KINDS[name].drawing)(problem))

@@ -16,6 +16,7 @@ from ..problem import Problem
 from ..syntax import MOST_ITEMS, MOST_USES
 
 if TYPE_CHECKING:
+    from ..sheet import Sheet
     from ..wishes import Wish
     from .clues import Clues
 
@@ -44,6 +45,7 @@ class Kind:
     wishes: of a kind whose table may have wishes those of a problem, from the table in its comments.
     clues: of a kind whose clues are options what these are, for who makes such puzzles.
     remarks: what is no fault of a problem that was made, and yet may be meant otherwise.
+    sheet: of a kind that draws tables these, by whole names.
     view: from which side the option of a line shows cells, where several options may show one, as a row and a column
         do; None where pictures of single options say nothing.
     """
@@ -59,6 +61,7 @@ class Kind:
     wishes: Callable[[Problem[Any]], list[Wish]] = lambda problem: []
     clues: Callable[[argparse.Namespace], Clues] | None = None
     remarks: Callable[[Problem[Any]], list[str]] = lambda problem: []
+    sheet: Callable[[Problem[Any]], Sheet] | None = None
     view: Callable[[str], str] | None = lambda line: ""
 
 
