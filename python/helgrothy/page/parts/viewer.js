@@ -15,6 +15,8 @@ const FOLDED = 3;
 const MOST_NAMES = 40;
 const SAVED_WITHIN = 60_000;
 const MOST_LINES = 30;
+// A picture that is wider doesn't stand beside the options: there its letters would be too small.
+const WIDE = 640;
 
 const sentence = (text) => `${text[0].toUpperCase()}${text.slice(1).replace(/\.$/, "")}.`;
 const get = (id) => document.getElementById(id);
@@ -253,11 +255,19 @@ class Viewer {
   showPicture(solution, isPaper) {
     const picture = this.picture(solution);
     get("single").classList.toggle("plain", !picture);
+    this.widen(Boolean(picture) && this.sizeOf(solution)[0] > WIDE);
     get("picture").replaceChildren(...(picture ? [shaded(picture, isPaper)] : []));
     if (picture) {
       const [wide, high] = this.sizeOf(solution);
       picture.style.width = `min(100%, ${2 * wide}px, ${Math.round((70 * wide) / high)}vh)`;
     }
+  }
+
+  // Folds the options where a wide picture comes, until they are opened.
+  widen(isWide) {
+    if (get("single").classList.contains("wide") === isWide) return;
+    get("single").classList.toggle("wide", isWide);
+    get("chosen").open = !isWide;
   }
 
   showSteps(solution) {
