@@ -204,6 +204,16 @@ class Kinds(InFolder):
         self.assertIn("% test1 cache=memcached database=postgresql14\n", self.asked("tests", "--chances")[1])
 
 
+class Cells(unittest.TestCase):
+    def test_one_without_a_colour_has_no_label(self):
+        for kind in ("words", "wordsearch"):
+            given = f"| helgrothy make {kind}\na | r1c1 r1c2\na r1c1:x r1c2\n"
+            for words, wanted in (((), "x ."), (("--svg",), ">x</text>"), (("--html",), '"a r1c1:x r1c2"')):
+                status, out, told = run("solve", *words, given=given)
+                self.assertEqual((status, told), (0, "Altogether 1 solution (limit).\n"), (kind, words))
+                self.assertIn(wanted, out)
+
+
 class Tables(unittest.TestCase):
     def test_a_timetable(self):
         problem = exams()

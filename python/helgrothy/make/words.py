@@ -117,7 +117,7 @@ def drawing(problem: Problem[Any]) -> Drawing:
         }
         for line in lines:
             for cell in filter(None, map(_CELL.match, line.split())):
-                cells[int(cell.group(1)) - 1, int(cell.group(2)) - 1].label = cell.group(3)
+                cells[int(cell.group(1)) - 1, int(cell.group(2)) - 1].label = cell.group(3) or ""
         return Picture("a grid of words", cells)
 
     return draw

@@ -209,7 +209,7 @@ def drawing(problem: Problem[Any]) -> Drawing:
             word, *squares = line.split()
             for cell in filter(None, map(_CELL.match, squares)):
                 at = int(cell.group(1)), int(cell.group(2))
-                letters[at] = cell.group(3)
+                letters[at] = cell.group(3) or ""
                 fills[at] = shades[word]
         if fill is not None and lines:
             letters, fills = filled(letters, words, int(fill.group(1))), {}
