@@ -422,8 +422,8 @@ class Pattern:
 
     def of(self, problem: Problem[Any]) -> Drawing:
         """The drawing for a problem. Raises `NoPicture` where no option has a cell, or `re.error`."""
-        cell = re.compile(rf"(?<!\S)(?:{self.cell})(?::(?P<colour_>\S+))?(?!\S)")
-        label = re.compile(rf"(?<!\S)(?:{self.label})(?!\S)")
+        cell = compiled(self.cell, r"(?<!\S)", r"(?::(?P<colour_>\S+))?(?!\S)")
+        label = compiled(self.label, r"(?<!\S)", r"(?!\S)")
         if cell.groups < 2:
             raise re.error("the pattern of a cell has no group for its row or column")
         board: set[Place] = {place for option in problem.options for place, _ in _cells(cell, problem.line(option))}
@@ -497,6 +497,17 @@ def _map_colours(parts: Sequence[Sequence[Place]]) -> list[int]:
 
 def _letter(number: int) -> str:
     return chr(ord("A") + number) if number < 26 else str(number)
+
+
+def compiled(pattern: str, before: str, after: str) -> re.Pattern[str]:
+    """A pattern between others. Raises `re.error`, which counts the characters of the pattern alone."""
+    try:
+        re.compile(pattern)
+    except re.error as error:
+        at = "" if error.pos is None else f" at character {error.pos + 1}"
+        hint = r"; a sign that stands for itself has a backslash in front, such as \("
+        raise re.error(f"{shown(pattern)}: {error.msg}{at}{hint}") from None
+    return re.compile(f"{before}(?:{pattern}){after}")
 
 
 def no_match(what: str, pattern: str, parts: str, lines: Iterator[str]) -> NoPicture:

@@ -16,7 +16,7 @@ from ..problem import Problem
 from ..sheet import Row, Sheet, whole_names
 from ..syntax import MOST_USES
 from ..wishes import Wish, check
-from .kind import Counted, Kind, check_items, numbered, read_text
+from .kind import Counted, Kind, check_items, check_numbers, check_texts, numbered, read_text
 from .rules import DaysOff, InARow, Rest, Rule
 
 # How many people a shift of a day takes, at least and at most.
@@ -62,6 +62,8 @@ def problem(
     An option is a person in a shift, `DAY/SHIFT PERSON PERSON-DAY`; with days_off there are also those of `PERSON-off`,
     the first days that are off together. Raises `TableFault`.
     """
+    check_texts(table=table)
+    check_numbers(in_a_row=in_a_row or 0, days_off=days_off or 0)
     days, needs, people = _read(table)
     if len(needs) * len(people) > MOST_USES:
         raise ValueError(f"{len(needs)} shifts of days for {len(people)} people are too many")

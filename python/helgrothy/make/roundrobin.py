@@ -12,7 +12,7 @@ from ..draw import Cell, Drawing, Picture, check_size
 from ..errors import TableFault
 from ..problem import Problem
 from ..sheet import Row, Sheet, whole_names
-from .kind import Counted, Kind, check_items, numbered, read_text
+from .kind import Counted, Kind, check_items, check_texts, numbered, read_text
 
 # Where the table begins in the comments of a problem.
 _TABLE_AT = 2
@@ -28,6 +28,11 @@ def problem(teams: Iterable[str], *, double: bool = False) -> Problem[list[str]]
 
     An option is a game in a round, `A-B A@1 B@1 home=A`, with A at home. Raises `TableFault`.
     """
+    if isinstance(teams, str) and "\n" in teams:
+        raise TypeError("teams are lines, and this is one text; its lines are text.splitlines()")
+    teams = list(teams)
+    for line in teams:
+        check_texts(**{"a line of a team": line})
     lines = [(number, line.split()) for number, line in enumerate(teams, 1) if line.split()]
     wishes = [_wishes(number, words) for number, words in lines]
     names = [name for name, _ in wishes]
@@ -160,7 +165,11 @@ def _add_arguments(parser: argparse.ArgumentParser) -> None:
 
 
 def _make(arguments: argparse.Namespace) -> Problem[list[str]]:
-    return problem((line for _, line in numbered(read_text(arguments.teams))), double=arguments.double)
+    asked = "TEAMS is a file with a line for each team, its name"
+    if arguments.teams.isdecimal():
+        asked += f" (of so many teams: seq {arguments.teams} | helgrothy roundrobin -)"
+    text = read_text(arguments.teams, asked=asked)
+    return problem((line for _, line in numbered(text)), double=arguments.double)
 
 
 KIND = Kind("roundrobin", "a round robin at home and away", _add_arguments, _make, drawing, sheet=sheet, view=None)

@@ -14,7 +14,7 @@ from ..sheet import Row, Sheet
 from . import allowed
 from .designs import LEVELS, Design, Factor, Option, read_factors, read_rules
 from .fewest import Few, fewest
-from .kind import Found, Kind, read_text
+from .kind import Found, Kind, check_numbers, check_texts, read_text
 
 _ITEM = re.compile(r"t([0-9]+)/([^:]+)(?::(.+))?\Z")
 # Where the table begins in the comments of a problem.
@@ -35,6 +35,8 @@ def problem(factors: str, tests: int, strength: int = 2) -> Problem[Option]:
 
     Raises `TableFault`, or `ValueError` for fewer tests than these.
     """
+    check_texts(factors=factors)
+    check_numbers(tests=tests, strength=strength)
     read = read_factors(factors)
     if read_rules(factors, read):
         raise ValueError("the table has lines that begin with - or +: --least takes them, --tests doesn't")
@@ -47,6 +49,8 @@ def few(factors: str, strength: int = 2, seconds: float | None = None) -> Few:
 
     Raises `TableFault`, `ValueError`, or `OutOfTime` where the time isn't enough for any.
     """
+    check_texts(factors=factors)
+    check_numbers(strength=strength)
     read = read_factors(factors)
     rules = read_rules(factors, read)
     if rules:

@@ -14,7 +14,7 @@ from ..sheet import Row, Sheet, whole_names
 from ..shown import bytes_of
 from ..syntax import MOST_NAME
 from ..wishes import Wish, check
-from .kind import Counted, Kind, check_items, numbered, read_text
+from .kind import Counted, Kind, check_items, check_numbers, check_texts, numbered, read_text
 from .lessons import Lesson, Order, Plan, Room, Slot
 
 # Items with their colours, or None.
@@ -54,6 +54,8 @@ def problem(table: str, *, daily: int | None = None) -> Problem[Option]:
     first has items `before1@@SLOT` up to its slot, of one colour, and the others those from theirs on, of another one;
     of those of the same slot each has this as the colour of an item. Raises `TableFault`.
     """
+    check_texts(table=table)
+    check_numbers(daily=daily or 0)
     plan = Plan(table, daily)
     limits, orders = _Limits(plan), _Orders(plan)
     options: Counted[Option] = Counted()
