@@ -103,6 +103,8 @@ class _Games:
         self.teams = [line.split()[0] for line in problem.comments[_TABLE_AT:] if line.split()]
         double = "--double" in problem.comments[0].split()
         self.rounds = _rounds(len(self.teams), double)
+        if self.rounds * len(self.teams) > len(problem.items) + len(problem.secondary):
+            raise ValueError("the comments have more teams than the problem")
         where = [(name, number) for number in range(1, self.rounds + 1) for name in self.teams]
         played = [f"{name}@{number}" for name, number in where]
         if len(self.teams) % 2:
