@@ -78,9 +78,9 @@ _dlx_options() {
         'helgrothy make timetable')
             options='--help --daily' ;;
         'helgrothy solve')
-            options='--help --number --random --limit --all --count --chances --unique --svg --html --json --csv --seed --seconds --with --without --shuffle --up-to-symmetry --cost --cell --row --column --label' ;;
+            options='--help --number --random --limit --all --count --chances --unique --svg --html --json --csv --options --seed --seconds --with --without --shuffle --up-to-symmetry --cost --cell --row --column --label' ;;
         'helgrothy draw')
-            options='--help --number --svg --html --json --csv --cell --row --column --label' ;;
+            options='--help --number --svg --html --json --csv --options --cell --row --column --label' ;;
         'helgrothy lint')
             options='--help --for' ;;
         'helgrothy why')
@@ -118,23 +118,23 @@ _dlx_options() {
         'helgrothy minimal sudoku')
             options='--help --regions --cages --diagonals --with --seed --seconds' ;;
         'helgrothy sudoku')
-            options='--help --regions --cages --diagonals --number --random --limit --all --count --chances --unique --svg --html --json --csv --seed --seconds --with --without --shuffle --up-to-symmetry --cost' ;;
+            options='--help --regions --cages --diagonals --number --random --limit --all --count --chances --unique --svg --html --json --csv --options --seed --seconds --with --without --shuffle --up-to-symmetry --cost' ;;
         'helgrothy queens' | 'helgrothy langford' | 'helgrothy words' | 'helgrothy nonogram' | 'helgrothy kakuro')
-            options='--help --number --random --limit --all --count --chances --unique --svg --html --json --csv --seed --seconds --with --without --shuffle --up-to-symmetry --cost' ;;
+            options='--help --number --random --limit --all --count --chances --unique --svg --html --json --csv --options --seed --seconds --with --without --shuffle --up-to-symmetry --cost' ;;
         'helgrothy polyominoes')
-            options='--help --no-turns --no-mirrors --some --number --random --limit --all --count --chances --unique --svg --html --json --csv --seed --seconds --with --without --shuffle --up-to-symmetry --cost' ;;
+            options='--help --no-turns --no-mirrors --some --number --random --limit --all --count --chances --unique --svg --html --json --csv --options --seed --seconds --with --without --shuffle --up-to-symmetry --cost' ;;
         'helgrothy polycubes')
-            options='--help --mirrors --some --number --random --limit --all --count --chances --unique --svg --html --json --csv --seed --seconds --with --without --shuffle --up-to-symmetry --cost' ;;
+            options='--help --mirrors --some --number --random --limit --all --count --chances --unique --svg --html --json --csv --options --seed --seconds --with --without --shuffle --up-to-symmetry --cost' ;;
         'helgrothy wordsearch')
-            options='--help --forwards --fill --number --random --limit --all --count --chances --unique --svg --html --json --csv --seed --seconds --with --without --shuffle --up-to-symmetry --cost' ;;
+            options='--help --forwards --fill --number --random --limit --all --count --chances --unique --svg --html --json --csv --options --seed --seconds --with --without --shuffle --up-to-symmetry --cost' ;;
         'helgrothy roster')
-            options='--help --rest --in-a-row --days-off --number --random --limit --all --count --chances --unique --svg --html --json --csv --seed --seconds --with --without --shuffle --up-to-symmetry --cost' ;;
+            options='--help --rest --in-a-row --days-off --number --random --limit --all --count --chances --unique --svg --html --json --csv --options --seed --seconds --with --without --shuffle --up-to-symmetry --cost' ;;
         'helgrothy roundrobin')
-            options='--help --double --number --random --limit --all --count --chances --unique --svg --html --json --csv --seed --seconds --with --without --shuffle --up-to-symmetry --cost' ;;
+            options='--help --double --number --random --limit --all --count --chances --unique --svg --html --json --csv --options --seed --seconds --with --without --shuffle --up-to-symmetry --cost' ;;
         'helgrothy tests')
-            options='--help --tests --strength --least --number --random --limit --all --count --chances --unique --svg --html --json --csv --seed --seconds --with --without --shuffle --up-to-symmetry --cost' ;;
+            options='--help --tests --strength --least --number --random --limit --all --count --chances --unique --svg --html --json --csv --options --seed --seconds --with --without --shuffle --up-to-symmetry --cost' ;;
         'helgrothy timetable')
-            options='--help --daily --number --random --limit --all --count --chances --unique --svg --html --json --csv --seed --seconds --with --without --shuffle --up-to-symmetry --cost' ;;
+            options='--help --daily --number --random --limit --all --count --chances --unique --svg --html --json --csv --options --seed --seconds --with --without --shuffle --up-to-symmetry --cost' ;;
         *) return 1 ;;
     esac
 }

@@ -11,6 +11,7 @@ from .errors import NoPicture, OutOfTime, ProgramFailed
 from .make import KINDS
 from .make.kind import kind_of
 from .occurrences import Occurrences
+from .sheet import teller
 from .showing import drawing
 
 if TYPE_CHECKING:
@@ -73,7 +74,8 @@ def _view(problem: Problem[Any]) -> chances.View | None:
 def _listed(problem: Problem[Any], found: Occurrences) -> Iterator[str]:
     """A line for each option that is in a solution."""
     wide = len(str(found.total))
+    told = teller(problem)
     for option, times in zip(problem.options, found.by_option):
         if times:
             share = f"{chances.percent(times, found.total)}%"
-            yield f"{times:{wide}} {share:>4} {problem.line(option)}\n"
+            yield f"{times:{wide}} {share:>4} {told(problem.line(option))}\n"

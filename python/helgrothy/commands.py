@@ -252,10 +252,18 @@ def _add_forms(parser: argparse.ArgumentParser, svg: str) -> None:
         dest="data",
         action="store_const",
         const="json",
-        help="a line of JSON for each solution: its number, the numbers of its options, their items, and the colours",
+        help="a line of JSON for each solution: its number, and the rows of the table that is drawn; where none is, "
+        "the numbers of its options, their items, and the colours",
     )
     form.add_argument(
-        "--csv", dest="data", action="store_const", const="csv", help="a table as CSV, with a line for each choice"
+        "--csv",
+        dest="data",
+        action="store_const",
+        const="csv",
+        help="the table that is drawn as CSV; where none is, a line for each choice",
+    )
+    parser.add_argument(
+        "--options", action="store_true", help="of --json and --csv: the options, also where a table is drawn"
     )
 
 

@@ -2,6 +2,8 @@
 
 Options are given by their numbers, from 1 on, as the variables of exports are. `of_json` and `of_csv` give back a name
 that isn't written as it is.
+
+Of a kind that draws tables, `as_table` writes those: their rows, with whole names.
 """
 
 from __future__ import annotations
@@ -15,9 +17,10 @@ from collections.abc import Callable, Iterable, Iterator, Mapping, Sequence
 from typing import Any, Optional
 
 from .problem import Problem
+from .sheet import Row, Sheet, sheet_of
 from .shown import bytes_of, text_of
 
-__all__ = ["FORMATS", "Csv", "Data", "Json", "of_csv", "of_json", "to_csv", "to_json"]
+__all__ = ["FORMATS", "Csv", "Data", "Form", "Json", "as_table", "of_csv", "of_json", "to_csv", "to_json"]
 
 Uses = Mapping[str, Optional[str]]
 
@@ -58,12 +61,8 @@ def of_csv(cell: str) -> str:
     return cell[1:] if cell.startswith("'") and _FORMULA.match(cell) else cell
 
 
-class Data(ABC):
-    """A form of solutions. The options of a problem are written by their names, which are made once."""
-
-    def __init__(self, problem: Problem[Any]) -> None:
-        self._problem = problem
-        self._uses: dict[int, Uses] = {}
+class Form(ABC):
+    """A form of solutions."""
 
     @abstractmethod
     def head(self) -> str:
@@ -72,6 +71,14 @@ class Data(ABC):
     @abstractmethod
     def solution(self, number: int, places: Sequence[int]) -> str:
         """A solution of this number, with the options of these places."""
+
+
+class Data(Form):
+    """A form of solutions as options. Those of a problem are written by their names, which are made once."""
+
+    def __init__(self, problem: Problem[Any]) -> None:
+        self._problem = problem
+        self._uses: dict[int, Uses] = {}
 
     @abstractmethod
     def chances(self, total: int, times: Sequence[int]) -> str:
@@ -144,9 +151,66 @@ class Csv(Data):
 
     @staticmethod
     def _lines(rows: Iterable[Sequence[object]]) -> str:
-        text = io.StringIO()
-        csv.writer(text, lineterminator="\n").writerows(rows)
-        return text.getvalue()
+        return _csv(rows)
+
+
+def _csv(rows: Iterable[Sequence[object]]) -> str:
+    """Rows as lines of CSV."""
+    text = io.StringIO()
+    csv.writer(text, lineterminator="\n").writerows(rows)
+    return text.getvalue()
+
+
+class _Table(Form):
+    """A form of solutions as tables."""
+
+    def __init__(self, problem: Problem[Any], sheet: Sheet) -> None:
+        self._problem = problem
+        self._sheet = sheet
+
+    def solution(self, number: int, places: Sequence[int]) -> str:
+        lines = [self._problem.line(self._problem.options[place]) for place in places]
+        return self._rows(number, self._sheet.rows(lines))
+
+    @abstractmethod
+    def _rows(self, number: int, rows: Sequence[Row]) -> str:
+        """The rows of a solution of this number."""
+
+
+class _JsonTable(_Table):
+    """A line for each solution: its number, and its rows, each with the cells by the names of the columns."""
+
+    def head(self) -> str:
+        return ""
+
+    def _rows(self, number: int, rows: Sequence[Row]) -> str:
+        columns = list(map(to_json, self._sheet.columns))
+        told = [dict(zip(columns, (to_json(cell) if isinstance(cell, str) else cell for cell in row))) for row in rows]
+        return f"{json.dumps({'number': number, self._sheet.name: told})}\n"
+
+
+class _CsvTable(_Table):
+    """A line for each row: the solution's number, and the cells."""
+
+    def head(self) -> str:
+        numbered = [self._sheet.number] if self._sheet.number else []
+        return _csv([["solution", *numbered, *map(to_csv, self._sheet.columns)]])
+
+    def _rows(self, number: int, rows: Sequence[Row]) -> str:
+        is_numbered = bool(self._sheet.number)
+        return _csv(
+            [number, *([at] if is_numbered else []), *(to_csv(cell) if isinstance(cell, str) else cell for cell in row)]
+            for at, row in enumerate(rows, 1)
+        )
+
+
+_TABLES: dict[str, Callable[[Problem[Any], Sheet], _Table]] = {"json": _JsonTable, "csv": _CsvTable}
+
+
+def as_table(form: str, problem: Problem[Any]) -> Form | None:
+    """The tables of a problem that a kind made which draws tables, `json` or `csv`; None for another problem."""
+    sheet = sheet_of(problem)
+    return None if sheet is None else _TABLES[form](problem, sheet)
 
 
 FORMATS: dict[str, Callable[[Problem[Any]], Data]] = {"json": Json, "csv": Csv}

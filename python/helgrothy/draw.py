@@ -422,8 +422,8 @@ class Pattern:
 
     def of(self, problem: Problem[Any]) -> Drawing:
         """The drawing for a problem. Raises `NoPicture` where no option has a cell, or `re.error`."""
-        cell = re.compile(rf"(?<!\S)(?:{self.cell})(?::(?P<colour_>\S+))?(?!\S)")
-        label = re.compile(rf"(?<!\S)(?:{self.label})(?!\S)")
+        cell = compiled(self.cell, r"(?<!\S)", r"(?::(?P<colour_>\S+))?(?!\S)")
+        label = compiled(self.label, r"(?<!\S)", r"(?!\S)")
         if cell.groups < 2:
             raise re.error("the pattern of a cell has no group for its row or column")
         board: set[Place] = {place for option in problem.options for place, _ in _cells(cell, problem.line(option))}
@@ -499,6 +499,17 @@ def _letter(number: int) -> str:
     return chr(ord("A") + number) if number < 26 else str(number)
 
 
+def compiled(pattern: str, before: str, after: str) -> re.Pattern[str]:
+    """A pattern between others. Raises `re.error`, which counts the characters of the pattern alone."""
+    try:
+        re.compile(pattern)
+    except re.error as error:
+        at = "" if error.pos is None else f" at character {error.pos + 1}"
+        hint = r"; a sign that stands for itself has a backslash in front, such as \("
+        raise re.error(f"{shown(pattern)}: {error.msg}{at}{hint}") from None
+    return re.compile(f"{before}(?:{pattern}){after}")
+
+
 def no_match(what: str, pattern: str, parts: str, lines: Iterator[str]) -> NoPicture:
     """What to say of a pattern that isn't found in any of the lines of options."""
     line = shown(next(lines, "and there are none"))
@@ -538,23 +549,9 @@ def drawing_of(problem: Problem[Any]) -> Drawing:
     # The makers make problems, which are drawn here: so they can't be imported with the module.
     from .make import KINDS
     from .make.kind import kind_of
+    from .sheet import as_made
 
     name = kind_of(problem.comments)
     if name is None or name not in KINDS:
         raise NoPicture("no comment of the problem says that `helgrothy make` made it; patterns can draw it")
-
-    def as_made(draw: Callable[[Any], Any], given: Any) -> Any:
-        try:
-            return draw(given)
-        except NoPicture:
-            raise
-        except (StopIteration, LookupError, ValueError, ArithmeticError):
-            raise NoPicture(f"the problem isn't as `helgrothy make {name}` made it") from None
-
-    drawing: Drawing = as_made(KINDS[name].drawing, problem)
-
-    def draw(lines: Sequence[str]) -> Picture:
-        picture: Picture = as_made(drawing, lines)
-        return picture
-
-    return draw
+    return as_made(name, as_made(name, KINDS[name].drawing)(problem))

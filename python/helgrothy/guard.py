@@ -91,13 +91,6 @@ def start(command: Sequence[str], **pipes: Any) -> subprocess.Popen[bytes]:
     return process
 
 
-def watch(program: int) -> None:
-    """The same for a program that runs already."""
-    with _lock:
-        _ready()
-    _tell("begin", program)
-
-
 def let_go(program: int) -> None:
     """The program has ended, and was waited for."""
     _tell("end", program)

@@ -43,7 +43,7 @@ def lint(
     searching: float = 0.0,
     tell: Callable[[str], object] = lambda line: None,
 ) -> list[Remark]:
-    """All remarks on the text of a problem for dlx`kind`, in the order of its lines. Raises nothing.
+    """All remarks on the text of a problem for dlx`kind`, in the order of its lines. Of bytes it raises nothing.
 
     Proofs that the sums of the bounds can't work are looked for so many seconds. After a thousand faults the text
     isn't read on, and of each kind of slip a thousand are reported.
@@ -51,6 +51,9 @@ def lint(
     searching: whether there is a solution is searched so many seconds, by the programs and by another engine where the
         path has one. tell: gets a line that says what that did wrong.
     """
+    if not isinstance(text, (bytes, bytearray)):
+        right = "lint(problem.text.encode())" if isinstance(text, Problem) else "lint(text.encode())"
+        raise TypeError(f"a problem's text is looked at as bytes, and this is of type {type(text).__name__}: {right}")
     sheet = read(text, kind)
     # What comes after all others is worked out before them.
     comment = list(_hash(sheet))

@@ -16,6 +16,7 @@ from .errors import OutOfTime
 from .given import Given
 from .named import told
 from .problem import Problem
+from .sheet import teller
 from .shuffle import order
 from .shuffle import solve as shuffled
 
@@ -93,8 +94,9 @@ def solutions(problem: Problem[Any], given: Sequence[int], deadline: float) -> l
 
 def differences(problem: Problem[Any], first: Collection[int], second: Collection[int]) -> list[str]:
     """What two solutions don't have in common, in words."""
+    tell = teller(problem)
     return [
-        f"only the {name} has {told(problem, [place for place in own if place not in other])}"
+        f"only the {name} has {told(problem, [place for place in own if place not in other], tell)}"
         for name, own, other in (("first", sorted(first), set(second)), ("second", sorted(second), set(first)))
         if not set(own) <= other
     ]

@@ -7,7 +7,7 @@ and a colour after it, `A:x`. A name that is an item's is that item alone, whate
 from __future__ import annotations
 
 from collections import Counter
-from collections.abc import Collection, Iterator, Sequence
+from collections.abc import Callable, Collection, Iterator, Sequence
 from fnmatch import fnmatchcase
 from typing import Any
 
@@ -18,9 +18,9 @@ from .syntax import Nearest
 _MOST_TOLD, _LONGEST = 3, 60
 
 
-def told(problem: Problem[Any], places: Collection[int]) -> str:
-    """The first options of some places, in words."""
-    lines = [problem.line(problem.options[place]) for place in list(places)[:_MOST_TOLD]]
+def told(problem: Problem[Any], places: Collection[int], tell: Callable[[str], str] = str) -> str:
+    """The first options of some places, in words; `tell` tells one by its line."""
+    lines = [tell(problem.line(problem.options[place])) for place in list(places)[:_MOST_TOLD]]
     cut = [line if len(line) <= _LONGEST else f"{line[:_LONGEST]} .." for line in lines]
     return "; ".join(cut) + (f"; and {len(places) - len(cut)} more" if len(places) > len(cut) else "")
 

@@ -120,6 +120,8 @@ def end_all() -> None:
     for process in list(_running):
         process.kill()
         process.wait()
+        if isinstance(process, subprocess.Popen):
+            guard.let_go(process.pid)
         _running.discard(process)
 
 
@@ -135,7 +137,8 @@ def worked(program: int, begun: float) -> float:
 
 
 class Run:
-    """A run of a program over a text. As a context manager it leaves no process behind, however it is left.
+    """A run of a program over a text. As a context manager it leaves no process behind, however it is left; nor does a
+    process that is killed meanwhile.
 
     The text goes through a file without a name, so that neither side waits for the other. `seconds` bounds the
     time of the whole run.
@@ -228,7 +231,6 @@ class Run:
 
     def pause(self) -> None:
         """Stops it until it goes on, or this process ends."""
-        guard.watch(self._process.pid)
         self._is_paused = True
         self._process.send_signal(signal.SIGSTOP)
 
@@ -237,7 +239,6 @@ class Run:
         if self._is_paused:
             self._process.send_signal(signal.SIGCONT)
             self._is_paused = False
-            guard.let_go(self._process.pid)
 
     def messages(self) -> str:
         """What the program said on standard error."""
@@ -254,7 +255,7 @@ def _begun(words: Sequence[str], given: IO[bytes], told: IO[bytes]) -> subproces
     process = None
     try:
         with undisturbed():
-            process = subprocess.Popen(words, stdin=given, stdout=subprocess.PIPE, stderr=told, bufsize=0)
+            process = guard.start(words, stdin=given, stdout=subprocess.PIPE, stderr=told, bufsize=0)
             _running.add(process)
     except BaseException:
         told.close()
@@ -268,7 +269,10 @@ def _end(process: subprocess.Popen[bytes]) -> None:
     if process.poll() is None:
         process.kill()
         process.wait()
-    _running.discard(process)
+    if process in _running:
+        with undisturbed():
+            guard.let_go(process.pid)
+            _running.discard(process)
     if process.stdout is not None:
         process.stdout.close()
 

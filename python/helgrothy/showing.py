@@ -14,6 +14,7 @@ from .problem import Problem
 if TYPE_CHECKING:
     import argparse
 
+    from .data import Form
     from .draw import Drawing
     from .page.file import File
 
@@ -24,19 +25,34 @@ Show = Callable[[int, Sequence[Any], Callable[[Sequence[Any]], list[int]], Calla
 Otherwise = Callable[[Sequence[str]], Any]
 
 
+def check(arguments: argparse.Namespace) -> None:
+    """Raises `ValueError` where options of how solutions are shown don't go together."""
+    if arguments.options and arguments.data is None:
+        raise ValueError("--options is of --json and --csv: with it they have the options, also where there is a table")
+
+
 def showing(
     problem: Problem[Any], arguments: argparse.Namespace, otherwise: Otherwise | None, page: File | None
 ) -> Show:
     """What shows solutions one after another: on a page, as data, or drawn."""
+    check(arguments)
     if page is not None:
         onto = page
         return lambda number, options, places, steps: onto.add(number, steps())
     if arguments.data is not None:
-        from .data import FORMATS
+        from .data import FORMATS, as_table
 
-        data = FORMATS[arguments.data](problem)
+        table = None if arguments.options else as_table(arguments.data, problem)
+        data: Form = FORMATS[arguments.data](problem) if table is None else table
         write([data.head()])
-        return lambda number, options, places, steps: write([data.solution(number, places(options))])
+
+        def solution(number: int, places: Sequence[int]) -> str:
+            try:
+                return data.solution(number, places)
+            except NoPicture as error:
+                raise NoPicture(f"{error}; with --options there are its options") from None
+
+        return lambda number, options, places, steps: write([solution(number, places(options))])
     draw = drawing(problem, arguments, otherwise)
     between = iter([""])
 

@@ -26,7 +26,8 @@ _FIRST_STEPS = 1_000
 _MOST_STEPS = 1 << 60
 _HEADER = re.compile(rb"^[0-9]+:\n", re.MULTILINE)
 _ROWS = rb"from [0-9.-]+ until [0-9.-]+ (of [0-9.-]+ )?"
-_RECORD = re.compile(rb"^%ssolutions [0-9]+ steps [0-9]+ problem [0-9a-f]{16}\n\Z" % _ROWS, re.MULTILINE)
+_DIGESTS = rb"problem [0-9a-f]{16} text [0-9a-f]{16}"
+_RECORD = re.compile(rb"^%ssolutions [0-9]+ steps [0-9]+ %s\n\Z" % (_ROWS, _DIGESTS), re.MULTILINE)
 
 
 def order(count: int, rng: random.Random) -> list[int]:
@@ -118,10 +119,10 @@ def _try(
         else:
             if run.status() != 0:
                 raise run.failure()
-    text = b"".join(chunks)
-    record = _RECORD.search(text)
-    body = text if record is None else text[: record.start()]
-    solutions = _HEADER.split(body)[1:]
-    if record is None and len(solutions) <= limit:
-        raise run.failure()
+        text = b"".join(chunks)
+        record = _RECORD.search(text)
+        body = text if record is None else text[: record.start()]
+        solutions = _HEADER.split(body)[1:]
+        if record is None and len(solutions) <= limit:
+            raise run.failure()
     return [give(lines) for lines in solutions[:limit]], record is not None and record.group(1) is None

@@ -19,6 +19,7 @@ from .make import KINDS
 from .make.kind import Found, kind_of, read_text
 from .problem import Problem
 from .puzzle_acts import choices, uniqueness
+from .showing import check as check_forms
 from .showing import listed_options, page_of, showing
 from .watch import Watch
 
@@ -56,6 +57,9 @@ def solve(problem: Problem[Any], arguments: argparse.Namespace) -> int:
 
 def check(arguments: argparse.Namespace) -> None:
     """Raises `ValueError` where options don't go together."""
+    check_forms(arguments)
+    if arguments.options and (arguments.count or arguments.chances):
+        raise ValueError("--options is of solutions: without --count and --chances")
     if arguments.seed is not None and not arguments.random:
         raise ValueError("--seed is of --random")
     if (arguments.random or arguments.chances) and (arguments.shuffle is not None or arguments.up_to_symmetry):

@@ -15,6 +15,7 @@ from collections.abc import Generator, Hashable, Sequence
 from dataclasses import dataclass
 from typing import Any, TypeVar
 
+from .draw import compiled
 from .errors import NoPicture, OutOfTime
 from .problem import Problem
 from .shown import shown
@@ -64,7 +65,7 @@ def motions(problem: Problem[Any], cell: str) -> list[Motion]:
 
 def _laid(problem: Problem[Any], cell: str) -> tuple[list[frozenset[Cell]], list[tuple[str, ...]]]:
     """The cells of each option, and its other words."""
-    pattern = re.compile(rf"(?<!\S)(?:{cell})(?!\S)")
+    pattern = compiled(cell, r"(?<!\S)", r"(?!\S)")
     if not pattern.groups:
         raise re.error("the pattern of a cell has no group for its row or column")
     named = [name for name in ("layer", "row", "column") if name in pattern.groupindex]

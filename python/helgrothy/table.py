@@ -11,7 +11,7 @@ from collections.abc import Iterable, Sequence
 from dataclasses import dataclass
 from typing import TYPE_CHECKING, Any
 
-from .draw import Cell, Drawing, Pattern, Picture, Shades, check_size, no_match
+from .draw import Cell, Drawing, Pattern, Picture, Shades, check_size, compiled, no_match
 
 if TYPE_CHECKING:
     from .problem import Problem
@@ -82,7 +82,7 @@ class _Names:
     def __init__(self, what: str, pattern: str | None) -> None:
         self.what = what
         self.given = pattern or ""
-        self.pattern = None if pattern is None else re.compile(rf"(?<!\w)(?:{pattern})(?!\w)")
+        self.pattern = None if pattern is None else compiled(pattern, r"(?<!\w)", r"(?!\w)")
         # Most words stand in many options.
         self._known: dict[str, list[str]] = {}
         self.order: dict[str, int] = {} if pattern is not None else {"": 0}

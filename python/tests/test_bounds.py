@@ -120,6 +120,14 @@ class Pictures(unittest.TestCase):
             self.assertEqual((status, error.count("\n")), (2, 1))
         self.assertLess(used() - start, HANG)
 
+    def test_more_teams_than_the_problem_has(self):
+        start = used()
+        teams = "".join(f"| t{team}\n" for team in range(30_000))
+        text = f"| helgrothy make roundrobin\n|\n{teams}A-B A@1 B@1\nA-B A@1 B@1\n"
+        for words in ((), ("--csv",), ("--html",)):
+            self.assertEqual(run("solve", *words, given=text)[0], 0)
+        self.assertLess(used() - start, HANG)
+
     def test_a_piece_without_cells(self):
         text = "| helgrothy make polyominoes\nA r1c1 | x\nA x\nr1c1\n"
         self.assertEqual(run("solve", given=text)[:2], (0, "A x\nr1c1\n"))

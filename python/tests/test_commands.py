@@ -21,9 +21,9 @@ MISTAKES = (
     (["make", "kakoru"], "helgrothy make: kakoru: no such kind (is it kakuro?); see helgrothy make --help"),
     (["make", "queens", "8", "--all"], "helgrothy make queens: --all: no such option; see helgrothy make queens --help"),
     (
-        ["queens", "8", "--solutions", "3"],
-        "helgrothy queens: --solutions: no such option (there are --number, --random, --limit, --all, --count, --chances, --unique, --svg, --html, --json, "
-        "--csv, --seed, --seconds, --with, --without, --shuffle, --up-to-symmetry and --cost); see helgrothy queens --help",
+        ["queens", "8", "--wherever", "3"],
+        "helgrothy queens: --wherever: no such option (there are --number, --random, --limit, --all, --count, --chances, --unique, --svg, --html, --json, "
+        "--csv, --options, --seed, --seconds, --with, --without, --shuffle, --up-to-symmetry and --cost); see helgrothy queens --help",
     ),
     (["queens", "8", "--limt=3"], "helgrothy queens: --limt: no such option (is it --limit?); see helgrothy queens --help"),
     (["queens", "8", "--al"], "helgrothy queens: --al: no such option (is it --all?); see helgrothy queens --help"),

@@ -9,6 +9,8 @@ import re
 import tempfile
 import unittest
 
+from folders import InFolder
+
 from helgrothy import NoPicture, Problem, data, make
 from helgrothy.draw import Pattern
 from helgrothy.table import Table
@@ -105,6 +107,111 @@ class Csv(unittest.TestCase):
         text = run("solve", "--csv", given='=CALL("x") -7 | @y\n=CALL("x") @y:=1\n-7\n')[1]
         rows = list(csv.reader(io.StringIO(text)))[1:]
         self.assertEqual(sorted(row[2:] for row in rows), [["'=CALL(\"x\")", "'@y:=1"], ["-7", ""]])
+
+
+FACTORS = "cache memcached redis\ndatabase postgresql14 postgresql15 sqlite\nsystem windows11home linux\n"
+LONG = "a-person-with-a-name-of-more-than-32-bytes"
+ROSTER = f"-     mon tue wed\nearly 1   1   1\nlate  1   1   0:1\n\n{LONG} 2:3\nbob 2 -tue\ncat 1:2\n"
+SLOTS = "day,mon,1 2\nroom,hall,,,30\nroom,the-old-laboratory-of-the-town,,,20\nlesson,maths,ann 1a,hall,24\nlesson,art,bob 1a\n" \
+    "lesson,music,ann,-hall\nbefore,maths,art\n"  # fmt: skip
+# What a kind's command takes, in which the file's name stands for TABLE; the file; the form; and the columns of rows.
+KINDS = {
+    "tests": (["TABLE", "--tests", "6"], FACTORS, ["test", "cache", "database", "system"]),
+    "roster": (["TABLE", "--rest", "--in-a-row", "2", "--days-off", "1"], ROSTER, ["person", "day", "shift"]),
+    "roundrobin": (["TABLE"], f"{LONG} home:1\nbob\ncat\n", ["round", "home", "away"]),
+    "timetable": (["TABLE", "--daily", "1"], SLOTS.replace("1 2", "1 2\nday,tue,1"), ["lesson", "day", "hour", "room"]),
+}
+
+
+class Kinds(InFolder):
+    """Of a kind that draws tables these are what JSON and CSV have: with whole names, and none of the problem's own."""
+
+    def asked(self, kind, *words):
+        given, table, _ = KINDS[kind]
+        path = self.file("table", table)
+        return run(kind, *(path if word == "TABLE" else word for word in given), *words)
+
+    def rows(self, kind, *words):
+        """The cells of the rows of CSV, without the columns that number them, after those of JSON were found the same."""
+        head, *rows = csv.reader(io.StringIO(self.asked(kind, "--csv", *words)[1]))
+        self.assertEqual(head, ["solution", *KINDS[kind][2]])
+        self.assertEqual({row[0] for row in rows}, {"1"})
+        told = json.loads(self.asked(kind, "--json", *words)[1])
+        self.assertEqual(told.pop("number"), 1)
+        ((_, objects),) = told.items()
+        start = 2 if kind == "tests" else 1
+        self.assertEqual([list(each) for each in objects], [head[start:]] * len(rows))
+        cells = [["" if cell is None else str(cell) for cell in each.values()] for each in objects]
+        self.assertEqual(cells, [row[start:] for row in rows])
+        return cells
+
+    def test_they_are_what_is_drawn(self):
+        for kind in KINDS:
+            drawn = self.asked(kind)[1].split()
+            rows = self.rows(kind)
+            self.assertGreater(len(rows), 2)
+            for row in rows:
+                if kind == "roundrobin":
+                    self.assertIn("-".join(row[1:]), drawn)
+                    continue
+                for cell in row if kind == "tests" else [row[0], row[-1]]:
+                    self.assertIn(cell or ".", drawn)
+
+    def test_names_are_whole(self):
+        self.assertEqual({row[1] for row in self.rows("tests")}, {"postgresql14", "postgresql15", "sqlite"})
+        self.assertEqual({row[0] for row in self.rows("roster")}, {LONG, "bob", "cat"})
+        self.assertIn(LONG, [row[1] for row in self.rows("roundrobin")])
+        self.assertIn("the-old-laboratory-of-the-town", [row[-1] for row in self.rows("timetable")])
+        least = run("tests", self.file("table", FACTORS), "--least", "--csv")[1]
+        self.assertEqual(len(least.splitlines()), 7)
+        self.assertIn(",memcached,postgresql15,", least)
+
+    def test_each_solution_and_each_cell(self):
+        head, *rows = csv.reader(io.StringIO(self.asked("roster", "--all", "--csv")[1]))
+        self.assertEqual(len(rows) % 9, 0)
+        self.assertEqual(int(rows[-1][0]), len(rows) // 9)
+        self.assertEqual([row[1:3] for row in rows[:9]], [row[1:3] for row in rows[-9:]])
+        self.assertEqual(self.asked("roster", "--all", "--json")[1].count("\n"), len(rows) // 9)
+
+    def test_options_are_there_too(self):
+        for kind in KINDS:
+            self.assertIn('"options": [', self.asked(kind, "--json", "--options")[1])
+            self.assertTrue(self.asked(kind, "--csv", "--options")[1].startswith("solution,option,item 1,"))
+        for words in ((), ("--html",), ("--csv", "--count"), ("--json", "--chances")):
+            status, _, told = self.asked("roster", "--options", *words)
+            self.assertEqual((status, told.startswith("helgrothy: --options is of ")), (2, True))
+
+    def test_a_problem_of_a_file(self):
+        made = run("make", "tests", self.file("table", FACTORS), "--tests", "6")[1]
+        self.assertIn("1,1,memcached,postgresql14,", run("solve", "--csv", given=made)[1])
+        broken = made.replace("| system windows11home linux", "| system windows linux")
+        told = run("solve", "--csv", given=broken)[2]
+        self.assertIn("isn't as `helgrothy make tests` made it; with --options there are its options", told)
+        self.assertEqual(run("solve", "--csv", "--options", given=broken)[0], 0)
+
+    def test_no_item_of_a_rule_is_shown(self):
+        signs = re.compile(r">>|>early|-off|\.\.|~[0-9]|@@|home=|@mon\b|t[0-9]/")
+        for kind in KINDS:
+            page = self.asked(kind, "--html", "--limit", "3")[1]
+            told = json.loads(re.search(r'<script type="application/json" id="data">(.*?)</script>', page, re.DOTALL).group(1))
+            self.assertIsNone(signs.search("\n".join(told[0]["problem"]["text"][2:])), kind)
+            words = [text for line in told if "solution" in line for text in line["solution"]["words"].values()]
+            self.assertTrue(words)
+            shown = [text for text in words if not text.startswith("days-off")]
+            self.assertIsNone(signs.search("\n".join(shown)), kind)
+        self.assertIn("only the first has ", self.asked("roster", "--unique")[2])
+        self.assertIsNone(signs.search(self.asked("roster", "--unique")[2]))
+        self.assertIn("% test1 cache=memcached database=postgresql14\n", self.asked("tests", "--chances")[1])
+
+
+class Cells(unittest.TestCase):
+    def test_one_without_a_colour_has_no_label(self):
+        for kind in ("words", "wordsearch"):
+            given = f"| helgrothy make {kind}\na | r1c1 r1c2\na r1c1:x r1c2\n"
+            for words, wanted in (((), "x ."), (("--svg",), ">x</text>"), (("--html",), '"a r1c1:x r1c2"')):
+                status, out, told = run("solve", *words, given=given)
+                self.assertEqual((status, told), (0, "Altogether 1 solution (limit).\n"), (kind, words))
+                self.assertIn(wanted, out)
 
 
 class Tables(unittest.TestCase):

@@ -157,7 +157,8 @@ class Designs(InFolder):
         self.assertEqual((status, out.count("\n"), told), (0, 10, "Altogether 1 solution (limit).\n"))
         self.assertEqual(run("tests", "3^3", "--tests", "9", "--all")[2], "Altogether 12 solutions.\n")
         self.assertTrue(run("tests", path, "--least", "--svg")[1].startswith("<svg"))
-        self.assertEqual(run("tests", path, "--least", "--json")[1].count('"t1/system": "linux"'), 1)
+        self.assertIn('"tests": [{"system": "linux", "browser": "firefox", ', run("tests", path, "--least", "--json")[1])
+        self.assertEqual(run("tests", path, "--least", "--json", "--options")[1].count('"t1/system": "linux"'), 1)
         self.assertEqual(run("make", "tests", path, "--tests", "5")[1], make.tests.problem(FACTORS, 5).text)
 
     def test_bad_tables(self):

@@ -12,6 +12,7 @@ import os
 import re
 import resource
 import selectors
+import shutil
 import signal
 import socket
 import subprocess
@@ -38,6 +39,35 @@ EVIL = [
     "</script><script>alert(1)</script>", "<img/src=x/onerror=alert(2)>", "<!--", "]]>", "{{data}}", "&lt;b>", "\"onload='x'",
     "\x1b[2J", "\u202egnp", "javascript.alert(3)", "<svg/onload=alert(4)>", "__proto__", "constructor", "null",
 ]  # fmt: skip
+
+
+# What a picture needs of a browser, and four pictures one after another; the second one's options are opened.
+DOCUMENT = """
+const parts = {};
+function part() {
+  const names = new Set();
+  const toggle = (name, on) => (on ? names.add(name) : names.delete(name));
+  return { names, open: true, style: {}, classList: { contains: (name) => names.has(name), toggle }, replaceChildren() {} };
+}
+globalThis.document = { getElementById: (id) => (parts[id] ??= part()), documentElement: { dataset: {} } };
+globalThis.localStorage = { getItem: () => null };
+globalThis.matchMedia = () => ({ matches: false, addEventListener() {} });
+"""
+SIZES = """
+const seen = [];
+function show(wide) {
+  const picture = { style: {}, querySelectorAll: () => [], querySelector: () => null, classList: part().classList };
+  const viewer = { picture: () => picture, sizeOf: () => [wide, 400], widen: Viewer.prototype.widen };
+  Viewer.prototype.showPicture.call(viewer, {}, false);
+  seen.push([[...parts.single.names], parts.chosen?.open ?? true]);
+}
+show(400);
+show(1400);
+parts.chosen.open = true;
+show(1300);
+show(300);
+console.log(JSON.stringify(seen));
+"""
 
 
 class Document(html.parser.HTMLParser):
@@ -152,6 +182,25 @@ class File(unittest.TestCase):
         before, between, behind = frame(["viewer.html"], ["viewer.js", "file.js"])
         whole = document(["viewer.html"], "a <b>", ["viewer.js", "file.js"], ['"</script>"'])
         self.assertEqual(whole, f'{before}a &lt;b&gt;{between}["\\u003c/script\\u003e"]{behind}')
+
+    def test_the_options_are_in_a_fold(self):
+        elements = Document(run("queens", "4", "--html")[1]).elements
+        self.assertIn(("details", {"id": "chosen", "open": None}), elements)
+        ids = [attributes.get("id") for _, attributes in elements]
+        self.assertLess(ids.index("picture"), ids.index("chosen"))
+        self.assertLess(ids.index("chosen"), ids.index("steps"))
+
+    @unittest.skipUnless(shutil.which("node"), "needs node")
+    def test_a_wide_picture_has_the_whole_width(self):
+        """And the options are folded under it, until they are opened."""
+        with open(os.path.join(os.path.dirname(answer.__file__), "parts", "viewer.js"), encoding="utf-8") as file:
+            script = file.read()
+        asked = subprocess.run(["node", "-"], input=DOCUMENT + script + SIZES, capture_output=True, text=True, check=True)
+        narrow, wide, opened, again = json.loads(asked.stdout)
+        self.assertEqual(narrow, [[], True])
+        self.assertEqual(wide, [["wide"], False])
+        self.assertEqual(opened, [["wide"], True])
+        self.assertEqual(again, [[], True])
 
     def test_names_are_text(self):
         problem = evil()

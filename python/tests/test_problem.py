@@ -111,7 +111,8 @@ class Solving(unittest.TestCase):
                 problem.solve(**wrong)
 
     def test_a_loop_that_is_left_leaves_no_process(self):
-        # A shell that ends programs stays, where a search in parts was run before.
+        # The shell that ends programs stays.
+        make.queens.problem(4).count()
         before = children()
         problem = make.queens.problem(20)
         for _ in problem.solve():

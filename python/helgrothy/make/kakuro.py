@@ -14,7 +14,7 @@ from ..draw import Cell, Drawing, Picture, check_size
 from ..errors import TableFault
 from ..problem import Problem
 from .clues import Clues
-from .kind import Counted, Kind, check_items, cut, picture, read_text
+from .kind import Counted, Kind, check_items, check_texts, cut, picture, read_text
 
 Square = tuple[int, int]
 
@@ -54,6 +54,7 @@ def problem(grid: str) -> Problem[list[str]]:
     have, `across-r2c2 across-r2c2=1 ..`. So each digit of a run is taken once, and its cells have the sum. Raises
     `TableFault`.
     """
+    check_texts(grid=grid)
     rows = [(number, line.split()) for number, line in picture(grid)]
     marks = _marks(rows)
     white = [at for at, mark in marks.items() if mark in _WHITE or mark.isdigit()]

@@ -16,12 +16,15 @@ from ..problem import Problem
 from ..syntax import MOST_ITEMS, MOST_USES
 
 if TYPE_CHECKING:
+    from ..sheet import Sheet
     from ..wishes import Wish
     from .clues import Clues
 
 T = TypeVar("T", bound=Sized)
 
 _MOST_TOLD = 60
+# Numbers with another sign between them than the x of sizes.
+_SIZES = re.compile(r"\s*[0-9]+(?:\s*(?:[*X×,;/]|by)\s*[0-9]+|\s+x\s*[0-9]+|x\s+[0-9]+)+\s*\Z")
 _MADE = re.compile(r"helgrothy make ([a-z]+)(?: |\Z)")
 
 
@@ -44,6 +47,7 @@ class Kind:
     wishes: of a kind whose table may have wishes those of a problem, from the table in its comments.
     clues: of a kind whose clues are options what these are, for who makes such puzzles.
     remarks: what is no fault of a problem that was made, and yet may be meant otherwise.
+    sheet: of a kind that draws tables these, by whole names.
     view: from which side the option of a line shows cells, where several options may show one, as a row and a column
         do; None where pictures of single options say nothing.
     """
@@ -59,6 +63,7 @@ class Kind:
     wishes: Callable[[Problem[Any]], list[Wish]] = lambda problem: []
     clues: Callable[[argparse.Namespace], Clues] | None = None
     remarks: Callable[[Problem[Any]], list[str]] = lambda problem: []
+    sheet: Callable[[Problem[Any]], Sheet] | None = None
     view: Callable[[str], str] | None = lambda line: ""
 
 
@@ -68,10 +73,34 @@ def kind_of(comments: Sequence[str]) -> str | None:
     return made.group(1) if made else None
 
 
-def read_text(path: str, otherwise: str = "", words: Iterable[str] = ()) -> str:
+def check_texts(hint: str = "", **given: object) -> None:
+    """Raises `TypeError` for an argument that is no text, with what is right instead."""
+    for name, value in given.items():
+        if not isinstance(value, str):
+            more = f"; {hint}" if hint else ""
+            raise TypeError(f"{name} is a text, and this is of type {type(value).__name__}{more}")
+
+
+def check_numbers(hint: str = "", **given: object) -> None:
+    """Raises `TypeError` for an argument that is no whole number, with what is right instead."""
+    for name, value in given.items():
+        if not hasattr(value, "__index__"):
+            more = f"; {hint}" if hint else ""
+            raise TypeError(f"{name} is a whole number, and this is {value!r:.60}{more}")
+
+
+def check_sizes(text: str, form: str) -> None:
+    """Raises `TableFault` for a text that stands for a picture and reads as numbers with another sign than x."""
+    if _SIZES.match(text):
+        meant = "x".join(re.findall("[0-9]+", text))
+        raise TableFault(1, text.strip(), f"neither {form} nor a picture", f"is it {meant}?")
+
+
+def read_text(path: str, otherwise: str = "", words: Iterable[str] = (), asked: str = "") -> str:
     """The text of a file, or of standard input where its name is `-`.
 
-    otherwise: what a word may be that isn't the name of a file, and `words` are those that it may be.
+    otherwise: what a word may be that isn't the name of a file, and `words` are those that it may be. asked: what the
+    file is, which is told where there is none.
 
     Raises `OSError` and `ValueError`.
     """
@@ -79,8 +108,10 @@ def read_text(path: str, otherwise: str = "", words: Iterable[str] = ()) -> str:
         return read(path).decode()
     except OSError as error:
         # A word that was meant as something else may be too long for a name.
-        if not otherwise or error.errno not in (errno.ENOENT, errno.ENAMETOOLONG):
+        if not (otherwise or asked) or error.errno not in (errno.ENOENT, errno.ENAMETOOLONG):
             raise
+        if asked:
+            raise ValueError(f"{cut(path)}: there is no such file; {asked}") from None
         raise ValueError(f"{cut(path)}: neither {otherwise} nor a file{did_you_mean(path, words)}") from None
     except UnicodeDecodeError as error:
         name = "standard input" if path == "-" else path

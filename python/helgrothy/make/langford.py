@@ -9,7 +9,7 @@ from typing import Any
 
 from ..draw import Cell, Drawing, Picture, Shades, check_size
 from ..problem import Problem
-from .kind import Counted, Kind, check_items
+from .kind import Counted, Kind, check_items, check_numbers
 
 _NUMBER = re.compile(r"-?[0-9]{1,99}\Z")
 
@@ -20,6 +20,7 @@ def problem(pairs: int) -> Problem[list[str]]:
 
     Raises `ValueError` for fewer pairs than 1.
     """
+    check_numbers(pairs=pairs)
     if pairs < 1:
         raise ValueError("there has to be a pair")
     places = 2 * pairs

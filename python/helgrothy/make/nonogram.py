@@ -20,7 +20,7 @@ from ..errors import TableFault
 from ..problem import Problem
 from ..syntax import MOST_USES
 from .clues import Clues
-from .kind import Counted, Kind, cut, numbered, read_text
+from .kind import Counted, Kind, check_texts, cut, numbered, read_text
 from .runs import EMPTY, FILLED, Clue, arrangements, count, known, steps
 
 Option = dict[str, Optional[str]]
@@ -69,6 +69,7 @@ def problem(clues: str) -> Problem[Option]:
     and that of the next run, `row3/2 row3@2:5 row3@3:9 r3c5:# r3c6:# r3c7:. r3c8:.`. A square without a clue in either
     direction has both colours, `free-r3c5 r3c5:#`. Raises `TableFault`.
     """
+    check_texts(clues=clues)
     return _problem(*_read(clues))
 
 

@@ -13,7 +13,7 @@ from ..problem import Problem
 from ..solid import Cube, Solid, check_box
 from ..turns import images
 from .cubes import SETS
-from .kind import Counted, Kind, check_items, is_one, numbered, read_text
+from .kind import Counted, Kind, check_items, check_sizes, check_texts, is_one, numbered, read_text
 from .pieces import Form, Pieces, alike
 
 Lines = list[tuple[int, str]]
@@ -37,6 +37,7 @@ def problem(
 
     An option is a piece with the cells lLrRcC that it fills. Raises `TableFault`.
     """
+    check_texts(pieces=pieces, box=box)
     cells = _region(box)
     given = Pieces(_pieces(SETS.get(pieces, pieces)))
     _check_volume(given.volume, len(cells), some)
@@ -93,6 +94,7 @@ def _region(box: str) -> list[Cube]:
             for r in range(1, high + 1)
             for c in range(1, wide + 1)
         ]
+    check_sizes(box, "LAYERSxROWSxCOLUMNS")
     if _SIZES.match(box):
         raise TableFault(1, box, "a box has three numbers: LAYERSxROWSxCOLUMNS")
     rows = [(number, line) for number, line in numbered(box) if line.strip()]

@@ -10,7 +10,7 @@ from typing import Any
 from ..draw import Cell, Drawing, Picture, Shades, check_size
 from ..errors import TableFault
 from ..problem import Problem
-from .kind import Counted, Kind, check_items, is_one, numbered, picture, read_text
+from .kind import Counted, Kind, check_items, check_sizes, check_texts, is_one, numbered, picture, read_text
 from .pieces import Form, Place, Pieces, alike
 
 Square = tuple[int, int]
@@ -44,6 +44,7 @@ def problem(
 
     An option is a piece with the cells rRcC that it fills. Raises `TableFault`.
     """
+    check_texts(pieces=pieces, region=region)
     cells = _region(region)
     given = Pieces(_pieces(SETS.get(pieces, pieces)))
     check_items(len(given.forms) + len(cells))
@@ -71,6 +72,7 @@ def _region(region: str) -> list[Square]:
             raise TableFault(1, region, "an empty region")
         check_items(high * wide)
         return [(r, c) for r in range(1, high + 1) for c in range(1, wide + 1)]
+    check_sizes(region, "ROWSxCOLUMNS")
     lines = enumerate((line for _, line in picture(region)), 1)
     cells = [(r, c) for r, line in lines for c, mark in enumerate(line, 1) if mark not in "# "]
     if not cells:

@@ -10,7 +10,7 @@ from typing import Any
 from ..draw import Cell, Drawing, Picture, Shades
 from ..errors import TableFault
 from ..problem import Problem
-from .kind import Counted, Kind, check_items, picture, read_text
+from .kind import Counted, Kind, check_items, check_numbers, check_texts, picture, read_text
 
 _NUMBER = re.compile(r"-?[0-9]{1,18}\Z")
 
@@ -25,6 +25,8 @@ def problem(size: int = 0, regions: str | None = None) -> Problem[list[str]]:
 
     Raises `TableFault`, or `ValueError` for a size below 1.
     """
+    check_texts(regions=regions or "")
+    check_numbers("a picture of regions is given by its name, regions=..", size=size)
     if regions is not None:
         return _in_regions(regions)
     if size < 1:

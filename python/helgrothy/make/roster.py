@@ -13,9 +13,10 @@ from ..console import positive
 from ..draw import Cell, Drawing, Picture, Shades, check_size
 from ..errors import TableFault
 from ..problem import Problem
+from ..sheet import Row, Sheet, whole_names
 from ..syntax import MOST_USES
 from ..wishes import Wish, check
-from .kind import Counted, Kind, check_items, numbered, read_text
+from .kind import Counted, Kind, check_items, check_numbers, check_texts, numbered, read_text
 from .rules import DaysOff, InARow, Rest, Rule
 
 # How many people a shift of a day takes, at least and at most.
@@ -61,6 +62,8 @@ def problem(
     An option is a person in a shift, `DAY/SHIFT PERSON PERSON-DAY`; with days_off there are also those of `PERSON-off`,
     the first days that are off together. Raises `TableFault`.
     """
+    check_texts(table=table)
+    check_numbers(in_a_row=in_a_row or 0, days_off=days_off or 0)
     days, needs, people = _read(table)
     if len(needs) * len(people) > MOST_USES:
         raise ValueError(f"{len(needs)} shifts of days for {len(people)} people are too many")
@@ -221,27 +224,70 @@ def _numbers(number: int, word: str) -> tuple[int, int]:
     return low, high
 
 
+class _Axes:
+    """The whole names of people and days, and of what the items of a problem are made of."""
+
+    def __init__(self, problem: Problem[Any]) -> None:
+        _, needs, known = _read("\n".join(problem.comments[_TABLE_AT:]))
+        items = problem.item_names
+        slots = [f"{day}/{shift}" for (day, shift), (_, most) in needs.items() if most]
+        self.slots = whole_names(items[: len(slots)], slots)
+        # After the people are the items of rules.
+        others = [item for item in items if item not in self.slots]
+        self.person_of = whole_names(others[: len(known)], [person.name for person in known])
+        self.people = list(self.person_of.values())
+        self.days = list(dict.fromkeys(slot.partition("/")[0] for slot in self.slots.values()))
+        check_size(len(self.people), len(self.days), len(problem.options))
+        self.shifts = list(dict.fromkeys(slot.partition("/")[2] for slot in self.slots.values()))
+
+    def of(self, line: str) -> tuple[str, str, str] | None:
+        """The person, the day and the shift of an option; None for one that is days off together."""
+        slot, person = line.split()[:2]
+        if slot not in self.slots and "/" not in slot:
+            return None
+        day, _, shift = self.slots[slot].partition("/")
+        return self.person_of[person], day, shift
+
+    def held(self, lines: Sequence[str]) -> dict[tuple[str, str], str]:
+        """The shifts of a solution by person and day."""
+        return {(one[0], one[1]): one[2] for one in map(self.of, lines) if one is not None}
+
+
+def sheet(problem: Problem[Any]) -> Sheet:
+    """A row for each person and day; one without a shift is free."""
+    axes = _Axes(problem)
+
+    def rows(lines: Sequence[str]) -> list[Row]:
+        held = axes.held(lines)
+        return [[person, day, held.get((person, day))] for person in axes.people for day in axes.days]
+
+    def told(line: str) -> str:
+        one = axes.of(line)
+        if one is None:
+            # Its first item is PERSON-off, of which a long name is cut.
+            name = line.split()[0].rpartition("-")[0]
+            return f"days-off {name}" if name in axes.people else "days-off"
+        return f"{one[1]}/{one[2]} {one[0]}"
+
+    return Sheet("roster", ("person", "day", "shift"), rows, told)
+
+
 def drawing(problem: Problem[Any]) -> Drawing:
     """A table of people and days."""
-    slots = [item for item in problem.item_names if "/" in item]
-    days = list(dict.fromkeys(slot.split("/")[0] for slot in slots))
-    # After the people are the items of rules.
-    _, _, known = _read("\n".join(problem.comments[_TABLE_AT:]))
-    people = [item for item in problem.item_names if "/" not in item][: len(known)]
-    check_size(len(people), len(days), len(problem.options))
-    row, column = ({name: number for number, name in enumerate(names)} for names in (people, days))
+    axes = _Axes(problem)
     shades = Shades()
-    for slot in slots:
-        shades[slot.split("/")[1]]
+    for shift in axes.shifts:
+        shades[shift]
 
     def draw(lines: Sequence[str]) -> Picture:
-        cells = {(r, c): Cell() for r in range(len(people)) for c in range(len(days))}
-        for line in lines:
-            slot, person = line.split()[:2]
-            day, sign, shift = slot.partition("/")
-            if sign:
-                cells[row[person], column[day]] = Cell(shift, fill=shades[shift])
-        return Picture("a roster", cells, people, days)
+        held = axes.held(lines)
+        cells = {(r, c): Cell() for r in range(len(axes.people)) for c in range(len(axes.days))}
+        for r, person in enumerate(axes.people):
+            for c, day in enumerate(axes.days):
+                if (person, day) in held:
+                    shift = held[person, day]
+                    cells[r, c] = Cell(shift, fill=shades[shift])
+        return Picture("a roster", cells, axes.people, axes.days)
 
     return draw
 
@@ -267,4 +313,4 @@ def _make(arguments: argparse.Namespace) -> Problem[list[str]]:
     )
 
 
-KIND = Kind("roster", "shifts of people on days", _add_arguments, _make, drawing, wishes=wishes)
+KIND = Kind("roster", "shifts of people on days", _add_arguments, _make, drawing, wishes=wishes, sheet=sheet)

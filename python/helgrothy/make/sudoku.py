@@ -18,7 +18,7 @@ from ..syntax import MOST_USES
 from . import areas
 from .areas import Cage, Square
 from .clues import Clues, options_of
-from .kind import Counted, Kind, cut, numbered, read_text
+from .kind import Counted, Kind, check_texts, cut, numbered, read_text
 
 _DIGITS = "123456789ABCDEFGHIJKLMNOP"
 _EMPTY = ".0_*"
@@ -28,6 +28,7 @@ _CAGE = re.compile(r"(k\d+)(?:=(.))?\Z")
 _CROSSED = re.compile(r"x[12]=")
 _ON_DIAGONAL = "#eceadf"
 _NO_CLUES = "the clues are missing; only with regions or cages there may be none"
+_OF_ROWS = "''.join(str(digit) for row in rows for digit in row) is that of rows of digits"
 # A new puzzle has 9 rows, unless it is said otherwise.
 _NEW = "." * 81
 
@@ -78,6 +79,8 @@ def problem(
     a clue has one option. A place in cage 3 has `k3=d` too, and the cage takes the digits that aren't in it,
     `k3 k3=1 ..`. A place on a diagonal has `x1=d` or `x2=d`, or both. Raises `TableFault`.
     """
+    check_texts(_OF_ROWS, clues=clues)
+    check_texts(regions=regions or "", cages=cages or "")
     board = _board(clues, regions, cages, diagonals)
     digits = board.digits
     sets = [list(_sets(cage, digits)) for cage in board.cages]

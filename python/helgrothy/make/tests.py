@@ -4,16 +4,17 @@ from __future__ import annotations
 
 import argparse
 import re
-from collections.abc import Callable, Sequence
+from collections.abc import Callable, Iterator, Sequence
 from typing import Any
 
 from ..console import positive
 from ..draw import Cell, Drawing, Picture, check_size, shade
 from ..problem import Problem
+from ..sheet import Row, Sheet
 from . import allowed
-from .designs import LEVELS, Design, Option, read_factors, read_rules
+from .designs import LEVELS, Design, Factor, Option, read_factors, read_rules
 from .fewest import Few, fewest
-from .kind import Found, Kind, read_text
+from .kind import Found, Kind, check_numbers, check_texts, read_text
 
 _ITEM = re.compile(r"t([0-9]+)/([^:]+)(?::(.+))?\Z")
 # Where the table begins in the comments of a problem.
@@ -34,6 +35,8 @@ def problem(factors: str, tests: int, strength: int = 2) -> Problem[Option]:
 
     Raises `TableFault`, or `ValueError` for fewer tests than these.
     """
+    check_texts(factors=factors)
+    check_numbers(tests=tests, strength=strength)
     read = read_factors(factors)
     if read_rules(factors, read):
         raise ValueError("the table has lines that begin with - or +: --least takes them, --tests doesn't")
@@ -46,6 +49,8 @@ def few(factors: str, strength: int = 2, seconds: float | None = None) -> Few:
 
     Raises `TableFault`, `ValueError`, or `OutOfTime` where the time isn't enough for any.
     """
+    check_texts(factors=factors)
+    check_numbers(strength=strength)
     read = read_factors(factors)
     rules = read_rules(factors, read)
     if rules:
@@ -53,22 +58,61 @@ def few(factors: str, strength: int = 2, seconds: float | None = None) -> Few:
     return fewest(read, strength, seconds)
 
 
+class _Tests:
+    """The factors and tests of a problem, and which values its options give them."""
+
+    def __init__(self, problem: Problem[Any]) -> None:
+        read = read_factors("\n".join(problem.comments[_TABLE_AT:]))
+        self.factors = {factor.name: factor for factor in read}
+        self._place = {name: place for place, name in enumerate(self.factors)}
+        found = [match for match in map(_ITEM.match, problem.secondary_names) if match]
+        self.count = max(int(match.group(1)) for match in found)
+        check_size(self.count, len(self.factors), len(found))
+
+    def of(self, line: str) -> Iterator[tuple[int, Factor, str]]:
+        """Which test has which factor with which value in an option."""
+        for match in filter(None, map(_ITEM.match, line.split())):
+            test, name, colour = match.groups()
+            factor = self.factors[name]
+            yield int(test), factor, factor.values[factor.colours.index(colour)]
+
+    def table(self, lines: Sequence[str]) -> list[list[str | None]]:
+        """The tests of a solution, each with a value or None for each factor."""
+        table: list[list[str | None]] = [[None] * len(self.factors) for _ in range(self.count)]
+        for line in lines:
+            for test, factor, value in self.of(line):
+                table[test - 1][self._place[factor.name]] = value
+        return table
+
+
+def sheet(problem: Problem[Any]) -> Sheet:
+    """A row for each test and a column for each factor; a factor that may have any value has none."""
+    tests = _Tests(problem)
+
+    def rows(lines: Sequence[str]) -> list[Row]:
+        return [list(test) for test in tests.table(lines)]
+
+    def told(line: str) -> str:
+        held = list(tests.of(line))
+        names = dict.fromkeys(f"test{test}" for test, _, _ in held)
+        return " ".join([*names, *(f"{factor.name}={value}" for _, factor, value in held)])
+
+    return Sheet("tests", list(tests.factors), rows, told, number="test")
+
+
 def drawing(problem: Problem[Any]) -> Drawing:
     """A table with a line for each test and a column for each factor."""
-    factors = {factor.name: factor for factor in read_factors("\n".join(problem.comments[_TABLE_AT:]))}
-    columns = {name: place for place, name in enumerate(factors)}
-    found = [match for match in map(_ITEM.match, problem.secondary_names) if match]
-    tests = max(int(match.group(1)) for match in found)
-    check_size(tests, len(columns), len(found))
+    tests = _Tests(problem)
+    values = [factor.values for factor in tests.factors.values()]
+    heads = [str(test) for test in range(1, tests.count + 1)]
 
     def draw(lines: Sequence[str]) -> Picture:
-        cells = {(test, place): Cell() for test in range(tests) for place in range(len(columns))}
-        for line in lines:
-            for match in filter(None, map(_ITEM.match, line.split())):
-                test, name, colour = match.groups()
-                value = factors[name].colours.index(colour)
-                cells[int(test) - 1, columns[name]] = Cell(factors[name].values[value], fill=shade(value))
-        return Picture("a test design", cells, [str(test) for test in range(1, tests + 1)], list(columns))
+        cells = {
+            (r, c): Cell() if value is None else Cell(value, fill=shade(values[c].index(value)))
+            for r, test in enumerate(tests.table(lines))
+            for c, value in enumerate(test)
+        }
+        return Picture("a test design", cells, heads, list(tests.factors))
 
     return draw
 
@@ -128,5 +172,6 @@ KIND = Kind(
     drawing,
     add_search_arguments=_add_search_arguments,
     search=_search,
+    sheet=sheet,
     view=None,
 )

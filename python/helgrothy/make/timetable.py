@@ -10,8 +10,11 @@ from ..amounts import number_of
 from ..console import positive
 from ..draw import Cell, Drawing, Picture, Shades, check_size
 from ..problem import Problem
+from ..sheet import Row, Sheet, whole_names
+from ..shown import bytes_of
+from ..syntax import MOST_NAME
 from ..wishes import Wish, check
-from .kind import Counted, Kind, check_items, numbered, read_text
+from .kind import Counted, Kind, check_items, check_numbers, check_texts, numbered, read_text
 from .lessons import Lesson, Order, Plan, Room, Slot
 
 # Items with their colours, or None.
@@ -51,6 +54,8 @@ def problem(table: str, *, daily: int | None = None) -> Problem[Option]:
     first has items `before1@@SLOT` up to its slot, of one colour, and the others those from theirs on, of another one;
     of those of the same slot each has this as the colour of an item. Raises `TableFault`.
     """
+    check_texts(table=table)
+    check_numbers(daily=daily or 0)
     plan = Plan(table, daily)
     limits, orders = _Limits(plan), _Orders(plan)
     options: Counted[Option] = Counted()
@@ -172,19 +177,61 @@ class _Orders:
         return found
 
 
+class _Held:
+    """What the options of a problem are: lessons in slots and rooms."""
+
+    def __init__(self, problem: Problem[Any], plan: Plan) -> None:
+        self._plan = plan
+        self._places = {f"{slot.name}/{room.name}": (slot, room) for slot in plan.slots for room in plan.rooms}
+        self._slots = {slot.name: (slot, plan.rooms[0]) for slot in plan.slots}
+        self._whole: dict[str, str] = {}
+        if plan.has_rooms and any(len(bytes_of(name)) > MOST_NAME for name in self._places):
+            lessons = plan.lessons.values()
+            places = [f"{slot.name}/{room.name}" for lesson in lessons for slot, room in plan.places_of(lesson)]
+            self._whole = whole_names([problem.line(option).split()[1] for option in problem.options], places)
+
+    def of(self, line: str) -> tuple[Lesson, Slot, Room]:
+        """The lesson, the slot and the room of an option."""
+        name, word, *_ = line.split()
+        if self._plan.has_rooms:
+            slot, room = self._places[self._whole.get(word, word)]
+        else:
+            slot, room = self._slots[word.rpartition("@")[2]]
+        return self._plan.lessons[name], slot, room
+
+
+def sheet(problem: Problem[Any]) -> Sheet:
+    """A row for each time of a lesson, by slots and rooms."""
+    plan = Plan("\n".join(problem.comments[_TABLE_AT:]))
+    held = _Held(problem, plan)
+    at = {slot.name: number for number, slot in enumerate(plan.slots)}
+    room_at = {room.name: number for number, room in enumerate(plan.rooms)}
+
+    def rows(lines: Sequence[str]) -> list[Row]:
+        found = sorted(map(held.of, lines), key=lambda one: (at[one[1].name], room_at[one[2].name]))
+        return [[lesson.name, slot.day, slot.hour or None, room.name or None] for lesson, slot, room in found]
+
+    def told(line: str) -> str:
+        lesson, slot, room = held.of(line)
+        where = f"{slot.name}/{room.name}" if plan.has_rooms else slot.name
+        return " ".join([lesson.name, where, *lesson.people])
+
+    return Sheet("lessons", ("lesson", "day", "hour", "room"), rows, told)
+
+
 def drawing(problem: Problem[Any]) -> Drawing:
     """A table of slots and rooms; without rooms one of hours and days."""
-    grid = _Grid(Plan("\n".join(problem.comments[_TABLE_AT:])))
+    plan = Plan("\n".join(problem.comments[_TABLE_AT:]))
+    held, grid = _Held(problem, plan), _Grid(plan)
     check_size(len(grid.rows), len(grid.columns), len(problem.options))
     shades = Shades()
 
     def draw(lines: Sequence[str]) -> Picture:
         cells = {at: Cell() for at in grid.places}
-        for line in lines:
-            name, word, *_ = line.split()
-            cell = cells[grid.place(word)]
-            cell.label = f"{cell.label} {name}" if cell.label else name
-            cell.fill = shades[name]
+        for lesson, slot, room in map(held.of, lines):
+            cell = cells[grid.place(slot, room)]
+            cell.label = f"{cell.label} {lesson.name}" if cell.label else lesson.name
+            cell.fill = shades[lesson.name]
         return Picture("a timetable", cells, list(grid.rows) if any(grid.rows) else (), list(grid.columns))
 
     return draw
@@ -194,7 +241,7 @@ class _Grid:
     """The names of the rows and columns with their numbers, and the places that there are."""
 
     def __init__(self, plan: Plan) -> None:
-        self._slots = {slot.name: slot for slot in plan.slots}
+        self._has_rooms = plan.has_rooms
         if plan.has_rooms:
             self.rows = _numbered(slot.name for slot in plan.slots)
             self.columns = _numbered(room.name for room in plan.rooms)
@@ -204,12 +251,9 @@ class _Grid:
             self.columns = _numbered(slot.day for slot in plan.slots)
             self.places = [(self.rows[slot.hour], self.columns[slot.day]) for slot in plan.slots]
 
-    def place(self, word: str) -> tuple[int, int]:
-        """That of an item SLOT/ROOM, or NAME@SLOT where there are no rooms."""
-        name, sign, room = word.partition("/")
-        if sign:
-            return self.rows[name], self.columns[room]
-        slot = self._slots[name.rpartition("@")[2]]
+    def place(self, slot: Slot, room: Room) -> tuple[int, int]:
+        if self._has_rooms:
+            return self.rows[slot.name], self.columns[room.name]
         return self.rows[slot.hour], self.columns[slot.day]
 
 
@@ -233,4 +277,12 @@ def _make(arguments: argparse.Namespace) -> Problem[Option]:
     return problem(read_text(arguments.table), daily=arguments.daily)
 
 
-KIND = Kind("timetable", "lessons or exams in slots and rooms", _add_arguments, _make, drawing, wishes=wishes)
+KIND = Kind(
+    "timetable",
+    "lessons or exams in slots and rooms",
+    _add_arguments,
+    _make,
+    drawing,
+    wishes=wishes,
+    sheet=sheet,
+)

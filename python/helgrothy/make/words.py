@@ -11,7 +11,7 @@ from typing import Any, Optional
 from ..draw import Cell, Drawing, Picture, check_size
 from ..problem import Problem
 from ..syntax import MOST_USES
-from .kind import Counted, Kind, picture, read_text
+from .kind import Counted, Kind, check_texts, picture, read_text
 
 Square = tuple[int, int]
 Option = dict[str, Optional[str]]
@@ -29,6 +29,9 @@ def problem(grid: str, words: Iterable[str]) -> Problem[Option]:
     An option is a word in its squares, `across-rRcC rRcC:a rRcC:b .. =word`: a square has its letter as a colour.
     Raises `TableFault`.
     """
+    check_texts(grid=grid)
+    if isinstance(words, str):
+        raise TypeError("words are a list, and this is one text; text.split() gives its words")
     rows = [line for _, line in picture(grid)]
     marks = {(r, c): mark for r, row in enumerate(rows, 1) for c, mark in enumerate(row, 1) if mark != "#"}
     slots = {f"{way}-{_name(squares[0])}": squares for way, squares in _slots(marks)}
@@ -117,7 +120,7 @@ def drawing(problem: Problem[Any]) -> Drawing:
         }
         for line in lines:
             for cell in filter(None, map(_CELL.match, line.split())):
-                cells[int(cell.group(1)) - 1, int(cell.group(2)) - 1].label = cell.group(3)
+                cells[int(cell.group(1)) - 1, int(cell.group(2)) - 1].label = cell.group(3) or ""
         return Picture("a grid of words", cells)
 
     return draw

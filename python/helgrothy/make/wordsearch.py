@@ -15,7 +15,18 @@ from ..errors import TableFault
 from ..problem import Problem
 from ..shown import bytes_of
 from ..syntax import MOST_COLOUR, MOST_NAME, MOST_USES
-from .kind import Counted, Kind, check_items, cut, numbered, picture, read_text
+from .kind import (
+    Counted,
+    Kind,
+    check_items,
+    check_numbers,
+    check_sizes,
+    check_texts,
+    cut,
+    numbered,
+    picture,
+    read_text,
+)
 
 if TYPE_CHECKING:
     import random
@@ -50,6 +61,8 @@ def problem(
     An option is a word in its squares, `WORD rRcC:W rRcC:O ..`: a square has its letter as a colour. Raises
     `TableFault`.
     """
+    check_texts(words=words, grid=grid or "")
+    check_numbers(fill=fill or 0)
     # A command that only prints its help doesn't wait for it.
     import random
 
@@ -108,6 +121,7 @@ def _board(grid: str | None, words: Iterable[str]) -> dict[Square, str]:
     """The squares, each with the letter that is given there, or none. Raises `TableFault`."""
     size = None if grid is None else _BOX.match(grid)
     if grid is not None and size is None:
+        check_sizes(grid, "ROWSxCOLUMNS")
         rows = enumerate((line for _, line in picture(grid)), 1)
         marks = {(r, c): mark for r, row in rows for c, mark in enumerate(row, 1) if mark != "#"}
         if not marks:
@@ -209,7 +223,7 @@ def drawing(problem: Problem[Any]) -> Drawing:
             word, *squares = line.split()
             for cell in filter(None, map(_CELL.match, squares)):
                 at = int(cell.group(1)), int(cell.group(2))
-                letters[at] = cell.group(3)
+                letters[at] = cell.group(3) or ""
                 fills[at] = shades[word]
         if fill is not None and lines:
             letters, fills = filled(letters, words, int(fill.group(1))), {}

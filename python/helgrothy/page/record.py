@@ -2,7 +2,7 @@
 
 The first has the problem, each further one a solution with the steps of the search and its picture, the last one how it
 ended. A picture is a list of numbers: equal parts of pictures are given once, as elements with their attributes, and so
-is each option.
+is each option. Options of a kind that draws tables are also given by whole names, which the page shows.
 
 So a name is never parsed as HTML, as it would be in a page with SVG as text, and a policy can refuse every other way to
 make an element.
@@ -20,6 +20,7 @@ from xml.etree import ElementTree
 from ..errors import NoPicture
 from ..listing import Step
 from ..problem import Problem
+from ..sheet import sheet_of, teller
 from ..shown import shown
 
 # What draws the lines of a solution's options.
@@ -49,6 +50,8 @@ class Record:
     def __init__(self, problem: Problem[Any], draw: Draw | None) -> None:
         self._problem = problem
         self.draw = draw
+        self._sheet = sheet_of(problem)
+        self._tell = teller(problem)
         self._elements: dict[Element, int] = {}
         self._options: set[int] = set()
         self.title = _NO_TITLE
@@ -59,7 +62,8 @@ class Record:
         lines: list[str] = []
         left = _MOST_TEXT
         more = False
-        for line in problem._lines():
+        # Of a kind with a table that is what people know; its items and options are for the programs.
+        for line in problem._lines() if self._sheet is None else problem.comments:
             left -= len(line) + 1
             if left < 0:
                 more = True
@@ -98,6 +102,9 @@ class Record:
             told["picture"] = picture
         if fresh:
             told["options"] = fresh
+            if self._sheet is not None:
+                words = {place + 1: shown(self._tell(line)) for place, line in zip(chosen, lines)}
+                told["words"] = {number: words[number] for number in fresh}
         if len(self._elements) > fresh_from:
             told["elements"] = self._told_from(fresh_from)
         return _line({"solution": told})

@@ -1,8 +1,8 @@
 """The text of a span, as dlx-span writes it: the solutions, if they are listed, and a line that says what it did.
 
 Both the first line of a listing and the last one have the problem's digest, by which dlx-join knows texts of another
-problem: a hash of the problem as it was read, whatever is between its words. The last line ends with a digest of the text
-before it, by which dlx-join knows one that was altered.
+problem: a hash of the problem as it was read, whatever is between its words. The last line ends with a digest of the
+text before it, by which dlx-join knows one that was altered.
 """
 
 from __future__ import annotations

@@ -15,6 +15,8 @@ const FOLDED = 3;
 const MOST_NAMES = 40;
 const SAVED_WITHIN = 60_000;
 const MOST_LINES = 30;
+// A picture that is wider doesn't stand beside the options: there its letters would be too small.
+const WIDE = 640;
 
 const sentence = (text) => `${text[0].toUpperCase()}${text.slice(1).replace(/\.$/, "")}.`;
 const get = (id) => document.getElementById(id);
@@ -50,6 +52,9 @@ class Viewer {
     this.problem = null;
     this.solutions = [];
     this.options = new Map();
+    // The options as they are shown: of some kinds by whole names, without the items of its rules.
+    this.words = new Map();
+    this.isTold = false;
     this.held = new Map();
     this.elements = [];
     this.ended = null;
@@ -102,10 +107,12 @@ class Viewer {
     for (const element of solution.elements || []) this.elements.push(element);
     for (const [number, line] of Object.entries(solution.options || {})) {
       this.options.set(Number(number), line);
+      this.words.set(Number(number), solution.words?.[number] ?? line);
       // A word with a colour is found without it, too.
-      const words = line.split(" ");
+      const words = this.words.get(Number(number)).split(" ");
       this.held.set(Number(number), new Set([...words, ...words.map((word) => word.split(":")[0])]));
     }
+    if (solution.words) this.isTold = true;
     solution.place = this.solutions.length;
     this.solutions.push(solution);
     if (solution.picture && get("title").textContent === "Solutions") this.name(solution);
@@ -248,11 +255,19 @@ class Viewer {
   showPicture(solution, isPaper) {
     const picture = this.picture(solution);
     get("single").classList.toggle("plain", !picture);
+    this.widen(Boolean(picture) && this.sizeOf(solution)[0] > WIDE);
     get("picture").replaceChildren(...(picture ? [shaded(picture, isPaper)] : []));
     if (picture) {
       const [wide, high] = this.sizeOf(solution);
       picture.style.width = `min(100%, ${2 * wide}px, ${Math.round((70 * wide) / high)}vh)`;
     }
+  }
+
+  // Folds the options where a wide picture comes, until they are opened.
+  widen(isWide) {
+    if (get("single").classList.contains("wide") === isWide) return;
+    get("single").classList.toggle("wide", isWide);
+    get("chosen").open = !isWide;
   }
 
   showSteps(solution) {
@@ -268,7 +283,7 @@ class Viewer {
     const isKnown = steps.some(([, , , branches]) => branches);
     get("way").classList.toggle("unknown", !isKnown);
     get("went").textContent = isKnown ? "How the search went to it" : "Its options";
-    get("items").textContent = isKnown ? "Items, from the one at which it chose" : "Items";
+    get("items").textContent = isKnown && !this.isTold ? "Items, from the one at which it chose" : "Items";
     const way = isKnown ? this.way(solution, same) : `${counted(steps.length, "option")}.`;
     get("told").textContent = `Solution ${solution.number.toLocaleString("en")}: ${way}`;
   }
@@ -329,12 +344,13 @@ class Viewer {
     const row = made("tr", { className: place < same ? "same" : place === same && same ? "parting" : "" });
     row.append(made("td", { textContent: place + 1 }), this.branch(branch, branches));
     if (!option) {
-      row.append(made("td"), made("td", { className: "items forced", textContent: `${item}: no further option` }));
+      const textContent = this.isTold ? "no further option" : `${item}: no further option`;
+      row.append(made("td"), made("td", { className: "items forced", textContent }));
       return row;
     }
-    const line = this.options.get(option);
+    const line = this.words.get(option);
     const number = this.button(`${option}`, line, "number", wanted.has(line), "only solutions with this option");
-    const turned = this.turned(item, option);
+    const turned = this.turned(item, line);
     const items = made("td", { className: "items" });
     const title = "only solutions with this item";
     const buttons = turned.map((word) => this.button(word, word, "", wanted.has(word), title));
@@ -402,7 +418,7 @@ class Viewer {
       this.near.observe(card);
     } else {
       const options = solution.steps.map(([, option]) => option).filter(Boolean).slice(0, MOST_LINES);
-      card.append(made("pre", { textContent: options.map((option) => this.options.get(option)).join("\n") }));
+      card.append(made("pre", { textContent: options.map((option) => this.words.get(option)).join("\n") }));
     }
     card.dataset.place = solution.place;
     card.addEventListener("click", () => {
@@ -481,13 +497,13 @@ class Viewer {
   }
 
   listed([item, option, branch, branches]) {
-    const words = option ? this.turned(item, option).join(" ") : `null ${item}`;
+    const words = option ? this.turned(item, this.options.get(option)).join(" ") : `null ${item}`;
     return ` ${words}${branches ? ` (${branch} of ${branches})` : ""}`;
   }
 
   // The words of an option from an item on.
-  turned(item, option) {
-    const words = this.options.get(option).split(" ");
+  turned(item, line) {
+    const words = line.split(" ");
     const start = Math.max(words.indexOf(item), 0);
     return [...words.slice(start), ...words.slice(0, start)];
   }
