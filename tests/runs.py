@@ -7,6 +7,7 @@ programs; without it they are taken from where the gate leaves them. Prints what
 is then 1.
 """
 import os
+import resource
 import subprocess
 import sys
 import tempfile
@@ -41,10 +42,33 @@ def path(program: str) -> str:
 
 
 def run(words: list[str], text: str) -> Answer:
-    """What a program answers to arguments and standard input. A text stands for its bytes in latin-1."""
+    """What a program answers to arguments and standard input in a minute. A text stands for its bytes in latin-1."""
     command = [path(words[0]), *words[1:]]
-    ended = subprocess.run(command, input=text.encode("latin-1"), capture_output=True, timeout=60)
+    try:
+        ended = subprocess.run(command, input=text.encode("latin-1"), capture_output=True, timeout=60)
+    except subprocess.TimeoutExpired:
+        return Answer(-1, "", "no end within a minute\n")
     return Answer(ended.returncode, ended.stdout.decode("latin-1"), ended.stderr.decode("latin-1"))
+
+
+def measured(words: list[str], text: str) -> tuple[Answer, int]:
+    """The same in a minute of CPU time, and the most megabytes that it had; those of this one, where it has more."""
+    with tempfile.TemporaryFile() as given, tempfile.TemporaryFile() as out, tempfile.TemporaryFile() as err:
+        given.write(text.encode("latin-1"))
+        given.seek(0)
+        process = subprocess.Popen(
+            [path(words[0]), *words[1:]],
+            stdin=given,
+            stdout=out,
+            stderr=err,
+            preexec_fn=lambda: resource.setrlimit(resource.RLIMIT_CPU, (60, 60)),
+        )
+        _, status, used = os.wait4(process.pid, 0)
+        process.returncode = os.waitstatus_to_exitcode(status)
+        out.seek(0)
+        err.seek(0)
+        answer = Answer(process.returncode, out.read().decode("latin-1"), err.read().decode("latin-1"))
+    return answer, used.ru_maxrss >> 10
 
 
 def judge(words: list[str], problem: str, listing: str) -> Answer:
@@ -502,7 +526,7 @@ def joins() -> Iterator[str]:
 
 
 def counts() -> Iterator[str]:
-    """A number of 134 bits, its last solution, and one more."""
+    """A number of 134 bits, its last solution, and one more; and counts that take more than the search's first turn."""
     items, many = [f"i{n}" for n in range(31)], 20**31
     problem = " ".join(items) + "\n" + "".join(f"{item}\n" * 20 for item in items)
     last = f"{many}:\n" + "".join(f" {item} (20 of 20)\n" for item in items)
@@ -512,6 +536,38 @@ def counts() -> Iterator[str]:
         (f"n{many + 1}", Answer(5, "", f"There are fewer than {many + 1} solutions.\n")),
     ):
         yield from differs(f"dlx-count 1 {word}", run(["dlx-count", "1", *word.split()], problem), wanted)
+    yield from long_counts()
+
+
+# Many more than the solutions of any search here.
+TILINGS = 53060477521960000
+# In as many megabytes Python's own fit too, and the states of these sweeps don't.
+FEW_MEGABYTES = 40
+
+
+def queens(n: int) -> str:
+    rows, columns = [f"r{i}" for i in range(n)], [f"c{i}" for i in range(n)]
+    diagonals = [f"{line}{i}" for line in "ab" for i in range(2 * n - 1)]
+    options = [f"r{r} c{c} a{r + c} b{r - c + n - 1}\n" for r in range(n) for c in range(n)]
+    return f"{' '.join(rows + columns)} | {' '.join(diagonals)}\n{''.join(options)}"
+
+
+def long_counts() -> Iterator[str]:
+    """A number past the end, which no search comes to; a count where the search beside the sweep ends first, and so the
+    states stay few; and a bound of memory, without which the states that are kept take 200 megabytes."""
+    with open(f"{TOP}/examples/dominoes.dlx") as file:
+        dominoes = file.read()
+    for words, wanted in (
+        ([], Answer(0, "", f"Altogether {TILINGS} solutions.\n")),
+        ([f"n{TILINGS + 1}"], Answer(5, "", f"There are fewer than {TILINGS + 1} solutions.\n")),
+    ):
+        yield from differs(f"dlx-count 1 {words} of dominoes", run(["dlx-count", "1", *words], dominoes), wanted)
+    yield from differs("dlx-count 1 of queens", run(["dlx-count", "1"], queens(10)), run(["dlx1"], queens(10)))
+    counted = "Altogether 14200 solutions.\n"
+    for words in ([], ["b1", "o"]):
+        found, megabytes = measured(["dlx-count", "1", *words], queens(12))
+        if (found.status, found.messages) != (0, counted) or megabytes > FEW_MEGABYTES:
+            yield f"dlx-count 1 {words} of queens: {found.status}, {found.messages!r}, {megabytes} megabytes"
 
 
 def main() -> int:
