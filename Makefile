@@ -20,10 +20,10 @@ LIBRARY = $(wildcard bindings/out/libhelgrothy.so)
 # The number rises where a program that was linked with an earlier library couldn't run with this one.
 SONAME = libhelgrothy.so.0
 
-.PHONY: help run bin all $(PROGRAMS) $(DASHED_CRATES) test test-mutants test-hostile test-hostile-python test-python
-.PHONY: test-count test-search test-page test-docs
+.PHONY: help run bin all quick checked $(PROGRAMS) $(DASHED_CRATES) test test-mutants test-hostile
+.PHONY: test-hostile-python test-python test-count test-search test-page test-docs
 .PHONY: pictures completion believed names bench bench-forms test-bench test-build
-.PHONY: lib checked install install-lib uninstall uninstall-lib dist deb wheel version release
+.PHONY: lib install install-lib uninstall uninstall-lib dist deb wheel version release
 .PHONY: test-bindings test-install test-dist test-deb test-wheel
 # Without a target: the list of targets.
 help:
@@ -94,6 +94,10 @@ test-bench: ## test the scripts that measure
 # What was built of these sources, here or by the gate, is taken as it is.
 all: ## build all programs, which proves the libraries first
 	@scripts/build $(PROGRAMS) $(DASHED_CRATES)
+	@$(MAKE) -s --no-print-directory bin
+# They are for trying out: what isn't proved is neither installed nor packed.
+quick: ## build all programs without proofs
+	@scripts/build --unproved $(PROGRAMS) $(DASHED_CRATES)
 	@$(MAKE) -s --no-print-directory bin
 $(PROGRAMS) $(DASHED_CRATES):
 	@scripts/build $@

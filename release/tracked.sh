@@ -1,7 +1,7 @@
 #!/bin/sh
-# tracked.sh COMMAND WORD..: runs a command that packs, in a copy of the tree with the files that git tracks, the programs
-# and their notes, and nothing else. What the command makes in dist/ there is then put into dist/ here, which stays as it
-# was where anything fails.
+# tracked.sh COMMAND WORD..: runs a command that packs, in a copy of the tree with the files that git tracks, the
+# programs and their notes, and nothing else. What the command makes in dist/ there is then put into dist/ here, which
+# stays as it was where anything fails.
 set -eu
 export LC_ALL=C
 umask 022

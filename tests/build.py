@@ -16,6 +16,15 @@ import zipfile
 from pathlib import Path
 
 TOP = Path(__file__).resolve().parent.parent
+# As scripts/bench/unproved.py, which builds a program without proofs.
+UNPROVED = """import pathlib, sys
+_, top, name, out = sys.argv
+source = pathlib.Path(top, "crates", name, "src", "lib.rt").read_text()
+if source == "broken": sys.exit(f"no code of {name}")
+made = pathlib.Path(out, name)
+made.write_text(f"#!/bin/sh\\necho unproved, of {source}\\n")
+made.chmod(0o755)
+"""
 PROGRAMS = ["dlx1", "dlx2", "dlx3", "dlxcheck", "dlx_span", "dlx_join", "dlx_count"]
 RT = """#!/bin/sh
 [ "$1" != version ] || exec echo a kit
@@ -153,9 +162,10 @@ class Tree(unittest.TestCase):
     def setUp(self) -> None:
         self.top = Path(tempfile.mkdtemp())
         self.addCleanup(shutil.rmtree, self.top)
-        (self.top / "scripts").mkdir()
+        (self.top / "scripts" / "bench").mkdir(parents=True)
         for name in ("build", "helgrothy"):
             shutil.copy(TOP / "scripts" / name, self.top / "scripts")
+        (self.top / "scripts" / "bench" / "unproved.py").write_text(UNPROVED)
         for name in ("Makefile", "VERSION", "crates.txt"):
             shutil.copy(TOP / name, self.top)
         for crate in (TOP / "crates").iterdir():
@@ -210,6 +220,37 @@ class Whole(Tree):
         ran = self.run_make("install", f"DESTDIR={self.top / 'to'}")
         self.assertIn("bin/dlx1 isn't built: run make all\n", ran.stderr)
         self.assertFalse((self.top / "to").exists())
+
+    def test_quick_builds_without_proofs_what_is_not_built(self) -> None:
+        told = f"not proved, until make all replaces them: {' '.join(PROGRAMS)}"
+        lines = self.make("quick")
+        self.assertEqual(sorted(lines[:-1]), sorted(f"built without proofs: {name}" for name in PROGRAMS))
+        self.assertEqual((lines[-1], self.calls()), (told, []))
+        self.assertEqual((self.top / "bin" / "dlx-join").read_text(), "#!/bin/sh\necho unproved, of dlx_join\n")
+        self.assertTrue(all(os.access(self.top / "bin" / it, os.X_OK) for it in ("dlx1", "dlx-join", "helgrothy")))
+        self.assertEqual(self.make("quick"), [told])
+        # These aren't taken for proved ones.
+        self.make()
+        self.assertNotIn("unproved", (self.top / "bin" / "dlx-join").read_text())
+        self.assertEqual(self.make("quick"), [f"built already: {' '.join(PROGRAMS)}"])
+        self.make("checked")
+
+    def test_quick_after_a_change(self) -> None:
+        self.make()
+        source = self.top / "crates" / "dlx3" / "src" / "lib.rt"
+        for text in ("another", "a third"):
+            source.write_text(text)
+            self.assertEqual(len(self.make("quick")), 3)
+            self.assertEqual((self.top / "bin" / "dlx3").read_text(), f"#!/bin/sh\necho unproved, of {text}\n")
+        self.assertNotIn("unproved", (self.top / "bin" / "dlx1").read_text())
+        source.write_text("broken")
+        ran = self.run_make("quick")
+        self.assertEqual((ran.returncode, ran.stdout.splitlines()[1:]), (2, ["dlx3 isn't built:", "no code of dlx3"]))
+        script = self.top / "scripts" / "bench" / "unproved.py"
+        script.write_text(f"{UNPROVED}pathlib.Path({os.fspath(source)!r}).write_text('meanwhile')\n")
+        source.write_text("before")
+        self.assertIn("dlx3 isn't built: its sources, or the toolchain, were touched", self.run_make("quick").stdout)
+        self.assertEqual([it for it in (self.top / "bin").iterdir() if it.name.startswith(".unproved")], [])
 
     def gate(self, *also: str) -> list[str]:
         """tests/gate.sh with an `rt ci` that builds all programs, and does some things more. What it says of them."""
@@ -304,6 +345,14 @@ class Packed(Tree):
         self.refused("nothing says of what bin/dlx3 was built: run make all", "install")
         self.make()
         self.make("wheel")
+
+    def test_a_program_that_is_not_proved_is_neither_installed_nor_packed(self) -> None:
+        (self.top / "crates" / "dlx_count" / "src" / "lib.rt").write_text("another")
+        self.make("quick")
+        for target in ("install", "dist", "deb", "wheel"):
+            self.refused("bin/dlx-count isn't proved: run make all", target)
+        self.make()
+        self.make("dist")
 
     def packed(self) -> set[str]:
         """What is in the archive and in the wheel, but for the folders."""
