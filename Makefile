@@ -20,10 +20,10 @@ LIBRARY = $(wildcard bindings/out/libhelgrothy.so)
 # The number rises where a program that was linked with an earlier library couldn't run with this one.
 SONAME = libhelgrothy.so.0
 
-.PHONY: help run bin all quick $(PROGRAMS) $(DASHED_CRATES) test test-mutants test-hostile test-hostile-python
-.PHONY: test-python test-count test-search test-page test-docs
+.PHONY: help run bin all quick checked $(PROGRAMS) $(DASHED_CRATES) test test-mutants test-hostile
+.PHONY: test-hostile-python test-python test-count test-search test-page test-docs
 .PHONY: pictures completion believed names bench bench-forms test-bench test-build
-.PHONY: lib checked install install-lib uninstall uninstall-lib dist deb wheel version release
+.PHONY: lib install install-lib uninstall uninstall-lib dist deb wheel version release
 .PHONY: test-library test-bindings test-install test-dist test-deb test-wheel
 # Without a target: the list of targets.
 help:
