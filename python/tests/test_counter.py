@@ -68,13 +68,13 @@ class Counts(InFolder):
         self.assertEqual((counted.total, told), (92, []))
 
     def test_a_search_that_is_faster_gives_the_number(self):
-        self.program("dlx-count", "sleep 1000")
+        self.program("dlx-count", "exec sleep 1000")
         begun = time.monotonic()
         self.assertEqual(make.queens.problem(8)._count(None), counter.Count(92, "dlx1"))
         self.assertLess(time.monotonic() - begun, 100)
 
     def test_a_count_that_is_faster_gives_the_number(self):
-        self.program("dlx1", "echo 1000: && sleep 1000")
+        self.program("dlx1", "echo 1000: && exec sleep 1000")
         self.assertEqual(make.queens.problem(8)._count(100.0), counter.Count(92, "dlx-count"))
 
     def test_what_dlx_count_says_amiss_counts_for_nothing(self):
@@ -96,12 +96,12 @@ class Counts(InFolder):
 
     def test_a_search_that_fails_is_told(self):
         self.program("dlx1", "echo Out of memory. >&2; exit 4")
-        self.program("dlx-count", "sleep 1000")
+        self.program("dlx-count", "exec sleep 1000")
         with self.assertRaisesRegex(ProgramFailed, "dlx1 ended with status 4: Out of memory."):
             make.queens.problem(6).count()
 
     def test_time_runs_out_for_both(self):
-        self.program("dlx-count", "sleep 1000")
+        self.program("dlx-count", "exec sleep 1000")
         with self.assertRaises(OutOfTime) as raised:
             dominoes(12).count(seconds=2.0)
         self.assertGreater(raised.exception.found, 0)

@@ -129,7 +129,7 @@ class WithEngines(InFolder):
 
 class Solving(WithEngines):
     def test_a_right_one(self):
-        self.program("/bin/sleep 1000")
+        self.program("exec /bin/sleep 1000")
         self.engine("echo s SATISFIABLE; echo v 1 -2 -3 4 5 6 7 0; exit 10")
         status, out, told = run("solve", self.problem)
         self.assertEqual((status, out), (0, FOUND))
@@ -148,7 +148,7 @@ class Solving(WithEngines):
         self.assertEqual((list(solutions), solutions.total, solutions.complete), ([], 1, False))
 
     def test_none_is_a_claim(self):
-        self.program("/bin/sleep 1000")
+        self.program("exec /bin/sleep 1000")
         self.engine("echo s UNSATISFIABLE; exit 20")
         status, out, told = run("solve", self.problem, "--seconds", "300")
         self.assertEqual((status, out), (1, ""))
@@ -250,7 +250,7 @@ class Solving(WithEngines):
 
     @unittest.skipUnless(REAL, "needs cadical or clasp")
     def test_real_ones(self):
-        self.program("/bin/sleep 1000")
+        self.program("exec /bin/sleep 1000")
         for name in REAL:
             os.symlink(shutil.which(name, path=PATH), os.path.join(self.folder, "path", name))
             with self.subTest(name):
@@ -397,7 +397,7 @@ class Whys(WithEngines):
     """The same for `why` and `lint`."""
 
     def test_why_with_a_right_one(self):
-        self.program("/bin/sleep 1000")
+        self.program("exec /bin/sleep 1000")
         self.engine("echo s UNSATISFIABLE; exit 20")
         status, out, told = run("why", self.none, "--seconds", "300")
         self.assertEqual(status, 0)

@@ -174,9 +174,9 @@ class Records(unittest.TestCase):
     def test_what_is_refused(self):
         part = Span((3,), (4, 1), 0, PARTS)
         right = [
-            (b"from 3 until 4.1 solutions 7 steps 9%s\n", False, ((4, 1), (), 7)),
-            (b"from 3 until 3.2.1 of 8.9.2 solutions 0 steps 9%s\n", False, ((3, 2, 1), (8, 9, 2), 0)),
-            (b"from 3%s\n1:\n a (1 of 1)\nfrom 3 until 4.1 solutions 1 steps 9%s\n", True, ((4, 1), (), 1)),
+            (b"from 3 until 4.1 solutions 7 steps 9%s text 89abcdef01234567\n", False, ((4, 1), (), 7)),
+            (b"from 3 until 3.2.1 of 8.9.2 solutions 0 steps 9%s text 89abcdef01234567\n", False, ((3, 2, 1), (8, 9, 2), 0)),
+            (b"from 3%s\n1:\n a (1 of 1)\nfrom 3 until 4.1 solutions 1 steps 9%s text 89abcdef01234567\n", True, ((4, 1), (), 1)),
         ]
         digest = "0123456789abcdef"
         of, other = (b" problem " + word.encode() for word in (digest, "f" * 16))
@@ -198,14 +198,14 @@ class Records(unittest.TestCase):
                 with self.assertRaises(SearchFault):
                     record.of_text(given[:at], part, listed)
         for given in (
-            b"from 3 until 4 solutions 7 steps 9%s\n",
-            b"from 2 until 4.1 solutions 7 steps 9%s\n",
-            b"from 3 until 4.1 of 8.8 solutions 7 steps 9%s\n",
-            b"from 3 until 3 of 8 solutions 7 steps 9%s\n",
-            b"from 3 until 5 of 8 solutions 7 steps 9%s\n",
-            b"from 3 until 3.1 of 8 solutions 7 steps 9%s\n",
-            b"from 3 until 4.1 solutions -7 steps 9%s\n",
-            b"from 3%s\nfrom 3 until 4.1 solutions 7 steps 9%s\n",
+            b"from 3 until 4 solutions 7 steps 9%s text 89abcdef01234567\n",
+            b"from 2 until 4.1 solutions 7 steps 9%s text 89abcdef01234567\n",
+            b"from 3 until 4.1 of 8.8 solutions 7 steps 9%s text 89abcdef01234567\n",
+            b"from 3 until 3 of 8 solutions 7 steps 9%s text 89abcdef01234567\n",
+            b"from 3 until 5 of 8 solutions 7 steps 9%s text 89abcdef01234567\n",
+            b"from 3 until 3.1 of 8 solutions 7 steps 9%s text 89abcdef01234567\n",
+            b"from 3 until 4.1 solutions -7 steps 9%s text 89abcdef01234567\n",
+            b"from 3%s\nfrom 3 until 4.1 solutions 7 steps 9%s text 89abcdef01234567\n",
             b"\n",
         ):
             with self.subTest(given=given), self.assertRaises(SearchFault):
