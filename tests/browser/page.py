@@ -108,7 +108,7 @@ class Pages(unittest.TestCase):
 
     def unfold(self):
         """Opens what is folded of the steps and cut of their options."""
-        self.tab.value("document.querySelectorAll('#steps details').forEach((it) => it.open = true)")
+        self.tab.value("document.querySelectorAll('#chosen, #steps details').forEach((it) => it.open = true)")
         self.tab.value("document.querySelectorAll('#steps .rest').forEach((it) => it.click())")
 
     def wait(self, holds):
