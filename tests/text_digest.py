@@ -1,5 +1,5 @@
 #!/usr/bin/env python3
-"""text_digest.py: a text of a span up to ` text ` on standard input, or its first lines, closed by its digest."""
+"""text_digest.py: the text of a span, given up to ` text ` on standard input, closed by its digest."""
 import sys
 
 MULTIPLIER, START = 0x9E3779B97F4A7C15, 0x243F6A8885A308D3
@@ -22,7 +22,7 @@ def text_digest(text: bytes) -> str:
 
 
 def closed(front: str) -> str:
-    """A text whose record is the last line up to the digest of the text, with that. It stands for its bytes in latin-1."""
+    """A text of a span, given up to ` text `, with its digest. It stands for its bytes in latin-1."""
     return f"{front} text {text_digest(front.encode('latin-1'))}\n"
 
 

@@ -1,6 +1,6 @@
 use Rattle.std.proofs.Common.{inl, inr}
 use Rattle.xc_tools.proofs.RunLemmas.{listing_begins}
-use Rattle.xc_tools.proofs.judging.judge.Goals as goal
+use Rattle.xc_tools.proofs.judging.judge_by.Goals as goal
 
 pub returns-in-Ok-clause-begins : goal.returns-in-Ok-clause-begins
 returns-in-Ok-clause-begins g c =
