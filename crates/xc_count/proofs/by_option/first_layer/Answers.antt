@@ -1,4 +1,4 @@
-use Rattle.std.proofs.Common.{ℕ, arith, ◌≡◌, ◌*◌, ◌∙◌, ap, sym, subst, length, get_or, ltb-true, ltb-false}
+use Rattle.std.proofs.Common.{ℕ, arith, ◌≡◌, ◌*◌, ap, length, get_or, ltb-true, ltb-false}
 use Rattle.std.specs.Prelude.{nat_lt}
 use Rattle.std.proofs.lemmas.List.{get_or_past}
 use Rattle.xc_input.proofs.ListLemmas.{by_bool}

@@ -1,9 +1,9 @@
-use Rattle.std.proofs.Common.{suc, arith, refl, ◌≡◌, ◌-◌, ◌+◌, ◌/◌, ◌^◌, ◌∙◌, sym, ap, subst, length, Some}
+use Rattle.std.proofs.Common.{arith, refl, ◌≡◌, ◌-◌, ◌+◌, ◌/◌, ◌^◌, ◌∙◌, sym, ap, subst, length, Some}
 use Rattle.std.specs.Prelude.{slice_get, slice_set}
 use Rattle.std.proofs.lemmas.Option.{slice_get_read}
 use Rattle.xc_count.specs.declared.layer.Slot.{Slot}
 use Rattle.xc_count.specs.inner.Layers.{Finds, slot_after}
-use Rattle.xc_count.proofs.SlotLemmas.{Grew, LeadsTo, grew_set, finds_from, finds_still, fills_here, full_at}
+use Rattle.xc_count.proofs.SlotLemmas.{LeadsTo, grew_set, finds_from, finds_still, fills_here, full_at}
 use Rattle.xc_count.proofs.SlotLemmas.{full_still, leads_before}
 use Rattle.xc_count.proofs.layer.fill_slot.Goals as goal
 

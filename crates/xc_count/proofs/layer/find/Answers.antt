@@ -1,9 +1,8 @@
-use Rattle.std.proofs.Common.{ℕ, suc, arith, refl, ◌≡◌, ◌-◌, ◌+◌, ◌/◌, ◌^◌, ◌∙◌, sym, ap, subst, length, Some}
+use Rattle.std.proofs.Common.{arith, refl, ◌≡◌, ◌-◌, ◌+◌, ◌/◌, ◌^◌, ◌∙◌, sym, subst, length, Some}
 use Rattle.std.proofs.Common.{get_or}
 use Rattle.std.specs.Prelude.{slice_get}
 use Rattle.std.proofs.lemmas.Option.{slice_get-get_or}
 use Rattle.xc_count.specs.declared.layer.Slot.{Slot}
-use Rattle.xc_count.specs.declared.layer.State.{State}
 use Rattle.xc_count.specs.inner.Layers.{Finds}
 use Rattle.xc_count.proofs.SlotLemmas.{LeadsTo, finds_none, finds_to, leads_by_full, leads_on, told_at}
 use Rattle.xc_count.proofs.layer.find.Goals.{else-tag-tag_of-via-then-tag-tag_of+else-is_at}

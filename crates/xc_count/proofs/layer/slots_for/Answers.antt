@@ -1,4 +1,4 @@
-use Rattle.std.proofs.Common.{ℕ, arith, ◌≡◌, ◌+◌, ◌∙◌, sym, ap, subst, length, List, get_or, Some, ltb-true, ltb-false}
+use Rattle.std.proofs.Common.{ℕ, arith, ◌≡◌, ◌+◌, ◌∙◌, sym, ap, subst, List, get_or, Some, ltb-true, ltb-false}
 use Rattle.std.specs.Prelude.{nat_lt, slice_get}
 use Rattle.std.proofs.lemmas.List.{length-map}
 use Rattle.std.proofs.lemmas.Option.{slice_get-get_or, slice_get_within}

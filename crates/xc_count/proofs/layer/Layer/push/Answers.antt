@@ -1,4 +1,4 @@
-use Rattle.std.proofs.Common.{arith, ◌≡◌, ◌+◌, ◌∙◌, ◌∷◌, ◌++◌, [], sym, ap, subst, length}
+use Rattle.std.proofs.Common.{arith, ◌≡◌, ◌∷◌, ◌++◌, [], sym, ap, subst}
 use Rattle.xc_count.specs.inner.Layers.{AreFound, bytes_of, told}
 use Rattle.xc_count.proofs.SlotLemmas.{bytes_push, found_push}
 use Rattle.xc_count.proofs.layer.Layer.push.Goals as goal
