@@ -14,6 +14,7 @@ pub mod OptionCounts
 pub mod Orders
 pub mod Passed
 pub mod PlanLemmas
+pub mod SlotLemmas
 pub mod Split
 pub mod TakenKeys
 pub mod Turns

@@ -56,30 +56,31 @@ more_left us k d left total v h within more so i =
     let new = set_there left u.item i v other in
     omega (arith, was, held_cons u (drop (k + 1) us) i other, new))
 
--- and one less
-pub less_left : (us : List Use) (k : ℕ) (d : Use) (left : List ℕ) (old total : ℕ → ℕ) (v : ℕ)
-    → EachTwo (λ u v. u.item ≢ v.item) us → k < length us
-    → (get_or us k d).item < length left → get_or left (get_or us k d).item 0 ≤ v + 1
-    → ((i : ℕ) → held_by (drop k us) i + old i ≤ total i + get_or left i 0)
-    → (i : ℕ) → held_by (drop (k + 1) us) i + old i ≤ total i + get_or (set left (get_or us k d).item v) i 0
-less_left us k d left old total v two h within less so i =
+-- and one less: each item that these uses hold has one less once its use is behind
+pub less_left : (us : List Use) (k : ℕ) (d : Use) (left : List ℕ) (old : ℕ → ℕ) (v : ℕ)
+    → EachTwo (λ u v. u.item ≢ v.item) us → k < length us → held_by us (get_or us k d).item ≡ 1
+    → (get_or us k d).item < length left → v ≡ get_or left (get_or us k d).item 0 - 1
+    → ((i : ℕ) → get_or left i 0 ≡ old i - (held_by us i - held_by (drop k us) i))
+    → (i : ℕ) → get_or (set left (get_or us k d).item v) i 0 ≡ old i - (held_by us i - held_by (drop (k + 1) us) i)
+less_left us k d left old v two h holds within less so i =
     let u = get_or us k d in
     let next : suc k ≡ k + 1 = omega arith in
     let here : drop k us ≡ u ∷ drop (k + 1) us = drop-cons us k d h ∙ ap (λ n. u ∷ drop n us) next in
-    let was : held_by (u ∷ drop (k + 1) us) i + old i ≤ total i + get_or left i 0 =
-    subst (λ vs. held_by vs i + old i ≤ total i + get_or left i 0) here (so i) in
+    let was : get_or left i 0 ≡ old i - (held_by us i - held_by (u ∷ drop (k + 1) us) i) =
+    subst (λ vs. get_or left i 0 ≡ old i - (held_by us i - held_by vs i)) here (so i) in
     by_bool (eqb u.item i)
     (λ e.
     let is = eqb-true _ _ e in
     let new : get_or (set left u.item v) i 0 ≡ v =
     subst (λ j. get_or (set left u.item v) j 0 ≡ v) is (set_here left u.item v within) in
-    let fewer : get_or left i 0 ≤ v + 1 = subst (λ j. get_or left j 0 ≤ v + 1) is less in
+    let fewer : v ≡ get_or left i 0 - 1 = subst (λ j. v ≡ get_or left j 0 - 1) is less in
     let one : held_by (u ∷ drop (k + 1) us) i ≡ 1 = rw e refl in
+    let held : held_by us i ≡ 1 = subst (λ j. held_by us j ≡ 1) is holds in
     let none : colour_in (drop (k + 1) us) i ≡ None =
     subst (λ j. colour_in (drop (k + 1) us) j ≡ None) is
     (subst (λ n. colour_in (drop n us) u.item ≡ None) next (none_again us two k d h)) in
     let gone : held_by (drop (k + 1) us) i ≡ 0 = rw none refl in
-    omega (arith, was, one, gone, fewer, new))
+    omega (arith, was, one, held, gone, fewer, new))
     (λ e.
     let other : u.item ≢ i = λ q. let t = eq-eqb _ _ q in cc (t, e) in
     let new = set_there left u.item i v other in
@@ -92,7 +93,7 @@ at_most_more p o os left new a more i = omega (arith, a i, more i, holders_cons 
 
 -- and once it is behind
 pub at_most_less : (p : Puzzle) (o : ℕ) (os left new : List ℕ) → AtMost p (o ∷ os) left
-    → ((i : ℕ) → get_or left i 0 ≤ held_by (uses_of p o) i + get_or new i 0) → AtMost p os new
+    → ((i : ℕ) → get_or new i 0 ≡ get_or left i 0 - held_by (uses_of p o) i) → AtMost p os new
 at_most_less p o os left new a less i = omega (arith, a i, less i, holders_cons p o os i)
 
 -- an option that isn't there yet is added

@@ -1,7 +1,9 @@
 pub mod ByOption
 pub mod Held
 pub mod Keys
+pub mod Layers
 pub mod Numbered
 pub mod Passed
 pub mod Plans
+pub mod Searching
 pub mod Worth

@@ -3,7 +3,7 @@
 //! A mark of an item is replaced by the least that says as much, and a state is dropped once a lower bound can't be met
 //! any more. Both are proved to leave the number of ways.
 
-ghost use Rattle.std.specs.Prelude.{ℕ, ◌≡◌, ◌+◌, ◌*◌, ◌≤◌, List, [], ◌∷◌, length, All, IfOk, OnOk};
+ghost use Rattle.std.specs.Prelude.{ℕ, ◌≡◌, ◌+◌, ◌-◌, ◌*◌, ◌≤◌, List, [], ◌∷◌, length, All, IfOk, OnOk};
 ghost use Rattle.xc_input.specs.Problem.{IsItem, IsOption, IsValid};
 ghost use Rattle.xc_input.specs.Limits.{most_uses};
 ghost use Rattle.xc_search.specs.Cover.{members};
@@ -35,10 +35,11 @@ fn add_left(
     ways: &Natural,
 ) -> Result<(), CountError>
     requires { All (λ u. IsItem problem.now.puzzle u.item) uses.now }
-    ensures { (os : List ℕ) → AtMost problem.now.puzzle os left.now → OnOk result (
+    ensures worth { (os : List ℕ) → AtMost problem.now.puzzle os left.now → OnOk result (
         worth_by (ways_from problem.now.puzzle os) layer.new.states.items
         ≡ worth_by (ways_from problem.now.puzzle os) layer.old.states.items
         + ways.now * ways_from problem.now.puzzle os key.old.items) }
+    ensures bound { layer.new.bound ≡ layer.old.bound }
 {
     if !forget(problem, left, key, uses)? {
         return Ok(());
@@ -56,10 +57,11 @@ fn leave(
     state: &State,
 ) -> Result<(), CountError>
     requires { All (λ u. IsItem problem.now.puzzle u.item) uses.now }
-    ensures { (os : List ℕ) → AtMost problem.now.puzzle os left.now → OnOk result (
+    ensures worth { (os : List ℕ) → AtMost problem.now.puzzle os left.now → OnOk result (
         worth_by (ways_from problem.now.puzzle os) layer.new.states.items
         ≡ worth_by (ways_from problem.now.puzzle os) layer.old.states.items
         + state.now.ways * ways_from problem.now.puzzle os state.now.key.items) }
+    ensures bound { layer.new.bound ≡ layer.old.bound }
 {
     scratch.clear();
     scratch.extend_from_slice(state.key.as_slice())?;
@@ -76,10 +78,11 @@ fn take(
     state: &State,
 ) -> Result<(), CountError>
     requires { All (λ u. IsItem problem.now.puzzle u.item × (u.colour ≤ most_uses)) uses.now }
-    ensures { (os : List ℕ) → AtMost problem.now.puzzle os left.now → OnOk result (
+    ensures worth { (os : List ℕ) → AtMost problem.now.puzzle os left.now → OnOk result (
         worth_by (ways_from problem.now.puzzle os) layer.new.states.items
         ≡ worth_by (ways_from problem.now.puzzle os) layer.old.states.items
         + state.now.ways * ways_taken problem.now.puzzle os uses.now state.now.key.items) }
+    ensures bound { layer.new.bound ≡ layer.old.bound }
 {
     if !take_uses(problem, state.key.as_slice(), scratch, uses)? {
         return Ok(());
@@ -101,7 +104,8 @@ fn choose(
     ensures worth { (os : List ℕ) → AtMost problem.now.puzzle os left.now → IfOk result (λ l.
         worth_by (ways_from problem.now.puzzle os) l.states.items
         ≡ worth_by (ways_from problem.now.puzzle (option ∷ os)) layer.states.items) }
-    ensures same { rival.new ≡ rival.old }
+    ensures room { IfOk result (λ l. l.bytes ≤ bound - layer.bytes) }
+    ensures same { rival.new.puzzle ≡ rival.old.puzzle }
 {
     let uses = problem.option(option);
     let mut next = Layer::new(alloc, layer.beside(bound));
@@ -157,7 +161,7 @@ pub fn sweep_options(
     requires plan { IsPlan problem.now.puzzle plan.now }
     requires valid { IsValid problem.now.puzzle }
     ensures count { IfOk result (λ n. n ≡ length (members problem.now.puzzle)) }
-    ensures same { rival.new ≡ rival.old }
+    ensures same { rival.new.puzzle ≡ rival.old.puzzle }
 {
     let order = options_in_order(alloc, problem, plan)?;
     let mut left = holders_left(alloc, problem, order.as_slice())?;

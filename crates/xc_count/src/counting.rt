@@ -1,5 +1,5 @@
 //! The count.
-ghost use Rattle.std.specs.Prelude.{ℕ, ◌≡◌, ◌≤◌, length, true, IfOk};
+ghost use Rattle.std.specs.Prelude.{ℕ, ◌≡◌, ◌≤◌, length, true, false, IfOk};
 ghost use Rattle.xc_input.specs.Problem.{Puzzle, IsValid};
 ghost use Rattle.xc_search.specs.Cover.{members};
 ghost use Rattle.xc_count.specs.Number.{HasCovers};
@@ -20,6 +20,7 @@ use xc_input::Problem;
 /// Whether each primary item is to be held exactly once.
 pub fn is_once(problem: &Problem) -> bool
     ensures once { result ≡ true → HoldsOnce problem.now.puzzle }
+    ensures several { result ≡ false → HoldsOnce problem.now.puzzle → ⊥ }
     ensures valid { IsValid problem.now.puzzle }
 {
     for i in 0..problem.primary() {
@@ -40,7 +41,7 @@ fn sweep_beside(
 ) -> Result<Natural, Halted>
     ensures members { IfOk result (λ n. n ≡ length (members problem.now.puzzle)) }
     ensures valid { IsValid problem.now.puzzle }
-    ensures same { rival.new ≡ rival.old }
+    ensures same { rival.new.puzzle ≡ rival.old.puzzle }
 {
     let once = is_once(problem);
     let planning = planning_work(problem);

@@ -1,6 +1,6 @@
 //! The solution of a number.
 
-ghost use Rattle.std.specs.Prelude.{◌≡◌, [], IfOk, IfSome, option_map};
+ghost use Rattle.std.specs.Prelude.{◌≡◌, ◌≤◌, ◌*◌, [], IfOk, IfSome, option_map};
 ghost use Rattle.xc_input.specs.Problem.{IsValid, numbered_get};
 ghost use Rattle.xc_search.specs.Cover.{members};
 ghost use Rattle.xc_count.specs.inner.Held.{HoldsOnce};
@@ -71,7 +71,9 @@ const FEW_ITEMS: u32 = 200;
 
 /// How many steps of a search take some half of the time that going down by counts takes: with 1,000 to 2,000 items of
 /// two options each it was so. A count goes over all items, with keys that have a mark for each, at each level.
-fn short_search(items: u64) -> u64 {
+fn short_search(items: u64) -> u64
+    ensures { 100 * result ≤ items * items * items }
+{
     items.saturating_mul(items).saturating_mul(items) / 100
 }
 

@@ -1,5 +1,5 @@
 //! A sweep that keeps its layers.
-ghost use Rattle.std.specs.Prelude.{ℕ, ◌≡◌, ◌+◌, ◌*◌, All, length, sum_by, IfOk};
+ghost use Rattle.std.specs.Prelude.{ℕ, ◌≡◌, ◌≤◌, ◌+◌, ◌*◌, All, length, sum_by, IfOk};
 ghost use Rattle.xc_input.specs.Problem.{IsValid};
 ghost use Rattle.xc_search.specs.Listing.{Residual};
 ghost use Rattle.xc_count.specs.Occurrences.{occurrences_of};
@@ -34,6 +34,7 @@ fn next_layer(
         l.states.items ≡ sum_by (λ s. s.ways * worth_passed h problem.now.puzzle plan.now step s.key.items)
         layer.now.states.items) }
     ensures held { IfOk result (λ l. EachKey (holds_first plan.now (step.place + 1) step.next) l.states.items) }
+    ensures room { IfOk result (λ l. l.bytes ≤ room) }
 {
     let mut next = Layer::new(alloc, room);
     let mut scratch = Vec::new(alloc);
@@ -58,6 +59,7 @@ pub fn keep_layers(
     ensures kept { IfOk result (λ s. All (IsKept problem.now.puzzle plan.now) s.kept.items) }
     ensures held { IfOk result (λ s. EachKey (holds_first plan.now (length plan.now.order.items) s.from)
         s.last.states.items) }
+    ensures room { IfOk result (λ s. sum_by (λ k. k.layer.bytes) s.kept.items + s.last.bytes ≤ bound) }
 {
     let mut kept = Vec::new(alloc);
     let mut layer = first_layer(alloc, problem, plan, bound)?;

@@ -1,9 +1,10 @@
 //! The states that a sweep has come to, and how many ways there are to each.
 
-ghost use Rattle.std.specs.Prelude.{ℕ, Bool, ◌≡◌, ◌<◌, ◌≤◌, ◌+◌, ◌*◌, [], ◌∷◌, ◌++◌, List, All, length, Some, true};
-ghost use Rattle.std.specs.Prelude.{IfSome, IfNone, IfOk, OnOk};
+ghost use Rattle.std.specs.Prelude.{ℕ, Bool, ◌≡◌, ◌≢◌, ◌<◌, ◌≤◌, ◌+◌, ◌-◌, ◌*◌, ◌/◌, ◌%◌, ◌^◌, [], ◌∷◌, ◌++◌};
+ghost use Rattle.std.specs.Prelude.{List, All, length, Some, true, false, IfSome, IfNone, IfOk, OnOk, OnErr};
 ghost use Rattle.std.specs.Prelude.{slice_get};
 ghost use Rattle.xc_count.specs.declared.layer.State.{State};
+ghost use Rattle.xc_count.specs.inner.Layers.{AreFound, Finds, bytes_of, slot_after, told};
 ghost use Rattle.xc_count.specs.inner.Worth.{EachKey, worth_by};
 
 use crate::errors::CountError;
@@ -36,6 +37,9 @@ pub struct Layer {
     bound: usize,
     /// How much work it was to add the states so far, in about nanoseconds.
     work: u64,
+    ghost taken: { bytes ≡ bytes_of (told states.items) },
+    ghost within: { (bytes ≤ bound) × (bound < 2 ^ 64 - 1) },
+    ghost found: { AreFound (told states.items) slots.items },
 }
 
 /// How many bytes a state counts for, beside its marks: itself, its slots, what its two allocations need.
@@ -58,16 +62,29 @@ fn hash_of(key: &[u32]) -> u64 {
 }
 
 /// The upper half of a hash.
-fn tag_of(hash: u64) -> u32 {
+fn tag_of(hash: u64) -> u32
+    ensures { result ≡ hash / 2 ^ 32 }
+{
     (hash >> 32) as u32
 }
 
 /// The slot of a hash.
 fn slot_of(hash: u64, many: usize) -> usize
     requires { 0 < many }
-    ensures { result < many }
+    ensures is { result ≡ hash % many }
+    ensures within { result < many }
 {
     (hash % many as u64) as usize
+}
+
+/// The slot after one of so many.
+#[inline(always)]
+fn next_slot(slot: usize, many: usize) -> usize
+    requires { slot < many }
+    ensures is { result ≡ slot_after many slot }
+    ensures within { result < many }
+{
+    if slot + 1 == many { 0 } else { slot + 1 }
 }
 
 /// So many empty slots.
@@ -79,57 +96,94 @@ fn empty_slots(alloc: Global, many: usize) -> Result<Vec<Slot>, CountError> {
     Ok(slots)
 }
 
-/// Puts a place into the first empty slot from that of the hash on.
-fn fill_slot(slots: &mut Vec<Slot>, hash: u64, place: u32) {
+/// What the slots have for the next state after so many.
+fn place_after(many: usize) -> Result<u32, CountError>
+    ensures { IfOk result (λ place. place ≡ many + 1) }
+{
+    if many >= u32::MAX as usize {
+        return Err(CountError::OutOfBound);
+    }
+    Ok(many as u32 + 1)
+}
+
+/// Puts a place into the first empty slot from that of the hash on. Returns whether there is one.
+fn fill_slot(slots: &mut Vec<Slot>, hash: u64, place: u32) -> bool
+    requires { 0 < place }
+    ensures filled { result ≡ true → Finds slots.new.items hash place }
+    ensures kept { (h k : ℕ) → 0 < k → Finds slots.old.items h k → Finds slots.new.items h k }
+{
     let many = slots.len();
     if many == 0 {
-        return;
+        return false;
     }
     let mut slot = slot_of(hash, many);
-    for _ in 0..many {
+    for tried in 0..many {
         if slots[slot].place == 0 {
             slots[slot] = Slot {
                 place,
                 tag: tag_of(hash),
             };
-            return;
+            return true;
         }
-        slot += 1;
-        if slot == many {
-            slot = 0;
+        slot = next_slot(slot, many);
+    }
+    false
+}
+
+/// Slots for states, four for each.
+fn slots_for(alloc: Global, states: &[State]) -> Result<Vec<Slot>, CountError>
+    ensures { IfOk result (λ slots. AreFound (told states.now) slots.items) }
+{
+    let mut slots = empty_slots(alloc, states.len().saturating_mul(4).saturating_add(64))?;
+    for k in 0..states.len() {
+        if !fill_slot(&mut slots, states[k].hash, place_after(k)?) {
+            return Err(CountError::Lost);
         }
     }
+    Ok(slots)
 }
 
 /// Whether a state is the one of this key.
 fn is_state(state: &State, key: &[u32]) -> bool
-    ensures { result ≡ true → state.now.key.items ≡ key.now }
+    ensures same { result ≡ true → state.now.key.items ≡ key.now }
+    ensures other { result ≡ false → state.now.key.items ≢ key.now }
 {
     state.key.as_slice() == key
 }
 
-/// The place of the state of this key, if it is found.
+/// Whether the state that a slot has is there and is the one of this key.
+#[inline(always)]
+fn is_at(states: &[State], place: u32, key: &[u32]) -> bool
+    requires { 0 < place }
+    ensures some { result ≡ true
+        → (s : State) × (slice_get states.now (place - 1) ≡ Some s) × (s.key.items ≡ key.now) }
+    ensures none { result ≡ false → (s : State) → slice_get states.now (place - 1) ≡ Some s → s.key.items ≢ key.now }
+{
+    let k = place as usize - 1;
+    k < states.len() && is_state(&states[k], key)
+}
+
+/// The place of the state of this key and hash; none where there is no such state.
 fn find(states: &[State], slots: &[Slot], key: &[u32], hash: u64) -> Option<usize>
-    ensures { IfSome result (λ k. (s : State) × (slice_get states.now k ≡ Some s) × (s.key.items ≡ key.now)) }
+    requires { AreFound (told states.now) slots.now }
+    ensures some { IfSome result (λ k. (s : State) × (slice_get states.now k ≡ Some s) × (s.key.items ≡ key.now)) }
+    ensures none { IfNone result ((k : ℕ) (s : State) → slice_get states.now k ≡ Some s → s.hash ≡ hash
+        → s.key.items ≢ key.now) }
 {
     let many = slots.len();
     if many == 0 {
         return None;
     }
     let mut slot = slot_of(hash, many);
-    for _ in 0..many {
+    for tried in 0..many {
         let Slot { place, tag } = slots[slot];
-        let next = place as usize;
-        if next == 0 || next > states.len() {
+        if place == 0 {
             return None;
         }
-        if tag == tag_of(hash) && is_state(&states[next - 1], key) {
-            return Some(next - 1);
+        if tag == tag_of(hash) && is_at(states, place, key) {
+            return Some(place as usize - 1);
         }
-        slot += 1;
-        if slot == many {
-            slot = 0;
-        }
+        slot = next_slot(slot, many);
     }
     None
 }
@@ -140,6 +194,7 @@ fn more_ways(states: &mut Vec<State>, place: usize, ways: &Natural) -> Result<()
     ensures worth { OnOk result ((s : State) → slice_get states.old.items place ≡ Some s → (f : List ℕ → ℕ)
         → worth_by f states.new.items ≡ worth_by f states.old.items + ways.now * f s.key.items) }
     ensures keys { OnOk result ((q : List ℕ → Bool) → EachKey q states.old.items → EachKey q states.new.items) }
+    ensures same { told states.new.items ≡ told states.old.items }
 {
     states[place].ways.add_assign(ways)?;
     Ok(())
@@ -155,7 +210,8 @@ pub fn pop_state(states: &mut Vec<State>) -> Option<State>
 
 /// Adds a state at the end.
 fn push_state(states: &mut Vec<State>, state: State) -> Result<(), CountError>
-    ensures { OnOk result (states.new.items ≡ states.old.items ++ state ∷ []) }
+    ensures pushed { OnOk result (states.new.items ≡ states.old.items ++ state ∷ []) }
+    ensures full { OnErr result (states.new.items ≡ states.old.items) }
 {
     states.push(state)?;
     Ok(())
@@ -164,6 +220,7 @@ fn push_state(states: &mut Vec<State>, state: State) -> Result<(), CountError>
 /// A state of this key.
 fn new_state(alloc: Global, key: &[u32], hash: u64, ways: &Natural) -> Result<State, CountError>
     ensures key { IfOk result (λ s. s.key.items ≡ key.now) }
+    ensures hash { IfOk result (λ s. s.hash ≡ hash) }
     ensures ways { IfOk result (λ s. s.ways ≡ ways.now) }
 {
     Ok(State {
@@ -176,14 +233,15 @@ fn new_state(alloc: Global, key: &[u32], hash: u64, ways: &Natural) -> Result<St
 impl Layer {
     /// No states, and how many bytes they may take.
     pub fn new(alloc: Global, bound: usize) -> Layer
-        ensures { result.states.items ≡ [] }
+        ensures none { result.states.items ≡ [] }
+        ensures bound { result.bound ≤ bound }
     {
         Layer {
             alloc,
             states: Vec::new(alloc),
             slots: Vec::new(alloc),
             bytes: 0,
-            bound,
+            bound: bound.min(usize::MAX - 1),
             work: 0,
         }
     }
@@ -194,7 +252,9 @@ impl Layer {
     }
 
     /// How many bytes of a bound another layer may take beside this.
-    pub fn beside(&self, bound: usize) -> usize {
+    pub fn beside(&self, bound: usize) -> usize
+        ensures { result ≡ bound - self.now.bytes }
+    {
         bound.saturating_sub(self.bytes)
     }
 
@@ -210,9 +270,10 @@ impl Layer {
         table + 2 * key.len() as u64
     }
 
-    /// Makes room for a key.
-    fn charge(&mut self, key: &[u32]) -> Result<(), CountError>
-        ensures { self.new.states ≡ self.old.states }
+    /// How many bytes the states take with one of this key.
+    fn bytes_with(&self, key: &[u32]) -> Result<usize, CountError>
+        ensures more { IfOk result (λ bytes. bytes ≡ self.now.bytes + (4 * length key.now + 160)) }
+        ensures within { IfOk result (λ bytes. bytes ≤ self.now.bound) }
     {
         let bytes = key
             .len()
@@ -222,44 +283,42 @@ impl Layer {
         if bytes > self.bound {
             return Err(CountError::OutOfBound);
         }
-        self.bytes = bytes;
-        Ok(())
+        Ok(bytes)
     }
 
-    /// Makes new slots, four for each state.
+    /// Makes new slots if with one state more over half of them would be full.
+    #[inline(always)]
     fn grow(&mut self) -> Result<(), CountError>
-        ensures { self.new.states ≡ self.old.states }
+        ensures states { self.new.states ≡ self.old.states }
+        ensures bytes { self.new.bytes ≡ self.old.bytes }
+        ensures bound { self.new.bound ≡ self.old.bound }
     {
-        let mut slots = empty_slots(
-            self.alloc,
-            self.states.len().saturating_mul(4).saturating_add(64),
-        )?;
-        let mut place: u32 = 0;
-        for state in &self.states {
-            place = place.saturating_add(1);
-            fill_slot(&mut slots, state.hash, place);
+        if self.slots.len() / 2 <= self.states.len() {
+            self.slots = slots_for(self.alloc, self.states.as_slice())?;
         }
-        self.slots = slots;
         Ok(())
     }
 
-    /// Adds a state.
-    fn push(&mut self, state: State) -> Result<(), CountError>
-        ensures { OnOk result (self.new.states.items ≡ self.old.states.items ++ state ∷ []) }
+    /// Adds a state, with which they take so many bytes.
+    fn push(&mut self, state: State, bytes: usize) -> Result<(), CountError>
+        requires more { bytes ≡ self.old.bytes + (4 * length state.key.items + 160) }
+        requires within { bytes ≤ self.old.bound }
+        ensures states { OnOk result (self.new.states.items ≡ self.old.states.items ++ state ∷ []) }
+        ensures bound { self.new.bound ≡ self.old.bound }
     {
-        let hash = state.hash;
-        push_state(&mut self.states, state)?;
-        if self.slots.len() / 2 < self.states.len() {
-            return self.grow();
+        self.grow()?;
+        let place = place_after(self.states.len())?;
+        if !fill_slot(&mut self.slots, state.hash, place) {
+            return Err(CountError::Lost);
         }
-        let place = u32::try_from(self.states.len()).unwrap_or(0);
-        fill_slot(&mut self.slots, hash, place);
+        push_state(&mut self.states, state)?;
+        self.bytes = bytes;
         Ok(())
     }
 
     /// The place of the state of a key, if it is found.
     pub fn place_of(&self, key: &[u32]) -> Option<usize>
-        ensures { IfSome result (λ k. (s : State) × (slice_get self.now.states.items k ≡ Some s)
+        ensures some { IfSome result (λ k. (s : State) × (slice_get self.now.states.items k ≡ Some s)
             × (s.key.items ≡ key.now)) }
     {
         find(
@@ -276,6 +335,7 @@ impl Layer {
             ≡ worth_by f self.old.states.items + ways.now * f key.now) }
         ensures keys { OnOk result ((q : List ℕ → Bool) → EachKey q self.old.states.items → q key.now ≡ true
             → EachKey q self.new.states.items) }
+        ensures bound { self.new.bound ≡ self.old.bound }
     {
         let hash = hash_of(key);
         if let Some(place) = find(self.states.as_slice(), self.slots.as_slice(), key, hash) {
@@ -283,8 +343,8 @@ impl Layer {
             return more_ways(&mut self.states, place, ways);
         }
         self.work = self.work.saturating_add(self.work_of(key, true));
-        self.charge(key)?;
+        let bytes = self.bytes_with(key)?;
         let state = new_state(self.alloc, key, hash, ways)?;
-        self.push(state)
+        self.push(state, bytes)
     }
 }

@@ -1,6 +1,6 @@
 //! The count of what a key leaves.
 
-ghost use Rattle.std.specs.Prelude.{◌≡◌, ◌+◌, IfOk};
+ghost use Rattle.std.specs.Prelude.{◌≡◌, ◌≤◌, ◌+◌, ◌-◌, IfOk};
 ghost use Rattle.xc_input.specs.Problem.{IsValid};
 ghost use Rattle.xc_count.specs.inner.Held.{HoldsOnce};
 ghost use Rattle.xc_count.specs.inner.Plans.{IsPlan, IsStep};
@@ -48,6 +48,7 @@ fn pass_alone(
     ensures worth { IfOk result (λ l. worth problem.now.puzzle plan.now step.next l.states.items
         ≡ worth problem.now.puzzle plan.now step.from layer.states.items) }
     ensures held { IfOk result (λ l. EachKey (holds_first plan.now (step.place + 1) step.next) l.states.items) }
+    ensures room { IfOk result (λ l. l.bytes ≤ bound - layer.bytes) }
 {
     let mut next = Layer::new(alloc, layer.beside(bound));
     let mut scratch = Vec::new(alloc);

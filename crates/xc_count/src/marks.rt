@@ -96,6 +96,8 @@ fn least_count(mark: u32, left: u32, low: u32, high: u32) -> Option<u32>
     ensures some { IfSome result (λ m. (m ≡ mark)
         ⊎ ((low ≤ m) × (m + left ≤ high) × (low ≤ mark) × (mark + left ≤ high))) }
     ensures none { IfNone result (mark + left < low) }
+    ensures live { IfSome result (λ _. low ≤ mark + left) }
+    ensures low { low ≤ mark → mark + left ≤ high → result ≡ Some low }
 {
     if mark < low {
         return if left < low - mark { None } else { Some(mark) };

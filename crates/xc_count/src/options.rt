@@ -1,34 +1,17 @@
 //! The order of the options, and how many options from a place of it on hold each item.
 
-ghost use Rattle.std.specs.Prelude.{ℕ, ◌≡◌, ◌≢◌, ◌+◌, ◌<◌, ◌≤◌, length, is_some, All, AllPairs, Contains, IfOk, OnOk};
-ghost use Rattle.std.specs.Prelude.{slice_index, if◌then◌else◌};
+ghost use Rattle.std.specs.Prelude.{ℕ, ◌≡◌, ◌≢◌, ◌+◌, ◌-◌, ◌<◌, ◌≤◌, length, is_some, All, AllPairs, Contains};
+ghost use Rattle.std.specs.Prelude.{IfOk, OnOk, slice_index, if◌then◌else◌};
 ghost use Rattle.xc_input.specs.Problem.{IsItem, IsOption, colour_in, item_count, uses_of};
 ghost use Rattle.xc_count.specs.inner.ByOption.{AreOnce, AtMost, IsEachOnce};
 ghost use Rattle.xc_count.specs.inner.Plans.{IsPlan};
 
 use crate::errors::CountError;
 use crate::holders::options_of;
-use crate::order::filled;
+use crate::order::{filled, push_once};
 use crate::plan::Plan;
 use std::alloc::Global;
 use xc_input::{Problem, Use};
-
-/// Adds an option, unless it was added before.
-fn push_once(order: &mut Vec<u32>, seen: &mut Vec<u32>, option: u32) -> Result<(), CountError>
-    requires option { (1 ≤ option) × (option ≤ length seen.old.items) }
-    requires once { AreOnce order.old.items seen.old.items }
-    ensures once { OnOk result (AreOnce order.new.items seen.new.items) }
-    ensures len { length seen.new.items ≡ length seen.old.items }
-    ensures here { OnOk result (Contains order.new.items option) }
-    ensures kept { OnOk result ((o : ℕ) → Contains order.old.items o → Contains order.new.items o) }
-{
-    let place = option as usize - 1;
-    if seen[place] == 0 {
-        order.push(option)?;
-        seen[place] = 1;
-    }
-    Ok(())
-}
 
 /// Adds options, unless they were added before.
 fn push_each(order: &mut Vec<u32>, seen: &mut Vec<u32>, options: &[u32]) -> Result<(), CountError>
@@ -86,8 +69,8 @@ pub fn remove_uses(left: &mut Vec<u32>, uses: &[Use])
     requires uses { All (λ u. u.item < length left.old.items) uses.now }
     requires distinct { AllPairs (λ u v. u.item ≢ v.item) uses.now }
     ensures len { length left.new.items ≡ length left.old.items }
-    ensures less { (i : ℕ) → slice_index left.old.items i
-        ≤ (if is_some (colour_in uses.now i) then 1 else 0) + slice_index left.new.items i }
+    ensures less { (i : ℕ) → slice_index left.new.items i
+        ≡ slice_index left.old.items i - (if is_some (colour_in uses.now i) then 1 else 0) }
 {
     for u in uses {
         let item = u.item as usize;

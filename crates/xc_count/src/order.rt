@@ -2,7 +2,8 @@
 
 ghost use Rattle.std.specs.Prelude.{ℕ, ◌≡◌, ◌<◌, ◌≤◌, ◌-◌, [], length, All, Contains, IfOk, OnOk};
 ghost use Rattle.xc_input.specs.Problem.{IsPrimary, primary_count};
-ghost use Rattle.xc_count.specs.inner.Plans.{AreSeen, IsOrder};
+ghost use Rattle.xc_count.specs.inner.ByOption.{AreOnce};
+ghost use Rattle.xc_count.specs.inner.Plans.{IsOrder};
 
 use crate::errors::CountError;
 use std::alloc::Global;
@@ -20,20 +21,18 @@ pub fn filled(alloc: Global, many: usize, value: u32) -> Result<Vec<u32>, CountE
     Ok(values)
 }
 
-/// Adds an item, unless it was added before.
-fn push_once(order: &mut Vec<u32>, seen: &mut Vec<u32>, item: u32) -> Result<(), CountError>
-    requires item { (1 ≤ item) × (item ≤ length seen.old.items) }
-    requires seen { AreSeen order.old.items seen.old.items }
-    requires within { All (λ i. (1 ≤ i) × (i ≤ length seen.old.items)) order.old.items }
-    ensures seen { OnOk result (AreSeen order.new.items seen.new.items) }
+/// Adds an item or an option, unless it was added before.
+pub fn push_once(order: &mut Vec<u32>, seen: &mut Vec<u32>, number: u32) -> Result<(), CountError>
+    requires number { (1 ≤ number) × (number ≤ length seen.old.items) }
+    requires once { AreOnce order.old.items seen.old.items }
+    ensures once { OnOk result (AreOnce order.new.items seen.new.items) }
     ensures len { length seen.new.items ≡ length seen.old.items }
-    ensures here { OnOk result (Contains order.new.items item) }
-    ensures kept { OnOk result ((i : ℕ) → Contains order.old.items i → Contains order.new.items i) }
-    ensures within { OnOk result (All (λ i. (1 ≤ i) × (i ≤ length seen.new.items)) order.new.items) }
+    ensures here { OnOk result (Contains order.new.items number) }
+    ensures kept { OnOk result ((n : ℕ) → Contains order.old.items n → Contains order.new.items n) }
 {
-    let place = item as usize - 1;
+    let place = number as usize - 1;
     if seen[place] == 0 {
-        order.push(item)?;
+        order.push(number)?;
         seen[place] = 1;
     }
     Ok(())

@@ -1,7 +1,7 @@
 //! How a plan is made for a problem, and the steps of one.
 
 ghost use Rattle.std.specs.Prelude.{ℕ, ◌≡◌, ◌<◌, ◌≤◌, length, take, true, Some, All, Contains, IfOk, is_some};
-ghost use Rattle.xc_input.specs.Problem.{Puzzle, IsItem, IsOption, IsPrimary, colour_in};
+ghost use Rattle.xc_input.specs.Problem.{Puzzle, IsItem, IsOption, IsPrimary, colour_in, primary_count};
 ghost use Rattle.xc_count.specs.inner.Keys.{rank_of};
 ghost use Rattle.xc_count.specs.inner.Plans.{AreWindows, HoldsPast, IsOver, IsPlan, IsStep, options_with};
 
@@ -85,7 +85,8 @@ fn are_past(plan: &Plan, problem: &Problem, past: usize, options: &[u32]) -> boo
 /// Whether an item is secondary, or one of the first `past` of the order.
 fn is_settled(plan: &Plan, problem: &Problem, past: usize, item: u32) -> bool
     requires { 1 ≤ item }
-    ensures { result ≡ true → IsPrimary problem.now.puzzle item → Contains (take past plan.now.order.items) item }
+    ensures held { result ≡ true → IsPrimary problem.now.puzzle item → Contains (take past plan.now.order.items) item }
+    ensures secondary { primary_count problem.now.puzzle < item → result ≡ true }
 {
     item > problem.primary() || is_past(plan, past, item)
 }

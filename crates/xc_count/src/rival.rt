@@ -4,8 +4,9 @@
 //! in the progress reports of Knuth's programs. On sixteen problems of the benchmark that is, after a tenth of the
 //! work, from a sixth of it to four times as much. While the sweep did little of this, it keeps pace with the search,
 //! so that it takes twice as long as alone where it ends first; from there on it adds hardly a state between two turns.
-ghost use Rattle.std.specs.Prelude.{◌≡◌, length, IfOk};
+ghost use Rattle.std.specs.Prelude.{◌≡◌, ◌<◌, ◌≤◌, ◌-◌, length, true, false, IfOk};
 ghost use Rattle.xc_search.specs.Cover.{members};
+ghost use Rattle.xc_count.specs.inner.Searching.{HadTurn};
 
 use crate::members::all_members;
 use crate::metered::{Metered, SAMPLE};
@@ -65,20 +66,26 @@ pub struct Rival<'a> {
 }
 
 impl<'a> Model for Rival<'a> {
-    ghost use Rattle.std.specs.Prelude.{◌≡◌, ◌+◌, length, IfSome};
-    ghost use Rattle.xc_input.specs.Problem.{Puzzle};
+    ghost use Rattle.std.specs.Prelude.{◌≡◌, ◌<◌, ◌+◌, length, IfSome};
     ghost use Rattle.xc_search.specs.Cover.{members};
     ghost use Rattle.xc_search.specs.InSpan.{left_of};
     ghost use Rattle.xc_search.specs.Listing.{whole};
     ghost use Rattle.xc_search.specs.Nodes.{IsRowOf};
+    ghost use Rattle.xc_count.specs.inner.Searching.{Searching};
 
-    ghost Value = { Puzzle };
+    ghost Value = { Searching };
 
-    ghost view = { λ r. r.span.puzzle };
+    ghost view = { λ r. record {
+      puzzle = r.span.puzzle;
+      begun = r.span.begun;
+      passed = r.passed;
+      left = r.left;
+    } };
 
     ghost invariant = { λ r. record {
       passed : r.passed + length (left_of r.span) ≡ length (members r.span.puzzle);
       node : IfSome r.span.row (λ row. IsRowOf (whole r.span.puzzle) row);
+      branches : 0 < r.branches;
     } };
 }
 
@@ -102,7 +109,10 @@ fn turn_work(problem: &Problem) -> u64 {
 
 /// How many branches the next turn begins, after one of so many that was so much work, where a turn is to be about so
 /// much.
-fn next_branches(branches: u64, work: u64, turn_work: u64) -> u64 {
+fn next_branches(branches: u64, work: u64, turn_work: u64) -> u64
+    requires { 0 < branches }
+    ensures { 0 < result }
+{
     if work > turn_work {
         (branches / 2).max(1)
     } else if work < turn_work / 4 {
@@ -119,7 +129,7 @@ impl<'a> Rival<'a> {
         problem: &'a Problem,
         gone_over: &'a Cell<u64>,
     ) -> Result<Rival<'a>, Memory>
-        ensures { IfOk result (λ r. r ≡ problem.now.puzzle) }
+        ensures { IfOk result (λ r. r.puzzle ≡ problem.now.puzzle) }
     {
         Ok(Rival {
             span: all_members(alloc, problem, gone_over)?,
@@ -136,7 +146,8 @@ impl<'a> Rival<'a> {
 
     /// Has a turn, and returns how much work that was, and whether no cover is left.
     fn turn(&mut self) -> (u64, bool)
-        ensures { self.new ≡ self.old }
+        ensures puzzle { self.new.puzzle ≡ self.old.puzzle }
+        ensures had { result.1 ≡ false → HadTurn self.old self.new }
     {
         let before = self.gone_over.get();
         let went = self.span.go_on(u64::MAX - self.passed, self.branches);
@@ -187,7 +198,7 @@ impl<'a> Rival<'a> {
 
     /// Has turns of so much work in all. Returns whether no cover is left.
     pub fn ahead(&mut self, work: u64) -> bool
-        ensures { self.new ≡ self.old }
+        ensures puzzle { self.new.puzzle ≡ self.old.puzzle }
     {
         let mut left = work;
         while left > 0 {
@@ -202,7 +213,9 @@ impl<'a> Rival<'a> {
 
     /// Notes work of the sweep, and has a turn if one is due. Returns whether no cover is left.
     pub fn after(&mut self, work: u64) -> bool
-        ensures { self.new ≡ self.old }
+        ensures puzzle { self.new.puzzle ≡ self.old.puzzle }
+        ensures due { self.old.left ≤ work → result ≡ false → HadTurn self.old self.new }
+        ensures early { work < self.old.left → self.new ≡ record self.old { left = self.old.left - work } }
     {
         if work < self.left {
             self.left -= work;
@@ -216,7 +229,7 @@ impl<'a> Rival<'a> {
 
     /// Goes on alone to the end, and returns how many covers there are.
     pub fn finish(self, alloc: Global) -> Result<Natural, Memory>
-        ensures { IfOk result (λ n. n ≡ length (members self.entry)) }
+        ensures { IfOk result (λ n. n ≡ length (members self.entry.puzzle)) }
     {
         let Rival {
             mut span,

@@ -6,8 +6,8 @@
 //! sweep took a third to a sixtieth of the search's time, with no table that has to be kept, and one invariant over a
 //! list of states proves it. Queens, Langford's pairs and pentominoes leave hardly fewer states than solutions; there
 //! neither gains, and the sweep is the slower one.
-ghost use Rattle.std.specs.Prelude.{ℕ, ◌≡◌, ◌<◌, ◌+◌, ◌*◌, [], Contains, length, slice_index, sum_by, true, None};
-ghost use Rattle.std.specs.Prelude.{IfOk, OnOk};
+ghost use Rattle.std.specs.Prelude.{ℕ, ◌≡◌, ◌<◌, ◌≤◌, ◌+◌, ◌-◌, ◌*◌, [], Contains, length, slice_index, sum_by, true};
+ghost use Rattle.std.specs.Prelude.{None, IfOk, OnOk};
 ghost use Rattle.xc_input.specs.Problem.{IsOption, IsValid};
 ghost use Rattle.xc_search.specs.Cover.{members};
 ghost use Rattle.xc_search.specs.Listing.{Residual, whole};
@@ -50,6 +50,7 @@ fn add_held(
         + ways.now * h (left_by problem.now.puzzle (says plan.now step.from key.now))) }
     ensures held { OnOk result (EachKey (holds_first plan.now (step.place + 1) step.next) layer.old.states.items
         → EachKey (holds_first plan.now (step.place + 1) step.next) layer.new.states.items) }
+    ensures bound { layer.new.bound ≡ layer.old.bound }
 {
     layer.add(without_first(key, step.next - step.from), ways)
 }
@@ -77,6 +78,7 @@ fn take(
         + state.now.ways * worth_taken h problem.now.puzzle (says plan.now step.from state.now.key.items) option) }
     ensures held { OnOk result (EachKey (holds_first plan.now (step.place + 1) step.next) layer.old.states.items
         → EachKey (holds_first plan.now (step.place + 1) step.next) layer.new.states.items) }
+    ensures bound { layer.new.bound ≡ layer.old.bound }
 {
     let uses = problem.option(option);
     let ranks = plan.ranking.ranks.as_slice();
@@ -115,6 +117,7 @@ fn split(
         + state.now.ways * sum_by (worth_taken h problem.now.puzzle (says plan.now step.from state.now.key.items))
         options.now) }
     ensures others { OnOk result (EachKey (holds_first plan.now (step.place + 1) step.next) layer.new.states.items) }
+    ensures bound { layer.new.bound ≡ layer.old.bound }
 {
     for k in 0..options.len() {
         take(problem, plan, step, layer, scratch, state, options[k])?;
@@ -144,6 +147,7 @@ pub fn hold(
         layer.new.states.items ≡ worth_left h problem.now.puzzle plan.now step.next layer.old.states.items
         + state.now.ways * worth_passed h problem.now.puzzle plan.now step state.now.key.items) }
     ensures others { OnOk result (EachKey (holds_first plan.now (step.place + 1) step.next) layer.new.states.items) }
+    ensures bound { layer.new.bound ≡ layer.old.bound }
 {
     let item = plan.order[step.place];
     if mark_of(
@@ -193,7 +197,8 @@ fn pass(
     ensures worth { IfOk result (λ l. worth problem.now.puzzle plan.now step.next l.states.items
         ≡ worth problem.now.puzzle plan.now step.from layer.states.items) }
     ensures held { IfOk result (λ l. EachKey (holds_first plan.now (step.place + 1) step.next) l.states.items) }
-    ensures same { rival.new ≡ rival.old }
+    ensures room { IfOk result (λ l. l.bytes ≤ bound - layer.bytes) }
+    ensures same { rival.new.puzzle ≡ rival.old.puzzle }
 {
     let mut next = Layer::new(alloc, layer.beside(bound));
     let mut scratch = Vec::new(alloc);
@@ -222,6 +227,7 @@ pub fn first_layer(
     ensures left { IfOk result (λ l. (h : Residual → ℕ) → worth_left h problem.now.puzzle plan.now 0 l.states.items
         ≡ h (whole problem.now.puzzle)) }
     ensures held { IfOk result (λ l. EachKey (holds_first plan.now 0 0) l.states.items) }
+    ensures room { IfOk result (λ l. l.bytes ≤ bound) }
 {
     let mut layer = Layer::new(alloc, bound);
     layer.add(&[], &Natural::from_u64(alloc, 1))?;
@@ -263,7 +269,7 @@ pub fn sweep(
     requires plan { IsPlan problem.now.puzzle plan.now }
     requires valid { IsValid problem.now.puzzle }
     ensures count { IfOk result (λ n. n ≡ length (members problem.now.puzzle)) }
-    ensures same { rival.new ≡ rival.old }
+    ensures same { rival.new.puzzle ≡ rival.old.puzzle }
 {
     let mut layer = first_layer(alloc, problem, plan, bound)?;
     let mut from = 0;

@@ -1,6 +1,6 @@
 -- What a sweep goes by.
-use Rattle.std.specs.Prelude.{ℕ, ◌≡◌, ◌≢◌, ◌<◌, ◌≤◌, ◌+◌, ◌-◌, List, [], ◌∷◌, Some, true, All, Contains, length, map}
-use Rattle.std.specs.Prelude.{take, is_some, slice_index, if◌then◌else◌}
+use Rattle.std.specs.Prelude.{ℕ, ◌≡◌, ◌≢◌, ◌<◌, ◌≤◌, ◌+◌, ◌-◌, List, [], ◌∷◌, Some, true, All, AllPairs, Contains}
+use Rattle.std.specs.Prelude.{length, map, take, is_some, slice_index, if◌then◌else◌}
 use Rattle.xc_input.specs.Problem.{Puzzle, IsPrimary, IsItem, item_count, numbered_get, numbered_options, holding}
 use Rattle.xc_input.specs.Problem.{uses_of, colour_in}
 use Rattle.xc_input.specs.declared.problem.Use.{Use}
@@ -25,13 +25,10 @@ abbrev pub IsRanking : ℕ → List ℕ → List ℕ → Type 0
 IsRanking n ranks items =
     (length ranks ≡ n) × ((i : ℕ) → 1 ≤ i → i ≤ n → slice_index items (rank_of ranks i) ≡ i)
 
--- of the items those whose mark isn't 0 are in the order
-abbrev pub AreSeen : List ℕ → List ℕ → Type 0
-AreSeen order seen = (i : ℕ) → 1 ≤ i → i ≤ length seen → slice_index seen (i - 1) ≢ 0 → Contains order i
-
--- an order has each primary item, and no other
+-- an order has each primary item once, and no other
 pub record IsOrder (p : Puzzle) (order : List ℕ) : Type 0 where
   pub primary : All (IsPrimary p) order
+  pub once : AllPairs (λ a b. a ≢ b) order
   pub each : (i : ℕ) → IsPrimary p i → Contains order i
 
 -- option o holds one of these items

@@ -12,7 +12,7 @@ returns-in-Some c =
     let step = c.args.step in
     let ahead = c.args.ahead.now in
     let key = c.args.key.now in
-    let found = c.in-Some.ensures in
+    let found = c.in-Some.ensures.some in
     let f = λ (s : State). key_below p plan ahead.from s.key.items in
     let at = at_map f ahead.layer.states.items c.in-Some.place found.0 found.1 in
     c.index.ensures

@@ -27,9 +27,10 @@ loop-state-preserved c =
             arith,
             push,
             times,
-            c.in_ok-leave.ensures os a,
-            c.in_ok-take.ensures os a,
+            c.in_ok-leave.ensures.worth os a,
+            c.in_ok-take.ensures.worth os a,
             c.loop-state.invariant.worth os a,
           );
-      same = c.after.ensures ∙ c.loop-state.invariant.same;
+      room = omega (arith, c.leave.ensures.bound, c.take.ensures.bound, c.loop-state.invariant.room);
+      same = c.after.ensures.puzzle ∙ c.loop-state.invariant.same;
     }

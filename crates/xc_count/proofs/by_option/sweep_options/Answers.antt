@@ -1,4 +1,4 @@
-use Rattle.std.proofs.Common.{suc, arith, refl, ◌≡◌, ◌≤◌, ◌+◌, ◌∙◌, ◌∷◌, [], sym, ap, subst, get_or, drop, drop-cons}
+use Rattle.std.proofs.Common.{suc, arith, refl, ◌≡◌, ◌+◌, ◌-◌, ◌∙◌, ◌∷◌, [], sym, ap, subst, get_or, drop, drop-cons}
 use Rattle.std.specs.Prelude.{unwrap_or}
 use Rattle.std.proofs.lemmas.List.{get_or_default}
 use Rattle.xc_input.specs.Problem.{IsSoundOption, uses_of}
@@ -42,7 +42,7 @@ loop-k-preserved c =
     let fewer : AtMost p rest c.remove_uses.new.left.items =
     at_most_less p o rest c.loop-k.left.items c.remove_uses.new.left.items
     (subst (λ z. AtMost p z c.loop-k.left.items) here c.loop-k.invariant.left)
-    (λ i. subst (λ us. get_or c.loop-k.left.items i 0 ≤ held_by us i + get_or c.remove_uses.new.left.items i 0)
+    (λ i. subst (λ us. get_or c.remove_uses.new.left.items i 0 ≡ get_or c.loop-k.left.items i 0 - held_by us i)
     (sym uses) (c.remove_uses.ensures.less i)) in
     record {
       worth = c.in_ok-layer-2.ensures.worth rest (subst (AtMost p rest) (sym c.as_slice-in-loop-k.ensures.value) fewer)

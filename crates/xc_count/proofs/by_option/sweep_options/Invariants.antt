@@ -11,5 +11,5 @@ invariant-loop-k l = record {
       ≡ length (members l.problem.puzzle);
   left : AtMost l.problem.puzzle (drop l.k l.order.items) l.left.items;
   len : length l.left.items ≡ item_count l.problem.puzzle + 1;
-  same : l.rival ≡ l.initial.rival;
+  same : l.rival.puzzle ≡ l.initial.rival.puzzle;
 }

@@ -14,7 +14,7 @@ returns-in-Ok-clause-covers c =
 pub returns-in-Err-clause-covers : goal.returns-in-Err-clause-covers
 returns-in-Err-clause-covers c =
     let p = c.args.problem.now.puzzle in
-    let q = c.sweep_beside.new.rival in
+    let q = c.sweep_beside.new.rival.puzzle in
     let same : q ≡ p = c.sweep_beside.ensures.same ∙ c.in_ok-rival.ensures in
     let many : length (members q) ≡ length (members p) = ap (λ (r : Puzzle). length (members r)) same in
     IfOk-weaker c.finish.result (λ n. n ≡ length (members q)) (HasCovers p)

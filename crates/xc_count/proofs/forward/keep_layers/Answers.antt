@@ -26,6 +26,9 @@ loop-place-init c =
           let none : length c.new-kept.result.items ≡ 0 = ap length empty in
           absurd (omega (arith, none, h));
       held = c.in_ok-layer.ensures.held;
+      room = let none : sum_by (λ (k : Kept). k.layer.bytes) c.new-kept.result.items ≡ 0 =
+          ap (sum_by (λ (k : Kept). k.layer.bytes)) empty in omega (arith, none);
+      within = c.in_ok-layer.ensures.room;
     }
 
 pub loop-place-preserved : goal.loop-place-preserved
@@ -60,6 +63,13 @@ loop-place-preserved c =
           (All-push (IsKept p plan) c.loop-place.kept.items one c.loop-place.invariant.kept is);
       held = subst (λ k. EachKey (holds_first plan (k + 1) step.next) c.in_ok-more.more.states.items) is_step.place
           c.in_ok-more.ensures.held;
+      room =
+          let push : sum_by (λ (k : Kept). k.layer.bytes) c.push.new.self.items
+          ≡ sum_by (λ (k : Kept). k.layer.bytes) c.loop-place.kept.items + layer.bytes =
+          ap (sum_by (λ (k : Kept). k.layer.bytes)) pushed
+          ∙ sum_by_push (λ (k : Kept). k.layer.bytes) c.loop-place.kept.items one in
+          omega (arith, push, c.beside-room.ensures, c.loop-place.invariant.room, c.loop-place.invariant.within);
+      within = c.in_ok-more.ensures.room;
     }
 
 pub returns-clause-taken : goal.returns-clause-taken

@@ -1,4 +1,4 @@
-use Rattle.std.proofs.Common.{ℕ, ◌≡◌, ◌+◌}
+use Rattle.std.proofs.Common.{ℕ, ◌≡◌, ◌≤◌, ◌+◌}
 use Rattle.std.specs.Prelude.{All, sum_by}
 use Rattle.xc_count.specs.Occurrences.{occurrences_of}
 use Rattle.xc_count.specs.inner.Passed.{IsKept, taken_by, worth_left}
@@ -13,4 +13,6 @@ invariant-loop-place l = record {
       ≡ occurrences_of l.problem.puzzle x;
   kept : All (IsKept l.problem.puzzle l.plan) l.kept.items;
   held : EachKey (holds_first l.plan l.place l.from) l.layer.states.items;
+  room : l.room + sum_by (λ k. k.layer.bytes) l.kept.items ≡ l.bound;
+  within : l.layer.bytes ≤ l.room;
 }

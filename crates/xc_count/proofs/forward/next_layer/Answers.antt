@@ -8,9 +8,10 @@ use Rattle.xc_count.proofs.forward.next_layer.Goals as goal
 
 pub loop-state-init : goal.loop-state-init
 loop-state-init c = record {
-  worth = λ h. ap (worth_left h c.args.problem.now.puzzle c.args.plan.now c.args.step.next) c.new-next.ensures;
-  held = λ k d h. let none : length c.new-next.result.states.items ≡ 0 = ap length c.new-next.ensures in
+  worth = λ h. ap (worth_left h c.args.problem.now.puzzle c.args.plan.now c.args.step.next) c.new-next.ensures.none;
+  held = λ k d h. let none : length c.new-next.result.states.items ≡ 0 = ap length c.new-next.ensures.none in
       absurd (omega (arith, none, h));
+  room = c.new-next.ensures.bound;
 }
 
 pub loop-state-preserved : goal.loop-state-preserved
@@ -35,6 +36,7 @@ loop-state-preserved c = record {
       omega (arith, more, here, old, new) in
       all;
   held = c.in_ok-hold.ensures.others;
+  room = omega (arith, c.hold.ensures.bound, c.loop-state.invariant.room);
 }
 
 pub returns-clause-worth : goal.returns-clause-worth

@@ -18,4 +18,5 @@ loop-state-preserved c =
       worth = omega (arith, push, c.in_ok-hold.ensures.worth, c.loop-state.invariant.worth);
       left = keys_before test c.pop_state.new.states.items s (subst (EachKey test) popped c.loop-state.invariant.left);
       held = c.in_ok-hold.ensures.others;
+      room = omega (arith, c.hold.ensures.bound, c.loop-state.invariant.room);
     }

@@ -7,9 +7,8 @@ pub loop-i-preserved : goal.loop-i-preserved
 loop-i-preserved c =
     let done = c.in_ok-push_once-2.ensures in
     record {
-      seen = done.seen;
+      once = done.once;
       len = done.len ∙ c.loop-i.invariant.len;
-      within = done.within;
       here = λ j h l. by_bool (nat_lt c.loop-i.i j)
           (λ e. let past = ltb-true _ _ e in
           let is : c.loop-i.i + 1 ≡ j = omega (arith, past, l) in

@@ -12,7 +12,7 @@ are_past-requires c =
 
 pub returns : goal.returns
 returns c = λ e. record {
-  held = c.is_settled.ensures (grind arith);
+  held = c.is_settled.ensures.held (grind arith);
   options = subst (λ os. All (HoldsPast c.args.problem.now.puzzle (take c.args.past c.args.plan.now.order.items)) os)
       c.options_of.ensures (c.are_past.ensures e);
 }

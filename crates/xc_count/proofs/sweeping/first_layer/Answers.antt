@@ -12,7 +12,7 @@ pub returns-clause-worth : goal.returns-clause-worth
 returns-clause-worth c =
     let p = c.args.problem.now.puzzle in
     let plan = c.args.plan.now in
-    let none : worth p plan 0 c.new-layer.result.states.items ≡ 0 = ap (worth p plan 0) c.new-layer.ensures in
+    let none : worth p plan 0 c.new-layer.result.states.items ≡ 0 = ap (worth p plan 0) c.new-layer.ensures.none in
     let all : key_below p plan 0 [] ≡ length (members p) =
     whole_left p (says plan 0 []) (nothing_held plan.ranking.ranks.items) in
     let more = c.in_ok-add.ensures.worth (key_below p plan 0) in
@@ -24,7 +24,7 @@ returns-clause-left c = λ h.
     let p = c.args.problem.now.puzzle in
     let plan = c.args.plan.now in
     let none : worth_left h p plan 0 c.new-layer.result.states.items ≡ 0 =
-    ap (worth_left h p plan 0) c.new-layer.ensures in
+    ap (worth_left h p plan 0) c.new-layer.ensures.none in
     let all : h (left_by p (says plan 0 [])) ≡ h (whole p) =
     ap h (all_left p (says plan 0 []) (nothing_held plan.ranking.ranks.items)) in
     let more = c.in_ok-add.ensures.worth (λ key. h (left_by p (says plan 0 key))) in

@@ -18,5 +18,6 @@ loop-state-preserved c =
       worth = omega (arith, push, c.in_ok-hold.ensures.worth, c.loop-state.invariant.worth);
       left = keys_before test c.pop_state.new.states.items s (subst (EachKey test) popped c.loop-state.invariant.left);
       held = c.in_ok-hold.ensures.others;
-      same = c.after.ensures ∙ c.loop-state.invariant.same;
+      room = omega (arith, c.hold.ensures.bound, c.loop-state.invariant.room);
+      same = c.after.ensures.puzzle ∙ c.loop-state.invariant.same;
     }

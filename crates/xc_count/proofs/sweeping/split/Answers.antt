@@ -25,6 +25,7 @@ loop-k-init c =
           (order_at p plan c.requires.plan step.place c.requires.step.within) c.requires.free));
       left = λ h. refl;
       others = c.requires.others;
+      bound = refl;
     }
 
 pub take-requires-clause-known : goal.take-requires-clause-known
@@ -47,6 +48,7 @@ loop-k-preserved c =
       left = λ h. sum_more (worth_taken h p s) c.loop-k.k c.args.state.now.ways _ _ _ c.args.options.now (omega arith)
           (c.loop-k.invariant.left h) (c.in_ok-take.ensures.left h);
       others = c.in_ok-take.ensures.held c.loop-k.invariant.others;
+      bound = c.take.ensures.bound ∙ c.loop-k.invariant.bound;
     }
 
 pub returns-clause-left : goal.returns-clause-left

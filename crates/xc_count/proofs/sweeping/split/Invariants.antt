@@ -18,4 +18,5 @@ invariant-loop-k l = record {
       ≡ worth_left h l.problem.puzzle l.plan l.step.next l.initial.layer.states.items
       + l.state.ways * sum_by (worth_taken h l.problem.puzzle (says l.plan l.step.from l.state.key.items)) l.options;
   others : EachKey (holds_first l.plan (l.step.place + 1) l.step.next) l.layer.states.items;
+  bound : l.layer.bound ≡ l.initial.layer.bound;
 }

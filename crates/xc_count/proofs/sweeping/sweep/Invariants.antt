@@ -7,5 +7,5 @@ abbrev pub invariant-loop-place : goal.invariant-loop-place
 invariant-loop-place l = record {
   worth : worth l.problem.puzzle l.plan l.from l.layer.states.items ≡ length (members l.problem.puzzle);
   held : EachKey (holds_first l.plan l.place l.from) l.layer.states.items;
-  same : l.rival ≡ l.initial.rival;
+  same : l.rival.puzzle ≡ l.initial.rival.puzzle;
 }

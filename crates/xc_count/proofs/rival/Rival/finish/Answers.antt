@@ -9,14 +9,14 @@ use Rattle.xc_count.proofs.rival.Rival.finish.Goals as goal
 
 pub loop-count-smaller : goal.loop-count-smaller
 loop-count-smaller c =
-    let same : c.go_on-went.new.self.puzzle ≡ c.args.self =
+    let same : c.go_on-went.new.self.puzzle ≡ c.args.self.puzzle =
     ap (λ (t : InSpan). t.puzzle) c.go_on-went.ensures.still ∙ c.loop-count.invariant.same in
-    fewer_rows _ _ c.go_on-went.result c.args.self c.loop-count.span c.go_on-went.new.self c.go_on-went.ensures
+    fewer_rows _ _ c.go_on-went.result c.args.self.puzzle c.loop-count.span c.go_on-went.new.self c.go_on-went.ensures
     (omega arith) (omega arith) c.in-Member.is same c.loop-count.invariant.node
 
 pub loop-count-preserved : goal.loop-count-preserved
 loop-count-preserved c =
-    let same : c.go_on-went.new.self.puzzle ≡ c.args.self =
+    let same : c.go_on-went.new.self.puzzle ≡ c.args.self.puzzle =
     ap (λ (t : InSpan). t.puzzle) c.go_on-went.ensures.still ∙ c.loop-count.invariant.same in
     record {
       same = same;

@@ -9,10 +9,10 @@ use Rattle.xc_count.proofs.rival.Rival.finish.Given as goal
 
 abbrev pub invariant-loop-count : goal.invariant-loop-count
 invariant-loop-count l = record {
-  same : l.span.puzzle ≡ l.fn.self;
-  passed : l.count + length (left_of l.span) ≡ length (members l.fn.self);
-  node : IfSome l.span.row (λ row. IsRowOf (whole l.fn.self) row);
+  same : l.span.puzzle ≡ l.fn.self.puzzle;
+  passed : l.count + length (left_of l.span) ≡ length (members l.fn.self.puzzle);
+  node : IfSome l.span.row (λ row. IsRowOf (whole l.fn.self.puzzle) row);
 }
 
 abbrev pub decreases-loop-count : goal.decreases-loop-count
-decreases-loop-count l = rows_after l.fn.self l.span.row
+decreases-loop-count l = rows_after l.fn.self.puzzle l.span.row

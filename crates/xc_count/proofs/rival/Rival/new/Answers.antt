@@ -17,4 +17,5 @@ invariant_of-result c =
           ap length begun.left ∙ ap (λ q. length (members q)) (sym begun.puzzle) in
           omega (arith, all);
       node = subst (λ (q : Puzzle). IfSome s.row (λ row. IsRowOf (whole q) row)) (sym begun.puzzle) begun.node;
+      branches = omega arith;
     }

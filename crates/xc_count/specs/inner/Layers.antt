@@ -1,0 +1,40 @@
+-- What the states of a layer take, and how its slots find them.
+use Rattle.std.specs.Prelude.{ℕ, zero, suc, ◌≡◌, ◌+◌, ◌*◌, ◌^◌, ◌/◌, ◌%◌, ◌==◌, ◌&&◌, ◌||◌, Bool, true, false, not}
+use Rattle.std.specs.Prelude.{List, Option, Some, None, length, map, sum_by, slice_get, if◌then◌else◌}
+use Rattle.xc_count.specs.declared.layer.Slot.{Slot}
+use Rattle.xc_count.specs.declared.layer.State.{State}
+
+-- the key and the hash of each state
+abbrev pub told : List State → List (List ℕ × ℕ)
+told ss = map (λ s. (s.key.items, s.hash)) ss
+
+-- the bytes that states of these keys count for: 160 each, and four for each mark
+abbrev pub bytes_of : List (List ℕ × ℕ) → ℕ
+bytes_of ts = sum_by (λ t. 4 * length t.0 + 160) ts
+
+-- the slot after this one of so many; after the last is the first
+abbrev pub slot_after : ℕ → ℕ → ℕ
+slot_after many at = if at + 1 == many then 0 else at + 1
+
+-- a slot has a place under a tag
+abbrev pub has : Option Slot → ℕ → ℕ → Bool
+has None tag place = false
+has (Some s) tag place = s.place == place && s.tag == tag
+
+abbrev pub is_full : Option Slot → Bool
+is_full None = false
+is_full (Some s) = not (s.place == 0)
+
+-- of so many slots, from this one on, one has a place under a tag, and those before it are full
+abbrev pub leads : List Slot → ℕ → ℕ → ℕ → ℕ → Bool
+leads slots zero at tag place = false
+leads slots (suc n) at tag place = has (slice_get slots at) tag place
+    || (is_full (slice_get slots at) && leads slots n (slot_after (length slots) at) tag place)
+
+-- from the slot of a hash on
+abbrev pub Finds : List Slot → ℕ → ℕ → Type 0
+Finds slots hash place = leads slots (length slots) (hash % length slots) (hash / 2 ^ 32) place ≡ true
+
+-- each state is found under its hash, by one more than its place
+abbrev pub AreFound : List (List ℕ × ℕ) → List Slot → Type 0
+AreFound ts slots = (k : ℕ) (t : List ℕ × ℕ) → slice_get ts k ≡ Some t → Finds slots t.1 (k + 1)
