@@ -12,22 +12,17 @@ use Rattle.xc_count_run.specs.LastLine.{Concludes, count_text}
 use Rattle.xc_count_run.specs.Solutions.{DidFind}
 use Rattle.xc_count_run.specs.Words.{Wish, how_many, solution, of_each_option, asked_count}
 
--- A message, with this status, was reported as far as that went.
-abbrev pub Reports : SinkState → SinkState → ℕ → ℕ × List ℕ → Type 0
-Reports old new status reason = (status ≡ reason.0) × WasTold old new reason.1
-
 -- What counting the covers of a problem did, by the status: the number was printed, as far as that went; or, with 4,
--- there was no memory.
-abbrev pub DidCount : Named → ℕ → SinkState → SinkState → Type 0
+-- there was no memory. The output wasn't touched.
+abbrev pub DidCount : {O E : Type 0} → Named → ℕ → Sinks O E → Sinks O E → Type 0
 DidCount a status old new =
-    Concludes (count_text (length (members a.puzzle))) status old new
-    ⊎ Reports old new status (4, codes "Out of memory.\n")
+    (Concludes (count_text (length (members a.puzzle))) status old.err.state new.err.state × (new.out ≡ old.out))
+    ⊎ IsRefused status old new (4, codes "Out of memory.\n")
 
 -- What a run did with a problem: its covers were counted and the output wasn't touched; the solution of a number was
 -- printed; or of each option in how many solutions it is.
 abbrev pub DidAnswer : {O E : Type 0} → Wish → ℕ → Sinks O E → Sinks O E → Named → Type 0
-DidAnswer how_many status old new a =
-    DidCount a status old.err.state new.err.state × (new.out ≡ old.out)
+DidAnswer how_many status old new a = DidCount a status old new
 DidAnswer (solution digits) status old new a = DidFind a (digits_value 10 digits) status old new
 DidAnswer of_each_option status old new a = DidTellEach a status old new
 
@@ -45,5 +40,5 @@ abbrev pub DidCountWords : {S O E : Type 0} → List (List ℕ) → ℕ → Seen
     → Sinks O E → Sinks O E → Type 0
 DidCountWords words status from to old new = MatchOption (asked_count words)
     ((to ≡ from) × IsRefused status old new (1, codes "Usage: dlx-count 1|2|3 [bMEGABYTES] [nNUMBER|o]\n"))
-    (λ asked. ReadsProblem asked.0 from.state to.state (DidWarnAndAnswer asked.2 status old new)
+    (λ asked. ReadsProblem asked.0 from.state to.state (DidWarnAndAnswer asked.1 status old new)
     (IsRefused status old new))

@@ -1,9 +1,8 @@
 -- What the words of a count ask for.
 use Rattle.std.specs.Prelude.{ℕ, ◌==◌, List, [], ◌∷◌, Option, Some, None, codes}
-use Rattle.std.specs.Prelude.{Bool, not, ◌&&◌, option_map, option_and_then, if◌then◌else◌}
+use Rattle.std.specs.Prelude.{Bool, false, not, ◌&&◌, is_some, option_map, option_and_then, if◌then◌else◌}
 use Rattle.std.specs.Char.{is_ascii_digit}
 use Rattle.std.specs.List.{list_all}
-use Rattle.std.specs.Option.{option_or}
 use Rattle.std.specs.Str.{byte, bytes_eq}
 use Rattle.xc_input.specs.declared.kind.Kind.{Kind}
 use Rattle.xc_check.specs.LongNumbers.{long_number}
@@ -16,10 +15,10 @@ pub data Wish : Type 0 where
   solution : List ℕ → Wish
   of_each_option : Wish
 
--- the megabytes that a word means: the letter b and a number
-abbrev pub bound_word : List ℕ → Option ℕ
-bound_word [] = None
-bound_word (b ∷ bs) = if b == byte "b" then long_number bs else None
+-- whether a word names a bound of memory: the letter b and a number
+abbrev pub is_bound : List ℕ → Bool
+is_bound [] = false
+is_bound (b ∷ bs) = b == byte "b" && is_some (long_number bs)
 
 -- digits, not all of them 0
 abbrev pub is_positive : List ℕ → Bool
@@ -34,17 +33,15 @@ number_word (b ∷ ds) = if b == byte "n" && is_positive ds then Some ds else No
 abbrev pub question_word : List ℕ → Option Wish
 question_word word = if bytes_eq word (codes "o") then Some of_each_option else option_map solution (number_word word)
 
--- the bound of memory in megabytes, 512 if no word names it, and what is asked
-abbrev pub asked_more : List (List ℕ) → Option (ℕ × Wish)
-asked_more [] = Some (512, how_many)
-asked_more (word ∷ []) = option_or (option_map (λ m. (m, how_many)) (bound_word word))
-    (option_map (λ w. (512, w)) (question_word word))
-asked_more (bound ∷ question ∷ []) =
-    option_and_then (λ m. option_map (λ w. (m, w)) (question_word question)) (bound_word bound)
+-- what words after the kind ask; one that names a bound of memory may be before the question, or alone
+abbrev pub asked_more : List (List ℕ) → Option Wish
+asked_more [] = Some how_many
+asked_more (word ∷ []) = if is_bound word then Some how_many else question_word word
+asked_more (word ∷ question ∷ []) = if is_bound word then question_word question else None
 asked_more _ = None
 
--- the kind of problem, and what the words after it ask for
-abbrev pub asked_count : List (List ℕ) → Option (Kind × ℕ × Wish)
+-- the kind of problem, and what is asked of it
+abbrev pub asked_count : List (List ℕ) → Option (Kind × Wish)
 asked_count [] = None
 asked_count (kind ∷ words) =
-    option_and_then (λ k. option_map (λ a. (k, a.0, a.1)) (asked_more words)) (numbered_kind kind)
+    option_and_then (λ k. option_map (λ wish. (k, wish)) (asked_more words)) (numbered_kind kind)

@@ -1,4 +1,12 @@
--- No public clause cites this module. What a question means.
+-- No public clause cites this module. What a question means, how much memory words allow, and what is reported of a
+-- count.
+use Rattle.std.specs.Prelude.{ℕ, ◌≡◌, ◌⊎◌, ◌==◌, List, [], ◌∷◌, Option, None, codes, length, unwrap_or, if◌then◌else◌}
+use Rattle.std.specs.Str.{byte}
+use Rattle.xc_check.specs.LongNumbers.{long_number}
+use Rattle.xc_input.specs.Named.{Named}
+use Rattle.xc_search.specs.Cover.{members}
+use Rattle.xc_streams.specs.Texts.{SinkState, WasTold}
+use Rattle.xc_count_run.specs.LastLine.{Concludes, count_text}
 use Rattle.xc_count_run.specs.declared.asked.Question.{Question}
 use Rattle.xc_count_run.specs.declared.asked.Question.TheVariants.{HowMany, Solution, OfEachOption}
 use Rattle.xc_count_run.specs.Words.{Wish, how_many, solution, of_each_option}
@@ -8,3 +16,18 @@ abbrev pub meaning : Question → Wish
 meaning HowMany = how_many
 meaning (Solution digits) = solution digits.now
 meaning OfEachOption = of_each_option
+
+-- the megabytes that a word means: the letter b and a number
+abbrev pub bound_word : List ℕ → Option ℕ
+bound_word [] = None
+bound_word (b ∷ bs) = if b == byte "b" then long_number bs else None
+
+-- those that words after the kind allow: the first may say so, and else 512
+abbrev pub megabytes : List (List ℕ) → ℕ
+megabytes [] = 512
+megabytes (word ∷ _) = unwrap_or (bound_word word) 512
+
+-- what counting the covers of a problem reports: the number, as far as that goes; or, with 4, that there is no memory
+abbrev pub TellsCount : Named → ℕ → SinkState → SinkState → Type 0
+TellsCount a status old new = Concludes (count_text (length (members a.puzzle))) status old new
+    ⊎ ((status ≡ 4) × WasTold old new (codes "Out of memory.\n"))

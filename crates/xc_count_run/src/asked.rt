@@ -1,11 +1,11 @@
 //! What the words ask for.
-ghost use Rattle.std.specs.Prelude.{◌≡◌, ◌==◌, map, option_map};
+ghost use Rattle.std.specs.Prelude.{◌≡◌, ◌==◌, drop, is_some, map, option_map, IfSome};
 ghost use Rattle.std.specs.Char.{is_ascii_digit};
 ghost use Rattle.std.specs.List.{list_all};
 ghost use Rattle.std.specs.Str.{byte};
 ghost use Rattle.xc_tools.specs.Judges.{numbered_kind};
-ghost use Rattle.xc_count_run.specs.Words.{asked_count, asked_more, bound_word, is_positive, question_word};
-ghost use Rattle.xc_count_run.specs.inner.{meaning};
+ghost use Rattle.xc_count_run.specs.Words.{asked_count, asked_more, is_bound, is_positive, question_word};
+ghost use Rattle.xc_count_run.specs.inner.{bound_word, meaning, megabytes};
 
 use xc_check::long_number;
 use xc_input::Kind;
@@ -36,7 +36,8 @@ fn is_positive(text: &[u8]) -> bool
 
 /// The megabytes that a word means.
 fn bound_word(word: &[u8]) -> Option<u64>
-    ensures { result ≡ bound_word word.now }
+    ensures value { result ≡ bound_word word.now }
+    ensures some { is_some result ≡ is_bound word.now }
 {
     match word {
         [b'b', number @ ..] => long_number(number),
@@ -80,7 +81,8 @@ fn question_word(word: &[u8]) -> Option<Question<'_>>
 
 /// The most megabytes and the question that words after the kind mean, if they are right.
 fn asked_more(words: &[Vec<u8>]) -> Option<(u64, Question<'_>)>
-    ensures { option_map (λ a. (a.0, meaning a.1)) result ≡ asked_more (map (λ w. w.items) words.now) }
+    ensures wish { option_map (λ a. meaning a.1) result ≡ asked_more (map (λ w. w.items) words.now) }
+    ensures bound { IfSome result (λ a. a.0 ≡ megabytes (map (λ w. w.items) words.now)) }
 {
     match words {
         [] => Some((MEGABYTES, Question::HowMany)),
@@ -109,8 +111,8 @@ pub struct Asked<'a> {
 
 /// What words ask for, if they are right.
 pub fn asked_count(words: &[Vec<u8>]) -> Option<Asked<'_>>
-    ensures { option_map (λ a. (a.kind, a.megabytes, meaning a.question)) result
-        ≡ asked_count (map (λ w. w.items) words.now) }
+    ensures asked { option_map (λ a. (a.kind, meaning a.question)) result ≡ asked_count (map (λ w. w.items) words.now) }
+    ensures bound { IfSome result (λ a. a.megabytes ≡ megabytes (drop 1 (map (λ w. w.items) words.now))) }
 {
     let [kind, more @ ..] = words else {
         return None;

@@ -1,12 +1,12 @@
 //! A whole run.
-ghost use Rattle.std.specs.Prelude.{◌≡◌, map, length, codes};
+ghost use Rattle.std.specs.Prelude.{◌≡◌, ◌*◌, ◌^◌, ◌-◌, map, min, length, codes};
 ghost use Rattle.xc_input.specs.Named.{Named};
 ghost use Rattle.xc_search.specs.Cover.{members};
 ghost use Rattle.xc_streams.specs.Texts.{seen, WasTold};
 ghost use Rattle.xc_tools.specs.WholeRuns.{no_problem, sinks};
-ghost use Rattle.xc_count_run.specs.Counts.{DidAnswer, DidCount, DidCountWords, DidWarnAndAnswer, Reports};
+ghost use Rattle.xc_count_run.specs.Counts.{DidAnswer, DidCountWords, DidWarnAndAnswer};
 ghost use Rattle.xc_count_run.specs.LastLine.{Concludes};
-ghost use Rattle.xc_count_run.specs.inner.{meaning};
+ghost use Rattle.xc_count_run.specs.inner.{TellsCount, meaning};
 
 use crate::asked::{Asked, Question, asked_count};
 use crate::messages::count_line;
@@ -32,7 +32,7 @@ const NO_MEMORY: u8 = 4;
 
 /// Reports why there is no count, as far as that goes, and returns its status.
 pub fn refuse<E: Sink>(status: u8, text: &[u8], err: &mut E) -> u8
-    ensures { Reports (E.state err.old) (E.state err.new) result (status, text.now) }
+    ensures { (result ≡ status) × WasTold (E.state err.old) (E.state err.new) text.now }
 {
     let _ = write_all(err, text);
     status
@@ -40,7 +40,8 @@ pub fn refuse<E: Sink>(status: u8, text: &[u8], err: &mut E) -> u8
 
 /// Reports why no problem was read, as far as that goes, and returns its status.
 fn no_problem<E: Sink>(error: &InputError, err: &mut E) -> u8
-    ensures { Reports (E.state err.old) (E.state err.new) result (no_problem error.now) }
+    ensures { (result ≡ (no_problem error.now).0)
+        × WasTold (E.state err.old) (E.state err.new) (no_problem error.now).1 }
 {
     let _ = input_error(error, err);
     match *error {
@@ -63,7 +64,7 @@ pub fn write_last<E: Sink>(line: &[u8], err: &mut E) -> u8
 /// Writes the number of a problem's covers.
 fn tell_count<E: Sink>(alloc: Global, problem: &Problem, covers: &Natural, err: &mut E) -> u8
     requires { covers.now ≡ length (members problem.now.puzzle) }
-    ensures did { DidCount problem.now result (E.state err.old) (E.state err.new) }
+    ensures { TellsCount problem.now result (E.state err.old) (E.state err.new) }
 {
     let Ok(line) = count_line(alloc, covers) else {
         return out_of_memory(err);
@@ -72,13 +73,15 @@ fn tell_count<E: Sink>(alloc: Global, problem: &Problem, covers: &Natural, err: 
 }
 
 /// The bytes of so many megabytes, as far as there are so many.
-fn bytes(megabytes: u64) -> usize {
+fn bytes(megabytes: u64) -> usize
+    ensures { result ≡ min (2 ^ 64 - 1) (megabytes * 1000000) }
+{
     megabytes.saturating_mul(1_000_000) as usize
 }
 
 /// Counts the covers of a problem.
 fn count_problem<E: Sink>(alloc: Global, problem: &Problem, bound: usize, err: &mut E) -> u8
-    ensures did { DidCount problem.now result (E.state err.old) (E.state err.new) }
+    ensures { TellsCount problem.now result (E.state err.old) (E.state err.new) }
 {
     match count(alloc, problem, bound) {
         Ok(covers) => tell_count(alloc, problem, &covers, err),

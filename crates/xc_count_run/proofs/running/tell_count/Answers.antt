@@ -7,7 +7,5 @@ pub returns : goal.returns
 returns g c =
     let line : c.as_slice.result.now ≡ count_text (length (members c.args.problem.now.puzzle)) =
     c.as_slice.ensures.value ∙ c.in-Ok.ensures ∙ ap count_text c.requires in
-    record {
-      did = inl (subst (λ l. Concludes l c.write_last.result (g.E.Sink.state c.args.err.now)
-          (g.E.Sink.state c.write_last.new.err)) line c.write_last.ensures);
-    }
+    inl (subst (λ l. Concludes l c.write_last.result (g.E.Sink.state c.args.err.now)
+    (g.E.Sink.state c.write_last.new.err)) line c.write_last.ensures)
