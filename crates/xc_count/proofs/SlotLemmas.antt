@@ -11,7 +11,7 @@ use Rattle.std.proofs.lemmas.Option.{slice_get-map, slice_get_within}
 use Rattle.xc_input.proofs.ListLemmas.{by_option, get_left, get_seam, not_some}
 use Rattle.xc_count.specs.declared.layer.Slot.{Slot}
 use Rattle.xc_count.specs.declared.layer.State.{State}
-use Rattle.xc_count.specs.inner.Layers.{AreFound, Finds, bytes_of, has, is_full, leads, slot_after, told}
+use Rattle.xc_count.specs.inner.Layers.{AreFound, Finds, charged, has_place, is_full, leads, slot_after, told}
 
 set_here : {X : Type 0} (xs : List X) (k : ℕ) (v : X) → k < length xs → slice_get (set xs k v) k ≡ Some v
 set_here [] k v h = absurd (omega (arith, h))
@@ -26,13 +26,13 @@ set_there (x ∷ xs) (suc k) zero v h = refl
 set_there (x ∷ xs) (suc k) (suc i) v h = set_there xs k i v (λ e. h (ap suc e))
 
 -- what a slot is that has a place, and one that is full
-has_from : (o : Option Slot) (tag place : ℕ) → has o tag place ≡ true → o ≡ Some (record { place = place; tag = tag })
+has_from : (o : Option Slot) (tag place : ℕ) → has_place o tag place ≡ true → o ≡ Some (record { place = place; tag = tag })
 has_from None tag place e = cc
 has_from (Some s) tag place e =
     let both = and_parts (eqb s.place place) (eqb s.tag tag) e in
     ap₂ (λ p t. Some (record { place = p; tag = t })) (eqb-true _ _ both.0) (eqb-true _ _ both.1)
 
-has_itself : (tag place : ℕ) → has (Some (record { place = place; tag = tag })) tag place ≡ true
+has_itself : (tag place : ℕ) → has_place (Some (record { place = place; tag = tag })) tag place ≡ true
 has_itself tag place =
     let a = eq-eqb place place refl in
     let b = eq-eqb tag tag refl in
@@ -64,12 +64,12 @@ leads_to : (slots : List Slot) (n at tag place : ℕ) → LeadsTo slots n at tag
     → leads slots n at tag place ≡ true
 leads_to slots zero at tag place l = absurd l
 leads_to slots (suc n) at tag place l = elim l [
-  | inl e ↦ or_left _ _ (subst (λ o. has o tag place ≡ true) (sym e) (has_itself tag place))
+  | inl e ↦ or_left _ _ (subst (λ o. has_place o tag place ≡ true) (sym e) (has_itself tag place))
   | inr m ↦ let next = leads_to slots n (slot_after (length slots) at) tag place m.1 in
       let full = m.0 in
       let both : (is_full (slice_get slots at) && leads slots n (slot_after (length slots) at) tag place) ≡ true =
       rw (full, next) refl in
-      or_right (has (slice_get slots at) tag place)
+      or_right (has_place (slice_get slots at) tag place)
       (is_full (slice_get slots at) && leads slots n (slot_after (length slots) at) tag place) both
 ]
 
@@ -191,8 +191,8 @@ told_push : (ss : List State) (s : State) → told (ss ++ s ∷ []) ≡ told ss 
 told_push ss s = map-append (λ t. (t.key.items, t.hash)) ss (s ∷ [])
 
 pub bytes_push : (ss : List State) (s : State)
-    → bytes_of (told (ss ++ s ∷ [])) ≡ bytes_of (told ss) + (4 * length s.key.items + 160)
-bytes_push ss s = ap bytes_of (told_push ss s)
+    → charged (told (ss ++ s ∷ [])) ≡ charged (told ss) + (4 * length s.key.items + 160)
+bytes_push ss s = ap charged (told_push ss s)
     ∙ sum_by_push (λ t. 4 * length t.0 + 160) (told ss) (s.key.items, s.hash)
 
 pub found_push : (ss : List State) (s : State) (old new : List Slot) (place : ℕ) → AreFound (told ss) old

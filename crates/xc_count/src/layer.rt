@@ -4,7 +4,7 @@ ghost use Rattle.std.specs.Prelude.{ℕ, Bool, ◌≡◌, ◌≢◌, ◌<◌, �
 ghost use Rattle.std.specs.Prelude.{List, All, length, Some, true, false, IfSome, IfNone, IfOk, OnOk, OnErr};
 ghost use Rattle.std.specs.Prelude.{slice_get};
 ghost use Rattle.xc_count.specs.declared.layer.State.{State};
-ghost use Rattle.xc_count.specs.inner.Layers.{AreFound, Finds, bytes_of, slot_after, told};
+ghost use Rattle.xc_count.specs.inner.Layers.{AreFound, Finds, charged, slot_after, told};
 ghost use Rattle.xc_count.specs.inner.Worth.{EachKey, worth_by};
 
 use crate::errors::CountError;
@@ -37,7 +37,7 @@ pub struct Layer {
     bound: usize,
     /// How much work it was to add the states so far, in about nanoseconds.
     work: u64,
-    ghost taken: { bytes ≡ bytes_of (told states.items) },
+    ghost taken: { bytes ≡ charged (told states.items) },
     ghost within: { (bytes ≤ bound) × (bound < 2 ^ 64 - 1) },
     ghost found: { AreFound (told states.items) slots.items },
 }

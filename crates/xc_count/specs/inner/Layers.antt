@@ -9,17 +9,17 @@ abbrev pub told : List State → List (List ℕ × ℕ)
 told ss = map (λ s. (s.key.items, s.hash)) ss
 
 -- the bytes that states of these keys count for: 160 each, and four for each mark
-abbrev pub bytes_of : List (List ℕ × ℕ) → ℕ
-bytes_of ts = sum_by (λ t. 4 * length t.0 + 160) ts
+abbrev pub charged : List (List ℕ × ℕ) → ℕ
+charged ts = sum_by (λ t. 4 * length t.0 + 160) ts
 
 -- the slot after this one of so many; after the last is the first
 abbrev pub slot_after : ℕ → ℕ → ℕ
 slot_after many at = if at + 1 == many then 0 else at + 1
 
 -- a slot has a place under a tag
-abbrev pub has : Option Slot → ℕ → ℕ → Bool
-has None tag place = false
-has (Some s) tag place = s.place == place && s.tag == tag
+abbrev pub has_place : Option Slot → ℕ → ℕ → Bool
+has_place None tag place = false
+has_place (Some s) tag place = s.place == place && s.tag == tag
 
 abbrev pub is_full : Option Slot → Bool
 is_full None = false
@@ -28,7 +28,7 @@ is_full (Some s) = not (s.place == 0)
 -- of so many slots, from this one on, one has a place under a tag, and those before it are full
 abbrev pub leads : List Slot → ℕ → ℕ → ℕ → ℕ → Bool
 leads slots zero at tag place = false
-leads slots (suc n) at tag place = has (slice_get slots at) tag place
+leads slots (suc n) at tag place = has_place (slice_get slots at) tag place
     || (is_full (slice_get slots at) && leads slots n (slot_after (length slots) at) tag place)
 
 -- from the slot of a hash on

@@ -1,5 +1,5 @@
 use Rattle.std.proofs.Common.{arith, ◌≡◌, ◌∷◌, ◌++◌, [], sym, ap, subst}
-use Rattle.xc_count.specs.inner.Layers.{AreFound, bytes_of, told}
+use Rattle.xc_count.specs.inner.Layers.{AreFound, charged, told}
 use Rattle.xc_count.proofs.SlotLemmas.{bytes_push, found_push}
 use Rattle.xc_count.proofs.layer.Layer.push.Goals as goal
 
@@ -9,8 +9,8 @@ invariant_of-self-2 c =
     let ss = old.states.items in
     let slots = c.fill_slot.new.slots.items in
     let pushed : c.push_state.new.states.items ≡ ss ++ c.args.state ∷ [] = c.in_ok-push_state.ensures.pushed in
-    let bytes : bytes_of (told c.push_state.new.states.items) ≡ bytes_of (told (ss ++ c.args.state ∷ [])) =
-    ap (λ ts. bytes_of (told ts)) pushed in
+    let bytes : charged (told c.push_state.new.states.items) ≡ charged (told (ss ++ c.args.state ∷ [])) =
+    ap (λ ts. charged (told ts)) pushed in
     record {
       taken = omega (arith, bytes, bytes_push ss c.args.state, old.taken, c.requires.more, c.grow.ensures.bytes);
       within = omega (arith, c.requires.within, old.within, c.grow.ensures.bound);
