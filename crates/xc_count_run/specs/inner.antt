@@ -28,6 +28,6 @@ megabytes [] = 512
 megabytes (word ∷ _) = unwrap_or (bound_word word) 512
 
 -- what counting the covers of a problem reports: the number, as far as that goes; or, with 4, that there is no memory
-abbrev pub TellsCount : Named → ℕ → SinkState → SinkState → Type 0
-TellsCount a status old new = Concludes (count_text (length (members a.puzzle))) status old new
+abbrev pub ReportsCount : Named → ℕ → SinkState → SinkState → Type 0
+ReportsCount a status old new = Concludes (count_text (length (members a.puzzle))) status old new
     ⊎ ((status ≡ 4) × WasTold old new (codes "Out of memory.\n"))

@@ -6,7 +6,7 @@ ghost use Rattle.xc_streams.specs.Texts.{seen, WasTold};
 ghost use Rattle.xc_tools.specs.WholeRuns.{no_problem, sinks};
 ghost use Rattle.xc_count_run.specs.Counts.{DidAnswer, DidCountWords, DidWarnAndAnswer};
 ghost use Rattle.xc_count_run.specs.LastLine.{Concludes};
-ghost use Rattle.xc_count_run.specs.inner.{TellsCount, meaning};
+ghost use Rattle.xc_count_run.specs.inner.{ReportsCount, meaning};
 
 use crate::asked::{Asked, Question, asked_count};
 use crate::messages::count_line;
@@ -64,7 +64,7 @@ pub fn write_last<E: Sink>(line: &[u8], err: &mut E) -> u8
 /// Writes the number of a problem's covers.
 fn tell_count<E: Sink>(alloc: Global, problem: &Problem, covers: &Natural, err: &mut E) -> u8
     requires { covers.now ≡ length (members problem.now.puzzle) }
-    ensures { TellsCount problem.now result (E.state err.old) (E.state err.new) }
+    ensures { ReportsCount problem.now result (E.state err.old) (E.state err.new) }
 {
     let Ok(line) = count_line(alloc, covers) else {
         return out_of_memory(err);
@@ -81,7 +81,7 @@ fn bytes(megabytes: u64) -> usize
 
 /// Counts the covers of a problem.
 fn count_problem<E: Sink>(alloc: Global, problem: &Problem, bound: usize, err: &mut E) -> u8
-    ensures { TellsCount problem.now result (E.state err.old) (E.state err.new) }
+    ensures { ReportsCount problem.now result (E.state err.old) (E.state err.new) }
 {
     match count(alloc, problem, bound) {
         Ok(covers) => tell_count(alloc, problem, &covers, err),

@@ -1,5 +1,5 @@
 -- What the lines of the texts of spans come to, one text after another, and how they end.
-use Rattle.std.proofs.Common.{◌≡◌, ℕ, ◌+◌, ◌^◌, ◌<◌, ◌⊎◌, inl, inr, Bool, true, false, List, [], ◌∷◌, ◌++◌, None, Some}
+use Rattle.std.proofs.Common.{◌≡◌, ℕ, ◌+◌, inl, inr, Bool, true, false, List, [], ◌∷◌, ◌++◌, None}
 use Rattle.std.proofs.Common.{length, flat_map, refl, sym, ap, ◌∙◌, arith, append_assoc, append-nil, subst, nat_lt}
 use Rattle.std.proofs.Common.{length-append, map, suc, ◌≤◌, min, take, zero}
 use Rattle.std.specs.List.{AllByRecursion, enumerate_from}
@@ -8,7 +8,7 @@ use Rattle.std.proofs.lemmas.Bool.Decides.{nat_tests}
 use Rattle.std.proofs.lemmas.List.Elements.{recursion_from_All}
 use Rattle.std.proofs.lemmas.Slice.Eq.{bytes_eq-Decides}
 use Rattle.std.proofs.lemmas.List.Sums.{sum_by-cons}
-use Rattle.std.specs.Prelude.{if◌then◌else◌, ◌==◌, ◌&&◌, not, codes, sum_by}
+use Rattle.std.specs.Prelude.{if◌then◌else◌, ◌==◌, not, codes, sum_by}
 use Rattle.xc_input.specs.Words.{has}
 use Rattle.xc_input.specs.Lines.{lines_of}
 use Rattle.xc_input.specs.inner.Feeding.{ended, AreWhole}

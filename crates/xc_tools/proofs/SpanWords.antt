@@ -2,7 +2,7 @@
 use Rattle.std.proofs.Common.{◌≡◌, ℕ, ◌+◌, ◌<◌, inl, inr, Bool, true, false, List, [], ◌∷◌, ◌++◌, Option, None, Some}
 use Rattle.std.proofs.Common.{length, refl, sym, ap, ◌∙◌, arith, append_assoc, append-nil, length-append, nat_lt, take}
 use Rattle.std.proofs.Common.{◌^◌, flat_map, map}
-use Rattle.std.specs.Prelude.{◌==◌, ◌&&◌, not, slice_get, codes, decimal, nat_eq, nat_le, fold, ◌*◌, ◌-◌, min}
+use Rattle.std.specs.Prelude.{◌==◌, ◌&&◌, slice_get, codes, decimal, nat_eq, nat_le, fold, ◌*◌, ◌-◌, min}
 use Rattle.std.specs.Prelude.{drop, if◌then◌else◌}
 use Rattle.std.proofs.lemmas.Bool.Decides.{nat_tests}
 use Rattle.std.proofs.lemmas.Option.{slice_get_past}

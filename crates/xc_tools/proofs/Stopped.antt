@@ -1,6 +1,6 @@
 -- What is known of spans where a run stopped, and of lines read one after another.
 use Rattle.std.proofs.Common.{◌≡◌, ℕ, Bool, false, List, [], ◌∷◌, ◌++◌, Result, Err, Ok, OnOk, refl, sym, ap, ◌∙◌}
-use Rattle.std.proofs.Common.{arith, append_assoc, append-nil, subst, ◌⊎◌, inl, inr, ◌+◌, true, flat_map}
+use Rattle.std.proofs.Common.{arith, append_assoc, append-nil, subst, ◌⊎◌, inl, inr, ◌+◌, flat_map}
 use Rattle.std.specs.Prelude.{◌==◌, IsTrue, codes, if◌then◌else◌}
 use Rattle.std.specs.Io.KnownBytes.{Keeps}
 use Rattle.xc_input.specs.Words.{has}

@@ -5,7 +5,6 @@ use Rattle.std.specs.Prelude.{◌==◌, ◌&&◌, codes, decimal, fold, if◌the
 use Rattle.std.specs.List.{join_with_byte, list_all}
 use Rattle.std.specs.Str.{byte, bytes_eq}
 use Rattle.std.proofs.lemmas.List.Splits.{join_with_byte-slice_split}
-use Rattle.std.proofs.lemmas.Slice.Eq.{bytes_eq-Decides}
 use Rattle.std.proofs.lemmas.Bool.Decides.{nat_tests}
 use Rattle.xc_input.proofs.ListLemmas.{by_bool}
 use Rattle.xc_check.specs.ListingLines.{words_in, branch_number}

@@ -1,8 +1,8 @@
 -- What is known of texts that runs over spans of one problem wrote, one after another.
 use Rattle.std.proofs.Common.{◌≡◌, ℕ, Bool, true, false, List, [], ◌∷◌, ◌++◌, refl, sym, ap, ◌∙◌, arith, append_assoc}
-use Rattle.std.proofs.Common.{append-nil, subst, ◌+◌, flat_map, map, length, length-append, ◌≤◌, nat_lt, suc, zero}
+use Rattle.std.proofs.Common.{append-nil, subst, ◌+◌, flat_map, map, length, length-append, ◌≤◌, suc, zero}
 use Rattle.std.proofs.Common.{filter, take, Some, None}
-use Rattle.std.specs.Prelude.{◌==◌, All, if◌then◌else◌, sum_by}
+use Rattle.std.specs.Prelude.{if◌then◌else◌, sum_by}
 use Rattle.std.specs.List.{AllByRecursion, enumerate_from}
 use Rattle.std.proofs.lemmas.Bool.Decides.{nat_tests}
 use Rattle.std.proofs.lemmas.List.{map-append}
@@ -25,7 +25,7 @@ use Rattle.xc_list.specs.SpanWords.{is_span}
 use Rattle.xc_tools.specs.Joins.{AreOfOneProblem, DoMeet, end_of_texts, joined, spans_in}
 use Rattle.xc_tools.specs.SpanRuns.{AreTexts, AreWritten, IsWritten}
 use Rattle.xc_tools.specs.SpanShapes.{AreShapes, SpanText, HasShape, bytes_of}
-use Rattle.xc_tools.proofs.SpanLines.{found_in, member-solution, shape-short, shape_of, shown, solution_of, span-short}
+use Rattle.xc_tools.proofs.SpanLines.{member-solution, shape-short, shape_of, shown, solution_of, span-short}
 use Rattle.xc_tools.proofs.SpanLines.{text-shape, told_from}
 use Rattle.xc_tools.proofs.Chains.{from-listed, read-once}
 

@@ -1,5 +1,5 @@
-use Rattle.std.proofs.Common.{◌≡◌, ◌∙◌, Some, None, ap, inl, inr, subst, sym, refl}
-use Rattle.std.specs.Prelude.{All, option_map}
+use Rattle.std.proofs.Common.{◌≡◌, Some, None, inl, inr, subst, sym, refl}
+use Rattle.std.specs.Prelude.{All}
 use Rattle.xc_input.specs.Problem.{numbered_get}
 use Rattle.xc_search.specs.Cover.{members}
 use Rattle.xc_list.specs.Known.{IsKnownChoice}
