@@ -100,22 +100,22 @@ fn own_sink(alloc: Global) -> Result<OwnSink, Memory> {
 }
 
 /// What a solver writes that prints each solution of a source to a sink, and its status.
-fn solved(alloc: Global, words: &[Vec<u8>]) -> Result<(u8, OwnSink), Memory> {
+fn solved(alloc: Global) -> Option<(u8, OwnSink)> {
+    let words = gathered(alloc, &[b"m1"]).ok()?;
     let mut input = OwnSource {
         feed: Feed::new(SEVEN, 3, None),
     };
-    let mut out = own_sink(alloc)?;
-    let mut err = own_sink(alloc)?;
-    let status = solve(alloc, Kind::Plain, words, &mut input, &mut out, &mut err);
-    Ok((status, out))
+    let mut out = own_sink(alloc).ok()?;
+    let mut err = own_sink(alloc).ok()?;
+    let status = solve(alloc, Kind::Plain, &words, &mut input, &mut out, &mut err);
+    Some((status, out))
 }
 
 #[test]
 fn own_streams_serve_a_solver(rt: HostRuntime) {
-    let words = gathered(rt.alloc(), &[b"m1"]).unwrap();
-    let is_listed = match solved(rt.alloc(), &words) {
-        Ok((status, out)) => status == 0 && out.tray.bytes() == SEVEN_LISTING,
-        Err(_) => false,
+    let is_listed = match solved(rt.alloc()) {
+        Some((status, out)) => status == 0 && out.tray.bytes() == SEVEN_LISTING,
+        None => false,
     };
     assert!(rt; is_listed);
 }

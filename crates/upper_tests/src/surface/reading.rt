@@ -1,5 +1,5 @@
 //! The calls and types of `xc_input`, each by its signature.
-ghost use Rattle.std.specs.Prelude.{◌≡◌, ◌≤◌, ◌<◌, ◌×◌, false, length};
+ghost use Rattle.std.specs.Prelude.{◌≡◌, ◌≤◌, ◌<◌, false, length};
 ghost use Rattle.xc_input.specs.Problem.{IsItem, IsOption};
 ghost use Rattle.xc_input.specs.Words.{has};
 
