@@ -1,7 +1,7 @@
 -- Slots, and how a place is found in them.
 use Rattle.std.proofs.Common.{ℕ, zero, suc, ◌≡◌, ◌≢◌, ◌<◌, ◌+◌, ◌*◌, ◌-◌, ◌/◌, ◌%◌, ◌^◌, ◌⊎◌, ◌&&◌, true, false, eqb}
-use Rattle.std.proofs.Common.{List, [], ◌∷◌, ◌++◌, Option, Some, None, length, refl, sym, ap, ap₂, ◌∙◌, arith, subst, inl, inr}
-use Rattle.std.proofs.Common.{eqb-true, eq-eqb, ne_eqb, length-set}
+use Rattle.std.proofs.Common.{List, [], ◌∷◌, ◌++◌, Option, Some, None, length, refl, sym, ap, ap₂, ◌∙◌, arith, subst}
+use Rattle.std.proofs.Common.{inl, inr, eqb-true, eq-eqb, ne_eqb, length-set}
 use Rattle.std.proofs.Math.ListN.{set}
 use Rattle.std.specs.Prelude.{option_map, slice_get}
 use Rattle.std.proofs.lemmas.Bool.{and_parts, or_cases, or_left, or_right}
@@ -26,7 +26,8 @@ set_there (x ∷ xs) (suc k) zero v h = refl
 set_there (x ∷ xs) (suc k) (suc i) v h = set_there xs k i v (λ e. h (ap suc e))
 
 -- what a slot is that has a place, and one that is full
-has_from : (o : Option Slot) (tag place : ℕ) → has_place o tag place ≡ true → o ≡ Some (record { place = place; tag = tag })
+has_from : (o : Option Slot) (tag place : ℕ) → has_place o tag place ≡ true
+    → o ≡ Some (record { place = place; tag = tag })
 has_from None tag place e = cc
 has_from (Some s) tag place e =
     let both = and_parts (eqb s.place place) (eqb s.tag tag) e in

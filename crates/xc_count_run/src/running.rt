@@ -109,13 +109,17 @@ fn answer<O: Sink, E: Sink>(
 }
 
 /// Reports the ignored options, and answers what was asked of the problem.
+// No status and no byte tells by which seed names were hashed, so the seed is passed for the contract alone: a caller
+// that read by another one has no proof.
 fn answer_read<O: Sink, E: Sink>(
     alloc: Global,
+    _seed: Seed,
     read: &Read,
     asked: &Asked,
     out: &mut O,
     err: &mut E,
 ) -> u8
+    requires hashed { read.now.problem.seed ≡ _seed }
     ensures did { DidWarnAndAnswer (meaning asked.now.question) result
         (sinks O.state E.state out.old err.old) (sinks O.state E.state out.new err.new)
         read.now.problem read.now.ignored.items }
@@ -171,7 +175,7 @@ pub fn count_covers_by<S: Source, O: Sink, E: Sink>(
         );
     };
     match read_problem_by(alloc, seed, asked.kind, input) {
-        Ok(read) => answer_read(alloc, &read, &asked, out, err),
+        Ok(read) => answer_read(alloc, seed, &read, &asked, out, err),
         Err(error) => no_problem(&error, err),
     }
 }

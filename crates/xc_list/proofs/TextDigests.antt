@@ -1,6 +1,6 @@
 -- The digest of a text, byte by byte and by eight bytes at once.
-use Rattle.std.proofs.Common.{ℕ, ◌≡◌, ◌+◌, ◌*◌, ◌/◌, ◌^◌, ◌%◌, ◌<◌, ◌≤◌, ◌-◌, List, [], ◌∷◌, ◌++◌, Option, Some, None, sym, ap, ◌∙◌}
-use Rattle.std.proofs.Common.{arith, length, take, drop, get_or, take_all}
+use Rattle.std.proofs.Common.{ℕ, ◌≡◌, ◌+◌, ◌*◌, ◌/◌, ◌^◌, ◌%◌, ◌<◌, ◌≤◌, ◌-◌, List, [], ◌∷◌, ◌++◌, Option, Some, None}
+use Rattle.std.proofs.Common.{sym, ap, ◌∙◌, arith, length, take, drop, get_or, take_all}
 use Rattle.std.specs.Prelude.{true, false, flat_map}
 use Rattle.std.proofs.lemmas.Bool.Decides.{nat_tests}
 use Rattle.std.specs.Int.{w64, from_le_bytes}
@@ -21,7 +21,8 @@ text_more d xs ys = fold-append after_byte d xs ys
 -- ---- one byte
 
 pub byte_held : (d : TextDigest) (b n : ℕ) → n ≡ b → d.held < 7 → b < 2 ^ 8
-    → record { state = d.state; word = d.word / 256 + n * 72057594037927936 % 2 ^ 64; held = d.held + 1 } ≡ after_byte d b
+    → record { state = d.state; word = d.word / 256 + n * 72057594037927936 % 2 ^ 64; held = d.held + 1 }
+        ≡ after_byte d b
 unfolding after_byte
 byte_held d b n same h small =
     let word : n * 72057594037927936 % 2 ^ 64 ≡ b * 2 ^ 56 = omega (arith, small, same) in

@@ -93,13 +93,16 @@ fn tell_verdicts<O: Sink, E: Sink>(verdicts: &[Verdict], out: &mut O, err: &mut 
 }
 
 /// Judges a listing.
+// The seed is passed for the contract alone, as for `solve_read`.
 fn judge_listing<L: Source, O: Sink, E: Sink>(
     alloc: Global,
+    _seed: Seed,
     problem: &Problem,
     listing: &mut L,
     out: &mut O,
     err: &mut E,
 ) -> u8
+    requires hashed { problem.now.seed ≡ _seed }
     ensures did { DidJudgeListing problem.now result (L.state listing.old) (L.state listing.new)
         (sinks O.state E.state out.old err.old) (sinks O.state E.state out.new err.new) }
 {
@@ -178,7 +181,7 @@ pub fn judge_by<P: Source, L: Source, O: Sink, E: Sink>(
         return refuse(BAD_WORDS, b"Usage: dlxcheck PROBLEM [1|2|3]\n", err);
     };
     match read_problem_by(alloc, seed, kind, problem) {
-        Ok(read) => judge_listing(alloc, &read.problem, listing, out, err),
+        Ok(read) => judge_listing(alloc, seed, &read.problem, listing, out, err),
         Err(error) => no_problem(&error, err),
     }
 }

@@ -71,13 +71,17 @@ fn solve_problem<O: Sink, E: Sink>(
 }
 
 /// Reports the ignored options, and searches the problem.
+// No status and no byte tells by which seed names were hashed, so the seed is passed for the contract alone: a caller
+// that read by another one has no proof.
 fn solve_read<O: Sink, E: Sink>(
     alloc: Global,
+    _seed: Seed,
     read: &Read,
     words: Words,
     out: &mut O,
     err: &mut E,
 ) -> u8
+    requires hashed { read.now.problem.seed ≡ _seed }
     ensures did { DidWarnAndSearch words result
         (sinks O.state E.state out.old err.old) (sinks O.state E.state out.new err.new)
         read.now.problem read.now.ignored.items }
@@ -142,7 +146,7 @@ pub fn solve_by<S: Source, O: Sink, E: Sink>(
         }
     };
     match read_problem_by(alloc, seed, kind, input) {
-        Ok(read) => solve_read(alloc, &read, words, out, err),
+        Ok(read) => solve_read(alloc, seed, &read, words, out, err),
         Err(error) => no_problem(&error, err),
     }
 }

@@ -27,14 +27,17 @@ fn refuse_words<E: Sink>(err: &mut E) -> u8
 }
 
 /// Searches a span of a problem's listing, and reports how that ended.
+// The seed is passed for the contract alone, as for `solve_read`.
 fn search_problem<O: Sink, E: Sink>(
     alloc: Global,
+    _seed: Seed,
     problem: &Problem,
     words: &SpanWords,
     out: &mut O,
     err: &mut E,
 ) -> u8
-    requires { IsSound problem.now }
+    requires sound { IsSound problem.now }
+    requires hashed { problem.now.seed ≡ _seed }
     ensures did { DidSpan problem.now (asked_of words.now) result
         (sinks O.state E.state out.old err.old) (sinks O.state E.state out.new err.new) }
 {
@@ -107,7 +110,7 @@ pub fn solve_span_by<S: Source, O: Sink, E: Sink>(
         Err(_) => return out_of_memory(err),
     };
     match read_problem_by(alloc, seed, kind, input) {
-        Ok(read) => search_problem(alloc, &read.problem, &words, out, err),
+        Ok(read) => search_problem(alloc, seed, &read.problem, &words, out, err),
         Err(error) => no_problem(&error, err),
     }
 }

@@ -10,8 +10,8 @@ returns-in-Ok-flushed g c =
     let flush = c.flushed.ensures in
     let well = c.in-Ok-flushed.ensures in
     record {
-      did = span_flushed (each_member_covers c.args.problem.now.puzzle c.requires.valid)
-          (each_cover_is_listed_once c.args.problem.now.puzzle c.requires.valid)
+      did = span_flushed (each_member_covers c.args.problem.now.puzzle c.requires.sound.valid)
+          (each_cover_is_listed_once c.args.problem.now.puzzle c.requires.sound.valid)
           (sinks g.O.Sink.state g.E.Sink.state c.flushed.new.out c.flushed.new.err) c.in-Ok.ensures flush.kept
           flush.flushed_once well.settled.0 well.settled.1 (ap (seen g.E.Sink.state) well.settled.2);
     }
@@ -20,8 +20,8 @@ pub returns-in-Err : goal.returns-in-Err
 returns-in-Err g c =
     let flush = c.in-Err.ensures in
     record {
-      did = span_unflushed (each_member_covers c.args.problem.now.puzzle c.requires.valid)
-          (each_cover_is_listed_once c.args.problem.now.puzzle c.requires.valid)
+      did = span_unflushed (each_member_covers c.args.problem.now.puzzle c.requires.sound.valid)
+          (each_cover_is_listed_once c.args.problem.now.puzzle c.requires.sound.valid)
           (sinks g.O.Sink.state g.E.Sink.state c.flushed.new.out c.flushed.new.err) c.in-Ok.ensures
           flush.kept flush.flushed_once flush.failed;
     }
@@ -30,8 +30,8 @@ pub returns-in-Err-WriteFailed : goal.returns-in-Err-WriteFailed
 returns-in-Err-WriteFailed g c =
     let broke = rw c.in-Err-WriteFailed.field-0-is at c.in-Err-WriteFailed.ensures in
     record {
-      did = span_broken (each_member_covers c.args.problem.now.puzzle c.requires.valid)
-          (each_cover_is_listed_once c.args.problem.now.puzzle c.requires.valid)
+      did = span_broken (each_member_covers c.args.problem.now.puzzle c.requires.sound.valid)
+          (each_cover_is_listed_once c.args.problem.now.puzzle c.requires.sound.valid)
           (sinks g.O.Sink.state g.E.Sink.state c.list_span.new.sink c.write_failed.new.err) broke.1
           c.write_failed.ensures.status c.write_failed.ensures.told;
     }
