@@ -107,6 +107,12 @@ def seconds(words: list[str], text: bytes) -> float:
     return least
 
 
+def words_of(program: str, file: str) -> list[str]:
+    """The arguments with which a program reads a problem with colours: `dlxcheck` by its file's name."""
+    words = {"dlxcheck": [file, "3"], "dlx_span": ["2", "m0", "0", "-", "-"], "dlx_count": ["2"]}
+    return words.get(program, [])
+
+
 def ratios(folder: Path | None) -> Iterator[tuple[str, float]]:
     """For each program the time for words that collide, by that for words by chance."""
     collide, chance = colliding(WORDS), by_chance(WORDS)
@@ -114,12 +120,12 @@ def ratios(folder: Path | None) -> Iterator[tuple[str, float]]:
     assert hash_of(b"zywtca") == 0x636B_03C0  # as `names_have_one_hash` of crates/library_tests/src/reading/seeds.rt
     with tempfile.NamedTemporaryFile() as file:
         for what, text_of, programs in (
-            ("names", of_names, ("dlx1", "dlx2", "dlx3", "dlxcheck", "dlx_span")),
-            ("colours", of_colours, ("dlx2", "dlx3", "dlxcheck", "dlx_span")),
+            ("names", of_names, ("dlx1", "dlx2", "dlx3", "dlxcheck", "dlx_span", "dlx_count")),
+            ("colours", of_colours, ("dlx2", "dlx3", "dlxcheck", "dlx_span", "dlx_count")),
         ):
             for program in programs:
                 path = folder / program.replace("_", "-") if folder else TOP / "crates" / program / "out" / program
-                words = {"dlxcheck": [file.name, "3"], "dlx_span": ["2", "m0", "0", "-", "-"]}.get(program, [])
+                words = words_of(program, file.name)
                 times = []
                 for them in (collide, chance):
                     text = text_of(them)
