@@ -738,7 +738,7 @@ of_broken a asked words s begun {x = x} {z = z} broke =
         members = ap length (sym begun.left);
         is_one = one_to_end a asked words w (omega arith) (ap length (sym begun.left));
         said = broke_closed _ _
-          (subst (λ ms. BrokeOff x z (written_text a asked.listed asked.from ms)) begun.left broke);
+            (subst (λ ms. BrokeOff x z (written_text a asked.listed asked.from ms)) begun.left broke);
       },
     )
 

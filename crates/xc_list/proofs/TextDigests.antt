@@ -22,7 +22,7 @@ text_more d xs ys = fold-append after_byte d xs ys
 
 pub byte_held : (d : TextDigest) (b n : ℕ) → n ≡ b → d.held < 7 → b < 2 ^ 8
     → record { state = d.state; word = d.word / 256 + n * 72057594037927936 % 2 ^ 64; held = d.held + 1 }
-        ≡ after_byte d b
+    ≡ after_byte d b
 unfolding after_byte
 byte_held d b n same h small =
     let word : n * 72057594037927936 % 2 ^ 64 ≡ b * 2 ^ 56 = omega (arith, small, same) in
