@@ -11,11 +11,11 @@ from collections.abc import Callable, Iterable, Iterator, Sequence
 from functools import partial
 from typing import Any, TypeVar
 
+from ._run.solution import Solution
+from ._run.wire import OfNumbers
+from ._text.shown import text_of
 from .errors import AnswerFault
 from .problem import Problem
-from .shown import text_of
-from .solution import Solution
-from .wire import OfNumbers
 
 __all__ = ["SOLVERS", "solutions"]
 

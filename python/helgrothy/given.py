@@ -9,11 +9,11 @@ from __future__ import annotations
 from collections.abc import Callable, Hashable, Iterable, Iterator, Sequence
 from typing import Any, Generic, TypeVar
 
-from .listing import Step
-from .named import Named, told
+from ._run.solution import Solution
+from ._run.wire import OfNumbers
+from ._text.listing import Step
+from ._text.named import Named, told
 from .problem import Problem
-from .solution import Solution
-from .wire import OfNumbers
 
 __all__ = ["Given", "forbidden", "given"]
 

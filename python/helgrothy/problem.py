@@ -11,23 +11,23 @@ from functools import partial
 from numbers import Integral
 from typing import IO, TYPE_CHECKING, Any, Generic, NoReturn, TypeVar, Union
 
-from . import counter
-from . import listing as listings
+from ._run import counter
+from ._run.programs import Ending, Run
+from ._run.solution import Listed, Solution
+from ._run.stream import Outcome, Solutions, check_numbers, sooner
+from ._run.wire import OfListing, Wire
+from ._text import listing as listings
+from ._text.listing import Null
+from ._text.names import colour_names, item_names
+from ._text.shown import bytes_of, text_of
+from ._text.syntax import MOST_ITEMS, MOST_USES, ONCE, Bounds, Nearest, Sheet, bounds_fault, read
 from .errors import ListingFault, NoPicture, OutOfTime, ProblemFault, ProgramFailed
-from .listing import Null
-from .names import colour_names, item_names
-from .programs import Ending, Run
-from .shown import bytes_of, text_of
-from .solution import Listed, Solution
-from .stream import Outcome, Solutions, check_numbers, sooner
-from .syntax import MOST_ITEMS, MOST_USES, ONCE, Bounds, Nearest, Sheet, bounds_fault, read
-from .wire import OfListing, Wire
 
 if TYPE_CHECKING:
     from concurrent.futures import Executor
 
+    from ._spans import Progress
     from .draw import Drawing, Pattern, Picture
-    from .spans import Progress
     from .table import Table
 
 _HASHABLE = "items and colours are hashable"
@@ -417,7 +417,7 @@ class Problem(Generic[Option]):
         Those before it aren't made where dlx-count is first, which counts the branches that they are in. Raises
         `ProgramNotFound`, `ProgramFailed` and `OutOfTime`.
         """
-        from . import numbered
+        from ._run import numbered
 
         return next(iter(numbered.solve(self, number, seconds)), None)
 
@@ -427,7 +427,7 @@ class Problem(Generic[Option]):
         They are counted, and a number of them is drawn: the same one for the same seed, and without one another each
         time. Raises `ProgramNotFound`, `ProgramFailed` and `OutOfTime`.
         """
-        from . import numbered
+        from ._run import numbered
 
         begun = time.monotonic()
         total = self._count(seconds).total
@@ -443,7 +443,7 @@ class Problem(Generic[Option]):
         it, by up to `jobs` processes at once (as many as there are processors). Raises `ProgramNotFound`,
         `ProgramFailed` and `OutOfTime`.
         """
-        from . import occurrences
+        from ._run import occurrences
 
         return occurrences.find(self, seconds, jobs).by_option
 
@@ -460,7 +460,7 @@ class Problem(Generic[Option]):
         executor: Executor | None,
         progress: Callable[[Progress], object] | None,
     ) -> int:
-        from . import spans
+        from . import _spans as spans
 
         if limit is not None:
             raise ValueError("a search by jobs or an executor has no limit")

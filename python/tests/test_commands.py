@@ -10,8 +10,10 @@ from unittest import mock
 
 from folders import InFolder
 
-from helgrothy import OutOfTime, make, solving, sums, why
+from helgrothy import OutOfTime, make, why
 from helgrothy.__main__ import main
+from helgrothy._cli import solving
+from helgrothy._reason import sums
 
 # Each mistake with the line that says what is wrong, and what to do.
 MISTAKES = (

@@ -24,16 +24,17 @@ import unittest
 import urllib.parse
 from unittest import mock
 
-from helgrothy import HelgrothyError, Problem, cost, make
-from helgrothy.listing import branch_of
-from helgrothy.page import answer, folders, forms, lobby, server, terms
-from helgrothy.page.document import document, frame
-from helgrothy.page.examples import examples, first_of
-from helgrothy.page.record import Record
-from helgrothy.page.start import start
-from helgrothy.programs import Run
-from helgrothy.wire import OfNumbers
 from test_commands import run
+
+from helgrothy import HelgrothyError, Problem, cost, make
+from helgrothy._page import answer, folders, forms, lobby, server, terms
+from helgrothy._page.document import document, frame
+from helgrothy._page.examples import examples, first_of
+from helgrothy._page.record import Record
+from helgrothy._page.start import start
+from helgrothy._run.programs import Run
+from helgrothy._run.wire import OfNumbers
+from helgrothy._text.listing import branch_of
 
 EVIL = [
     "</script><script>alert(1)</script>", "<img/src=x/onerror=alert(2)>", "<!--", "]]>", "{{data}}", "&lt;b>", "\"onload='x'",

@@ -17,15 +17,17 @@ import unittest
 from concurrent.futures import Executor, Future, ProcessPoolExecutor, ThreadPoolExecutor
 from unittest import mock
 
-from helgrothy import ListingFault, OutOfTime, Problem, ProgramFailed, ProgramNotFound, SearchFault, guard, make, programs
+from helgrothy import ListingFault, OutOfTime, Problem, ProgramFailed, ProgramNotFound, SearchFault, make
 from helgrothy.__main__ import main
-from helgrothy.spans import folder as folders
-from helgrothy.spans import about, cuts, held, join, loop, progress, record, rows, show, span, text, workers
-from helgrothy.spans.commands import NOT_DONE, progress_main
-from helgrothy.spans.folder import Folder
-from helgrothy.spans.loop import Job, Kept, Loop
-from helgrothy.spans.pace import Pace
-from helgrothy.spans.rows import PARTS, WHOLE, Span, cut, place, read, share_of, word_of
+from helgrothy._run import guard, programs
+from helgrothy._spans import about, cuts
+from helgrothy._spans import folder as folders
+from helgrothy._spans import held, join, loop, progress, record, rows, show, span, text, workers
+from helgrothy._spans.commands import NOT_DONE, progress_main
+from helgrothy._spans.folder import Folder
+from helgrothy._spans.loop import Job, Kept, Loop
+from helgrothy._spans.pace import Pace
+from helgrothy._spans.rows import PARTS, WHOLE, Span, cut, place, read, share_of, word_of
 from tests.problems import digest_of, narrow, problem_of
 
 QUEENS = make.queens.problem(7).text.encode()
@@ -440,7 +442,7 @@ class Loops(unittest.TestCase):
         problem = make.queens.problem(6).text.encode()
         for changed in ({"MOST_TEXT": 200}, {"_LONGEST_WORD": 3}, {"MOST_TEXT": 200, "_LONGEST_WORD": 3}):
             found = {}
-            with mock.patch.multiple(loop, **changed), mock.patch("helgrothy.spans.pace._FIRST", 5):
+            with mock.patch.multiple(loop, **changed), mock.patch("helgrothy._spans.pace._FIRST", 5):
                 submit = loop.submitting(ThreadPoolExecutor(2))
                 search = Loop(Job(problem, 1, True), submit, lambda: 2, lambda kept: taken(found, kept), None)
                 self.assertTrue(search.search([WHOLE]))
@@ -675,7 +677,7 @@ class Folders(unittest.TestCase):
             folder.keep(Kept(Span((2, 1, 1), None, FIFTH, PARTS), b"", 0, 0.5))
             folder.flush()
         out = io.StringIO()
-        with contextlib.redirect_stdout(out), mock.patch("helgrothy.console.write", lambda lines: out.writelines(lines)):
+        with contextlib.redirect_stdout(out), mock.patch("helgrothy._cli.console.write", lambda lines: out.writelines(lines)):
             self.assertEqual(main(["status", self.path]), 0)
         self.assertIn("99.9 % done", out.getvalue())
 

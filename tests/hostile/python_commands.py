@@ -38,8 +38,8 @@ sys.path.insert(0, os.path.join(TOP, "python"))
 
 from helgrothy import __main__ as commands  # noqa: E402
 from helgrothy import make  # noqa: E402
-from helgrothy.page.document import document  # noqa: E402
-from helgrothy.spans import commands as span_commands  # noqa: E402
+from helgrothy._page.document import document  # noqa: E402
+from helgrothy._spans import commands as span_commands  # noqa: E402
 
 SCRIPT = os.path.join(TOP, "scripts", "helgrothy")
 # A try may take so many seconds of a processor, and one that searches by all of them five seconds of each more. What waits
@@ -690,7 +690,7 @@ class Processes:
         modules = [one for one in sorted(sys.stdlib_module_names) if not one.startswith("_")] if hasattr(sys, "stdlib_module_names") else ["re", "random", "difflib", "colorsys", "argparse"]
         for module in modules:
             self.file(f"strangers/{module}.py", b"import os; os.write(2, b'HIJACKED')\n")
-        for module in ("__init__", "__main__", "commands", "spans/__init__", "spans/commands"):
+        for module in ("__init__", "__main__", "_cli/commands", "_spans/__init__", "_spans/commands"):
             self.file(f"strangers/helgrothy/{module}.py", b"print('HIJACKED')\n")
         for program in ("dlx1", "dlx2", "dlx3", "dlxcheck", "dlx-span", "dlx-join", "cadical", "clasp"):
             os.chmod(self.file(f"strangers/{program}", b"#!/bin/sh\necho HIJACKED >&2\n"), 0o755)
