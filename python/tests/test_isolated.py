@@ -195,7 +195,7 @@ class ClosedStreams(unittest.TestCase):
             ("helgrothy", ["queens", "4"], False, BOARD, "Altogether 1 solution (limit).\n"),
             ("helgrothy", ["make", "langford", "1"], False, None, ""),
             ("helgrothy", ["--help"], False, None, ""),
-            ("helgrothy", ["status", "folder"], False, None, ""),
+            ("helgrothy", ["search", "--status", "folder"], False, None, ""),
             ("dlx-progress", [], True, "", "0.0 seconds: solution 2, 50.00% of the tree, about 0.0 seconds left\n"),
         ):
             has_all = words == ["solve", "-", "--all"]
@@ -224,7 +224,7 @@ class ClosedStreams(unittest.TestCase):
     def test_a_listing(self):
         """As the programs in one, but that its warnings come first: where they can't be told nothing is listed."""
         listing, warning = "1:\n A x (1 of 2)\n2:\n A (2 of 2)\n", "Option ignored (no primary items): line 2\n"
-        for words in (["search", "p.dlx", "--list"], ["result", "folder", "--list"]):
+        for words in (["search", "p.dlx", "--list"], ["search", "--result", "folder", "--list"]):
             for closed in itertools.product((False, True), repeat=3):
                 with self.subTest(words=words, closed=closed):
                     redirected = " ".join(text for is_closed, text in zip(closed, ("<&-", ">&-", "2>&-")) if is_closed)

@@ -12,7 +12,6 @@ from ..problem import Problem
 from . import console
 from . import count as count_command
 from .console import fail, write
-from .showing import page_of, showing
 
 if TYPE_CHECKING:
     import argparse
@@ -62,21 +61,11 @@ def _made(arguments: argparse.Namespace) -> Problem[Any]:
 
 
 def draw(arguments: argparse.Namespace) -> int:
+    from . import draw as drawn
+
     if arguments.problem == "-":
-        raise ValueError("the problem is a file; the listing comes from standard input")
-    problem = _problem(arguments.problem)
-    page = page_of(problem, arguments)
-    show = showing(problem, arguments, None, page)
-    shown = 0
-    for listed in problem.listed(console.input_lines()):
-        if arguments.number in (None, listed.number):
-            show(listed.number, listed, lambda _: listed.numbers, lambda: listed.steps)
-            shown += 1
-            if arguments.svg or arguments.number or page is not None and page.is_full:
-                break
-    if page is not None and shown:
-        write([page.text(shown, False)])
-    return 0 if shown else fail(f"the listing has no solution {arguments.number or 'to draw'}", 1)
+        raise ValueError("the problem is a file; the listing or answer comes from standard input")
+    return drawn.draw(_problem(arguments.problem), arguments)
 
 
 # ---- lint, export, why, count, hint, minimal
@@ -96,18 +85,6 @@ def export(arguments: argparse.Namespace) -> int:
 
     write(f"{line}\n" for line in FORMATS[arguments.format](_problem(arguments.problem)))
     return 0
-
-
-def import_(arguments: argparse.Namespace) -> int:
-    from .. import answers
-
-    if arguments.problem == "-":
-        raise ValueError("the problem is a file; the answer comes from standard input")
-    problem = _problem(arguments.problem)
-    shown = 0
-    for shown, found in enumerate(answers.solutions(arguments.solver, problem, console.input_lines()), 1):
-        console.write_bytes(problem._listing([found], shown))
-    return 0 if shown else fail(f"{arguments.solver} says that there is no solution", 1)
 
 
 def why(arguments: argparse.Namespace) -> int:

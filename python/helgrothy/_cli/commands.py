@@ -39,7 +39,7 @@ examples:
   helgrothy lint mine.dlx
   helgrothy why mine.dlx
   helgrothy export asp mine.dlx | gringo | clasp 0
-  helgrothy export cnf mine.dlx | cadical | helgrothy import cadical mine.dlx | dlxcheck mine.dlx
+  helgrothy export cnf mine.dlx | cadical | helgrothy draw mine.dlx
 """
 
 
@@ -47,17 +47,13 @@ examples:
 _HELPS = {
     "make": "write a problem",
     "solve": "solve a problem and draw what is found",
-    "draw": "draw a listing",
+    "draw": "draw a listing, or another solver's answer",
     "lint": "report all faults and slips of a problem",
     "export": "write a problem for another solver",
-    "import": "read another solver's answer as a listing",
     "why": "report which items conflict where there is no solution",
     "count": "count the solutions of a problem",
     "page": "a local page to type a problem in",
     "search": "count or list all solutions, by all processors or many machines",
-    "status": "report how far a search is",
-    "result": "print what a search that is done has found",
-    "rows": "print rows at which a search may be cut",
     "hint": "report a step that is forced, and why",
     "minimal": "drop what is given while there is one solution",
 }
@@ -244,7 +240,8 @@ def _add_ways(parser: argparse.ArgumentParser) -> None:
     )
 
 
-def _add_forms(parser: argparse.ArgumentParser, svg: str) -> None:
+def _add_forms(parser: argparse.ArgumentParser, svg: str) -> argparse._MutuallyExclusiveGroup:
+    """The forms of what is shown, of which one is asked for; gives them back for more."""
     form = parser.add_mutually_exclusive_group()
     form.add_argument("--svg", action="store_true", help=svg)
     form.add_argument(
@@ -268,6 +265,7 @@ def _add_forms(parser: argparse.ArgumentParser, svg: str) -> None:
     parser.add_argument(
         "--options", action="store_true", help="of --json and --csv: the options, also where a table is drawn"
     )
+    return form
 
 
 # ---- draw
@@ -276,15 +274,21 @@ def _add_forms(parser: argparse.ArgumentParser, svg: str) -> None:
 def _add_draw(commands: Any) -> None:
     parser = commands.add_parser(
         "draw",
-        help="draw a listing",
-        description="Draws the solutions of a listing, which comes from standard input. A problem that `make` made is "
-        "drawn in its own way; of another one, --cell and --label say where the cells of an option are.",
-        epilog="example:\n  dlx1 m1 t1 < queens.dlx | helgrothy draw queens.dlx --cell 'r(\\d+) c(\\d+)'",
+        help="draw a listing, or another solver's answer",
+        description="Draws the solutions of a listing, or of what cadical or clasp answered to an exported problem, "
+        "from standard input. An answer is drawn only if dlxcheck judges it to be a solution; status 1 says that there "
+        "is none. A problem that `make` made is drawn in its own way; of another one, --cell and --label say where the "
+        "cells of an option are.",
+        epilog="examples:\n  dlx1 m1 t1 < queens.dlx | helgrothy draw queens.dlx --cell 'r(\\d+) c(\\d+)'\n"
+        "  helgrothy export cnf mine.dlx | cadical | helgrothy draw mine.dlx\n"
+        "  helgrothy export cnf mine.dlx | cadical | helgrothy draw mine.dlx --listing | dlxcheck mine.dlx",
         formatter_class=argparse.RawDescriptionHelpFormatter,
     )
-    parser.add_argument("problem", metavar="PROBLEM", help="the file of the problem that the listing is of")
+    parser.add_argument("problem", metavar="PROBLEM", help="the file of the problem that was solved")
     parser.add_argument("--number", type=positive, metavar="K", help="the solution of this number alone")
-    _add_forms(parser, "a picture as SVG, of the first solution or that of --number")
+    _add_forms(parser, "a picture as SVG, of the first solution or that of --number").add_argument(
+        "--listing", action="store_true", help="an answer as a listing, for dlxcheck to judge"
+    )
     _add_patterns(parser)
     parser.set_defaults(command=_by("draw"))
 
@@ -308,7 +312,7 @@ def _add_patterns(parser: argparse.ArgumentParser) -> None:
     )
 
 
-# ---- lint, export, why, count, page
+# ---- lint, export, why, count, page, search
 
 
 def _add_lint(commands: Any) -> None:
@@ -338,23 +342,6 @@ def _add_export(commands: Any) -> None:
     parser.set_defaults(command=_by("export"))
 
 
-def _add_import(commands: Any) -> None:
-    from ..answers import SOLVERS
-
-    parser = commands.add_parser(
-        "import",
-        help="read another solver's answer as a listing",
-        description="Reads what another solver answered to an exported problem, from standard input, and writes it as "
-        "a listing, which dlxcheck judges and draw draws. Status 1 says that the solver found no solution.",
-        epilog="example:\n  helgrothy export cnf mine.dlx | cadical | helgrothy import cadical mine.dlx | "
-        "helgrothy draw mine.dlx",
-        formatter_class=argparse.RawDescriptionHelpFormatter,
-    )
-    parser.add_argument("solver", choices=SOLVERS, help="the solver")
-    parser.add_argument("problem", metavar="PROBLEM", help="the file of the problem that was exported")
-    parser.set_defaults(command=_by("import_"))
-
-
 def _add_why(commands: Any) -> None:
     parser = commands.add_parser(
         "why",
@@ -378,18 +365,10 @@ def _add_page(commands: Any) -> None:
     pages.add(commands)
 
 
-# ---- long searches
+def _add_search(commands: Any) -> None:
+    from .._spans import commands as spans
 
-
-def _add_searching(name: str) -> Callable[[Any], None]:
-    """What adds a command of a long search."""
-
-    def add(commands: Any) -> None:
-        from .._spans import commands as spans
-
-        spans.add(commands, name)
-
-    return add
+    spans.add(commands)
 
 
 # What adds the other commands to a parser.
@@ -398,9 +377,8 @@ _ADDS: dict[str, Callable[[Any], None]] = {
     "draw": _add_draw,
     "lint": _add_lint,
     "export": _add_export,
-    "import": _add_import,
     "why": _add_why,
     "count": _add_count,
     "page": _add_page,
-    **{name: _add_searching(name) for name in ("search", "status", "result", "rows")},
+    "search": _add_search,
 }

@@ -1,4 +1,4 @@
-"""The commands `helgrothy search`, `status`, `result` and `rows`, and `dlx-progress`.
+"""The commands `helgrothy search` and `dlx-progress`.
 
 Status 0 says that all is done, 2 that the command could not be done, 3 that a read or write failed, 6 that a search
 isn't done and goes on with the same command.
@@ -11,7 +11,7 @@ import signal
 import subprocess
 import sys
 import time
-from collections.abc import Callable, Sequence
+from collections.abc import Sequence
 from typing import Any, NoReturn
 
 from .. import __version__
@@ -39,25 +39,37 @@ _SEARCH = "helgrothy search"
 _BAD_PROBLEM = 2
 
 
-def add(commands: Any, name: str) -> None:
-    """The command of this name, for the parser of `helgrothy`."""
-    _ADDS[name](commands)
+# What stands in the place of a search, and the other words that it takes.
+_INSTEAD = {"status": (), "result": ("list",), "rows": ("problem", "program")}
+_WORDS = {
+    "problem": "PROBLEM",
+    "list": "--list",
+    "jobs": "--jobs",
+    "dask": "--dask",
+    "most": "--seconds",
+    "folder": "--folder",
+    "program": "--for",
+}
 
 
 # ---- search
 
 
-def _add_search(commands: Any) -> None:
-    parser = commands.add_parser(
+def add(commands: Any) -> None:
+    """The command `search`, for the parser of `helgrothy`."""
+    parser: argparse.ArgumentParser = commands.add_parser(
         "search",
         help="count or list all solutions, by all processors or many machines",
         description="Counts all solutions of a problem, or lists them as the program for it does, by all processors. "
         "What is done is kept in a folder: stopped or killed, the same command goes on.",
         epilog="examples:\n  helgrothy search queens.dlx\n  helgrothy search queens.dlx --list > all.txt\n"
-        "  helgrothy search queens.dlx --dask tcp://first:8786 --folder queens.found",
+        "  helgrothy search queens.dlx --dask tcp://first:8786 --folder queens.found\n"
+        "  helgrothy search --status queens.found",
         formatter_class=argparse.RawDescriptionHelpFormatter,
     )
-    parser.add_argument("problem", metavar="PROBLEM", help="a file, or - for standard input, which needs --folder")
+    parser.add_argument(
+        "problem", nargs="?", metavar="PROBLEM", help="a file, or - for standard input, which needs --folder"
+    )
     parser.add_argument("--list", action="store_true", help="list the solutions")
     workers = parser.add_mutually_exclusive_group()
     workers.add_argument("--jobs", type=_jobs, metavar="N", help="so many processors (default: all)")
@@ -68,14 +80,48 @@ def _add_search(commands: Any) -> None:
     parser.add_argument(
         "--folder", metavar="FOLDER", help="keep what is done here (default: PROBLEM.search, removed at the end)"
     )
-    _add_program(parser)
-    parser.set_defaults(command=_search)
-
-
-def _add_program(parser: argparse.ArgumentParser) -> None:
     parser.add_argument(
         "--for", dest="program", choices=_PROGRAMS, help="the program (default: the first that takes such a text)"
     )
+    _add_instead(parser)
+    parser.set_defaults(command=lambda arguments: _act(arguments, parser))
+
+
+def _add_instead(parser: argparse.ArgumentParser) -> None:
+    instead = parser.add_argument_group("instead of a search").add_mutually_exclusive_group()
+    instead.add_argument(
+        "--status",
+        metavar="FOLDER",
+        help="report how far the search of this folder is, and about how long the rest takes",
+    )
+    instead.add_argument(
+        "--result",
+        metavar="FOLDER",
+        help="print what the search of this folder has found, its number of solutions or, with --list, the solutions; "
+        "nothing, with status 6, while something is left",
+    )
+    instead.add_argument(
+        "--rows",
+        type=console.positive,
+        metavar="N",
+        help="print up to N rows at which a search of PROBLEM may be cut, for queues that run programs and nothing "
+        "else: dlx-span searches between two of them, and dlx-join puts the texts together",
+    )
+
+
+def _act(arguments: argparse.Namespace, parser: argparse.ArgumentParser) -> int:
+    """Does a search, or what is asked for instead of one."""
+    what = next((name for name in _INSTEAD if getattr(arguments, name) is not None), None)
+    if arguments.problem is None and (what is None or "problem" in _INSTEAD[what]):
+        parser.error("the following arguments are required: PROBLEM")
+    if what is None:
+        return _search(arguments)
+    for name, word in _WORDS.items():
+        if name not in _INSTEAD[what] and getattr(arguments, name):
+            parser.error(f"--{what}: without {word}")
+    if what == "status":
+        return _status(arguments.status)
+    return _result(arguments.result, arguments.list) if what == "result" else _rows(arguments)
 
 
 def _search(arguments: argparse.Namespace) -> int:
@@ -233,58 +279,38 @@ def _told(ending: Ending) -> int:
     return ending.status
 
 
-# ---- status and result
+# ---- what stands in the place of a search
 
 
-def _add_status(commands: Any) -> None:
-    parser = commands.add_parser(
-        "status",
-        help="report how far a search is",
-        description="Reports what of a search is done, and about how long the rest takes.",
-    )
-    parser.add_argument("folder", metavar="FOLDER", help="the folder of a search")
-    parser.set_defaults(command=_status)
-
-
-def _status(arguments: argparse.Namespace) -> int:
-    folder = Look(arguments.folder)
+def _status(path: str) -> int:
+    """Reports what of a folder's search is done, and about how long the rest takes."""
+    folder = Look(path)
     share = share_of(folder.parts, is_done=not folder.todo())
     told = [f"{percent(share)} done: {folder.solutions:,} solutions, {duration(folder.seconds)} of a processor"]
     if 0 < share < 1:
         told.append(f"left: about {duration(folder.seconds * (1 - share) / share)} of a processor")
-    if is_at_work(arguments.folder):
+    if is_at_work(path):
         told.append("a command is at work")
     console.write(f"{line}\n" for line in told)
     return 0
 
 
-def _add_result(commands: Any) -> None:
-    parser = commands.add_parser(
-        "result",
-        help="print what a search that is done has found",
-        description="Prints the number of solutions of a search that is done, or lists them. Nothing is printed, and "
-        "the status is 6, where something is left.",
-    )
-    parser.add_argument("folder", metavar="FOLDER", help="the folder of a search")
-    parser.add_argument("--list", action="store_true", help="list the solutions, of a search with --list")
-    parser.set_defaults(command=_result)
-
-
-def _result(arguments: argparse.Namespace) -> int:
-    with Folder(arguments.folder, is_read=True) as folder:
+def _result(path: str, is_listed: bool) -> int:
+    """Prints the number of solutions of a folder's search, or lists them; nothing where something is left."""
+    with Folder(path, is_read=True) as folder:
         todo = folder.todo()
         if todo:
             start, until = word_of(todo[0].start), word_of(todo[0].until)
             console.say(f"helgrothy: {folder.path}: not done: from {start} until {until} is left")
             return NOT_DONE
-        if arguments.list and not folder.about.listed:
+        if is_listed and not folder.about.listed:
             raise SearchFault(f"{folder.path}: it is of a search that counts solutions; search with --list")
         # A listing is printed where all files are whole.
         folder.check()
         lines = ignored(folder.problem())
         for line in lines:
             console.say(f"Option ignored (no primary items): line {line}")
-        out = subprocess.DEVNULL if not arguments.list else subprocess.PIPE if sys.stdout.isatty() else None
+        out = subprocess.DEVNULL if not is_listed else subprocess.PIPE if sys.stdout.isatty() else None
         with Join(folder.about.listed, out) as join:
             for text in folder.texts():
                 join.give(text, None)
@@ -294,38 +320,15 @@ def _result(arguments: argparse.Namespace) -> int:
                 return _failed(error)
 
 
-# ---- rows
-
-
-def _add_rows(commands: Any) -> None:
-    parser = commands.add_parser(
-        "rows",
-        help="print rows at which a search may be cut",
-        description="Prints rows at which a search may be cut, rising, for queues that run programs and nothing else: "
-        "dlx-span searches between two of them, and dlx-join puts the texts together. It takes about a second.",
-    )
-    console.add_problem(parser)
-    parser.add_argument("--count", type=console.positive, default=100, metavar="N", help="up to N rows (default: 100)")
-    _add_program(parser)
-    parser.set_defaults(command=_rows)
-
-
 def _rows(arguments: argparse.Namespace) -> int:
+    """Prints rows at which a search may be cut, rising; it takes about a second."""
     problem = console.read(arguments.problem)
     try:
-        found = rows(problem, _kind(arguments, problem), arguments.count)
+        found = rows(problem, _kind(arguments, problem), arguments.rows)
     except ProgramFailed as error:
         return _failed(error)
     console.write(f"{word_of(row)}\n" for row in found)
     return 0
-
-
-_ADDS: dict[str, Callable[[Any], None]] = {
-    "search": _add_search,
-    "status": _add_status,
-    "result": _add_result,
-    "rows": _add_rows,
-}
 
 
 # ---- dlx-progress

@@ -2,7 +2,7 @@
 
 Workers elsewhere are an executor, not a queue in a folder with claims and signs of life: engines such as Dask hand out
 work, survive lost workers and show what goes on. The cost: a machine that only sees the folder can't help. It runs
-`dlx-span` between the rows of `helgrothy rows`.
+`dlx-span` between the rows of `helgrothy search --rows`.
 """
 
 from __future__ import annotations
