@@ -11,10 +11,11 @@ The modules, which need no import of their own:
     make      makes problems that people know, such as `make.sudoku.problem(..)`
     draw      draws solutions as boards; `table` as tables
     data      writes solutions as JSON and CSV
-    shuffle   gives solutions in a random order
     symmetry  gives one solution of those that are images of each other
-    cost      finds the solution that costs least; `wishes` has costs by the names of items
-    given     has the solutions with some options and without others; `hint` finds a step that is forced
+    hint      finds a step that is forced
+    cost      has what `solve(cost=..)` gives and raises; `wishes` has costs by the names of items
+    given     has a problem with some options and without others, as `solve(given=..)` searches it
+    shuffle   has the random order of `solve(seed=..)`
     minimal   finds out which of the options that are given a single solution takes
     lint      looks for slips in the text of a problem
     why       says why a problem has no solution

@@ -25,8 +25,8 @@ _SHARE = 0.9
 
 def choices(problem: Problem[Any], arguments: argparse.Namespace) -> tuple[list[int], set[int]]:
     """The places of options that are given and forbidden. Raises `ValueError`."""
-    held = given(problem, arguments.given)
-    dropped = forbidden(problem, arguments.forbidden)
+    held = given(problem, arguments.given, "--with", by_names=True)
+    dropped = forbidden(problem, arguments.forbidden, "--without", by_names=True)
     for text, place in zip(arguments.given, held):
         if place in dropped:
             raise ValueError(f"--with {text}: a --without forbids this option")

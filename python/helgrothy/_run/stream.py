@@ -10,6 +10,7 @@ from ..errors import OutOfTime
 from .solution import Solution
 
 Option = TypeVar("Option")
+Other = TypeVar("Other")
 
 # A notebook shows so many solutions at most, which may take so long.
 _MOST_PICTURES = 24
@@ -69,6 +70,16 @@ class Solutions(Generic[Option]):
     def close(self) -> None:
         """Ends the program, if it runs."""
         self._stream.close()
+
+    def _as(self, give: Callable[[Solution[Option]], Solution[Other]]) -> Solutions[Other]:
+        """The same solutions, each as `give` makes it."""
+
+        def begin(outcome: Outcome) -> Generator[Solution[Other], None, None]:
+            with self:
+                yield from map(give, self)
+            outcome.end(self.total or 0, bool(self.complete))
+
+        return Solutions(begin, lambda most: self._again(most)._as(give))
 
     def _repr_html_(self) -> str | None:
         """Pictures of the first solutions, for notebooks; None where the problem has none.
