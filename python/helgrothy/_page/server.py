@@ -3,32 +3,31 @@
 It listens on 127.0.0.1 alone. Its address has a word that nobody guesses; another site's page, which may send requests
 to a local address, doesn't know it, and is refused by its name (`Host`) and its origin besides. Nothing is read from
 the address but that word and the name of a request, so no file is served.
+
+`http.server` reads the requests, by a thread for each connection; `waiting` sees to it that these are few.
 """
 
 from __future__ import annotations
 
 import hmac
-import os
 import re
 import secrets
-import select
-import signal
 import socket
-import subprocess
 import sys
 import threading
 import time
 from collections.abc import Callable
 from contextlib import suppress
-from pathlib import Path
+from http.server import BaseHTTPRequestHandler, ThreadingHTTPServer
+from socketserver import TCPServer
+from typing import Any
 
 from .._text.shown import shown
 from ..errors import reason_of
-from .answer import MOST_SECONDS
+from .answering import Answer, pass_on
 from .document import document, policy
-from .folders import Folder
-from .heads import Head, head, message
-from .lobby import BUSY, LATE, PATIENCE, Lobby
+from .heads import head, message
+from .waiting import BUSY, Waiting
 
 HOST = "127.0.0.1"
 _BODIES = ["ask.html", "viewer.html"]
@@ -39,59 +38,43 @@ _BACKLOG = 128
 # Bytes of a request; requests at once of those who know the word, and processes that answer them.
 _MOST_BYTES = 1 << 20
 _MOST_AT_ONCE, _MOST_PROCESSES = 32, 6
-# Seconds for a piece of an answer to be taken, and for a process to end.
+# Seconds for a piece of an answer to be taken.
 _PATIENCE = 20.0
-_MORE_SECONDS = 30.0
 _CHUNK = 1 << 16
-# What a process that answers runs, from where this package lies. Where other packages lie beside it, as in
-# site-packages, none of them may stand for a module of Python.
-_ANSWER = """\
-import sys
-package = sys.argv.pop(1)
-sys.path.insert(len(sys.path) if package.endswith("-packages") else 0, package)
-from helgrothy._page.answer import run
-run()
-"""
-_BYTECODE = ["-B"] if sys.dont_write_bytecode else []
-_PACKAGE = str(Path(__file__).absolute().parents[2])
+# Seconds until the system may give a file or a thread again.
+_PAUSE = 0.05
+_LINE = re.compile(rb"[!-~]+ ([!-~]+) HTTP/1\.[01]\r?\n\Z")
 _LENGTH = re.compile(r"[0-9]{1,9}\Z")
-_NOTHING = message(404, "nothing is here")
 _NO_END = b'{"error":"it took more time or memory than it may"}\n'
 
 
-class Server:
+class Server(ThreadingHTTPServer):
     """A server of the page, at a port that is free (0) or a given one. `close` ends all that it started.
 
     Raises `OSError`.
     """
 
+    daemon_threads = True
+    block_on_close = False
+    request_queue_size = _BACKLOG
+
     def __init__(self, port: int, data: str) -> None:
         self.word = secrets.token_urlsafe(32)
         page = document(_BODIES, "Helgrothy", _SCRIPTS, [data], connects=True).encode()
         rules = f"{policy(_SCRIPTS, connects=True)}; frame-ancestors 'none'"
-        self._page = head(200, "text/html", rules, len(page)) + page
+        self.page = head(200, "text/html", rules, len(page)) + page
+        self.waiting = Waiting()
         self._answers: set[Answer] = set()
         self._lock = threading.Lock()
         self._is_closed = False
-        self._is_over = False
         self._requests = threading.BoundedSemaphore(_MOST_AT_ONCE)
         self._processes = threading.BoundedSemaphore(_MOST_PROCESSES)
-        self._listener = socket.create_server((HOST, port), backlog=_BACKLOG)
-        self.port = int(self._listener.getsockname()[1])
-        self._lobby = Lobby(self._listener, self._take)
+        super().__init__((HOST, port), _Request)
+        self.port = int(self.server_address[1])
 
     @property
     def address(self) -> str:
         return f"http://{HOST}:{self.port}/{self.word}/"
-
-    def serve_forever(self, poll_interval: float) -> None:
-        """Answers until `shutdown` was called, which is seen after so many seconds."""
-        while not self._is_over:
-            self._lobby.step(poll_interval)
-
-    def shutdown(self) -> None:
-        """Has `serve_forever` return."""
-        self._is_over = True
 
     def close(self) -> None:
         """Ends the processes that answer, with all that they run."""
@@ -100,77 +83,76 @@ class Server:
             answers = list(self._answers)
         for answer in answers:
             answer.close()
-        self._lobby.close()
-        self._listener.close()
+        self.waiting.close()
+        self.server_close()
 
-    # ---- who is welcome
+    # ---- connections, by the thread that serves
 
-    def _take(self, connection: socket.socket, raw: bytes, begun: bytes) -> bytes:
-        """Has a request answered by a thread, or gives why not. Who isn't welcome learns nothing but that."""
+    def server_bind(self) -> None:
+        # That of `HTTPServer` looks for the machine's name as well, which may take long.
+        TCPServer.server_bind(self)
+
+    def get_request(self) -> tuple[socket.socket, Any]:
         try:
-            asked = Head.of(raw)
-        except ValueError:
-            return message(400)
-        rest = self._rest(asked)
-        if asked.method == "GET" and rest == "":
-            return self._begin(connection, self._send_page)
-        if asked.method == "POST" and rest in _REQUESTS and _is_of_page(asked):
-            length = _length(asked)
-            if length < 0:
-                return message(411, "a request says how long it is")
-            if length > _MOST_BYTES:
-                return message(413, f"a request has at most {_MOST_BYTES} bytes")
-            return self._begin(connection, lambda its: self._answer(its, begun, length))
-        return _NOTHING if asked.method in ("GET", "POST") else message(501)
+            return super().get_request()
+        except OSError:
+            # There are too many open files: one is closed in a moment.
+            self.waiting.dismiss_first()
+            time.sleep(_PAUSE)
+            raise
 
-    def _rest(self, asked: Head) -> str:
-        """What stands after the word in the address; something that is nothing where the word isn't there."""
-        start, *words = asked.path.split("/", 2)
-        is_known = not start and len(words) == 2 and hmac.compare_digest(words[0], self.word)
-        is_here = asked.fields.get_all("Host") in ([f"{HOST}:{self.port}"], [f"localhost:{self.port}"])
-        return words[1] if is_known and is_here else "/"
-
-    def _begin(self, connection: socket.socket, act: Callable[[socket.socket], None]) -> bytes:
-        """Has a thread act on a connection, or gives why not."""
-        if not self._requests.acquire(blocking=False):
-            return BUSY
+    def process_request(self, request: Any, client_address: Any) -> None:
+        self.waiting.come(request)
         try:
-            threading.Thread(target=self._act, args=[connection, act], daemon=True).start()
+            super().process_request(request, client_address)
         except RuntimeError:
-            # The system gives no more threads.
-            self._requests.release()
-            return BUSY
-        return b""
+            # The system gives no more threads. What is asked mostly comes in a moment, and unread it would take the
+            # answer back.
+            time.sleep(_PAUSE)
+            with suppress(OSError):
+                request.setblocking(False)
+                request.recv(_CHUNK)
+            with suppress(OSError):
+                request.send(BUSY)
+            self.shutdown_request(request)
 
-    # ---- what is answered, by a thread of its own
+    def service_actions(self) -> None:
+        self.waiting.dismiss_late()
 
-    def _act(self, connection: socket.socket, act: Callable[[socket.socket], None]) -> None:
+    # ---- the end of a connection, by its own thread
+
+    def shutdown_request(self, request: Any) -> None:
+        self.waiting.go(request)
+        super().shutdown_request(request)
+
+    def handle_error(self, request: Any, client_address: Any) -> None:
+        # Whoever asked may be gone at any time.
+        if not isinstance(sys.exc_info()[1], OSError):
+            super().handle_error(request, client_address)
+
+    # ---- what is answered to those who know the word
+
+    def admit(self, act: Callable[[], None]) -> bool:
+        """Does what a request asks for. False where too many are asked at once."""
+        if not self._requests.acquire(blocking=False):
+            return False
         try:
-            with connection, suppress(OSError):
-                connection.settimeout(_PATIENCE)
-                act(connection)
-                connection.shutdown(socket.SHUT_WR)
+            act()
         finally:
             self._requests.release()
+        return True
 
-    def _send_page(self, connection: socket.socket) -> None:
-        connection.sendall(self._page)
-
-    def _answer(self, connection: socket.socket, begun: bytes, length: int) -> None:
-        try:
-            request = _body(connection, begun, length)
-        except socket.timeout:
-            connection.sendall(LATE)
-            return
+    def answer(self, connection: socket.socket, request: bytes) -> None:
+        """Answers a request by a process."""
         if not self._processes.acquire(blocking=False):
             connection.sendall(BUSY)
             return
         try:
-            self._answer_by_process(connection, request)
+            self._answer(connection, request)
         finally:
             self._processes.release()
 
-    def _answer_by_process(self, connection: socket.socket, request: bytes) -> None:
+    def _answer(self, connection: socket.socket, request: bytes) -> None:
         try:
             answer = Answer(request)
         except OSError as error:
@@ -183,7 +165,7 @@ class Server:
             if not is_closed:
                 connection.sendall(head(200, "application/x-ndjson"))
                 # The server's own end is told by that of the connection.
-                if _pass_on(connection, answer) and not self._is_closed:
+                if pass_on(connection, answer) and not self._is_closed:
                     connection.sendall(_NO_END)
         finally:
             answer.close()
@@ -191,101 +173,103 @@ class Server:
                 self._answers.discard(answer)
 
 
-def _is_of_page(asked: Head) -> bool:
-    """Whether the page sent it: a browser says from where a page sends something, and asks before it sends JSON."""
-    fields = asked.fields
-    is_own = fields.get("Origin") == f"http://{fields.get('Host')}"
-    is_near = fields.get("Sec-Fetch-Site", "same-origin") == "same-origin"
-    return is_own and is_near and fields.get("Content-Type") == "application/json"
+class _Request(BaseHTTPRequestHandler):
+    """A request. Who isn't welcome learns nothing but that."""
 
+    server: Server
+    raw_requestline: bytes
+    # Of a read or a write, whichever; `waiting` has that of a request as a whole.
+    timeout = _PATIENCE
 
-def _length(asked: Head) -> int:
-    """How many bytes follow the head; -1 where it doesn't say that."""
-    told: list[str] = asked.fields.get_all("Content-Length", [])
-    is_told = len(told) == 1 and _LENGTH.match(told[0]) and not asked.fields.get("Transfer-Encoding")
-    return int(told[0]) if is_told else -1
+    def handle(self) -> None:
+        first = self.connection.recv(1, socket.MSG_PEEK)
+        if first and first < b" ":
+            # It is no text, as where HTTPS is spoken, and may have no line.
+            self._refuse(400)
+        elif first:
+            super().handle()
 
-
-def _body(connection: socket.socket, begun: bytes, length: int) -> bytes:
-    """What follows the head. Raises `socket.timeout` where that takes too long, and `OSError` where it doesn't come."""
-    deadline = time.monotonic() + PATIENCE
-    body = bytearray(begun[:length])
-    while len(body) < length:
-        connection.settimeout(max(deadline - time.monotonic(), 0.001))
-        piece = connection.recv(min(length - len(body), _CHUNK))
-        if not piece:
-            raise ConnectionResetError
-        body += piece
-    connection.settimeout(_PATIENCE)
-    return bytes(body)
-
-
-def _pass_on(connection: socket.socket, answer: Answer) -> bool:
-    """Passes an answer on as it comes, as long as anybody is there for it. Returns whether it breaks off."""
-    deadline = time.monotonic() + MOST_SECONDS + _MORE_SECONDS
-    while True:
-        ready = select.select([answer.out, connection], [], [], max(deadline - time.monotonic(), 0))[0]
-        if connection in ready:
-            # Whoever asked is gone, or says more than is wanted.
+    def parse_request(self) -> bool:
+        line = _LINE.match(self.raw_requestline)
+        if line is None:
+            self._refuse(400)
             return False
-        chunk = answer.read() if ready else b""
-        if not chunk:
-            break
-        connection.sendall(chunk)
-    return not (ready and answer.is_whole())
+        if not super().parse_request():
+            return False
+        # As it was sent, and one request of each connection.
+        self.path, self.close_connection = line[1].decode(), True
+        return True
 
+    def do_GET(self) -> None:
+        if self._rest() != "":
+            self._refuse(404, "nothing is here")
+        elif self.server.waiting.go(self.connection) and not self.server.admit(self._send_page):
+            self.connection.sendall(BUSY)
 
-class Answer:
-    """A process that answers a request, in a folder of its own, and in a group with the programs that it runs.
+    def do_POST(self) -> None:
+        if self._rest() not in _REQUESTS or not self._is_of_page():
+            self._refuse(404, "nothing is here")
+            return
+        length = self._length()
+        if length < 0:
+            self._refuse(411, "a request says how long it is")
+        elif length > _MOST_BYTES:
+            self._refuse(413, f"a request has at most {_MOST_BYTES} bytes")
+        elif not self.server.admit(lambda: self._answer(length)):
+            self._refuse(503, "too much is asked at once")
 
-    Raises `OSError`.
-    """
+    def _send_page(self) -> None:
+        self.connection.sendall(self.server.page)
 
-    def __init__(self, request: bytes) -> None:
-        self._lock = threading.Lock()
-        self._folder = Folder()
-        try:
-            self._process = subprocess.Popen(
-                [sys.executable, "-I", *_BYTECODE, "-c", _ANSWER, _PACKAGE],
-                stdin=subprocess.PIPE,
-                stdout=subprocess.PIPE,
-                stderr=subprocess.DEVNULL,
-                cwd=self._folder.work,
-                pass_fds=[self._folder.lock],
-                start_new_session=True,
-                bufsize=0,
-            )
-        except BaseException:
-            self._folder.remove()
-            raise
-        assert self._process.stdin is not None and self._process.stdout is not None
-        self.out = self._process.stdout.fileno()
-        raw = memoryview(b"%d\n%b" % (len(request), request))
-        with suppress(BrokenPipeError):
-            while raw:
-                raw = raw[self._process.stdin.write(raw) :]
+    def _answer(self, length: int) -> None:
+        waiting = self.server.waiting
+        if not waiting.stay(self.connection, is_known=True):
+            return
+        body = self.rfile.read(length)
+        if waiting.go(self.connection) and len(body) == length:
+            self.server.answer(self.connection, body)
 
-    def read(self) -> bytes:
-        """What the process says next; nothing at its end."""
-        return os.read(self.out, _CHUNK)
+    # ---- who is welcome
 
-    def is_whole(self) -> bool:
-        """Whether the process, which says no more, ended by itself."""
-        with suppress(subprocess.TimeoutExpired):
-            return self._process.wait(_PATIENCE) == 0
-        return False
+    def _rest(self) -> str:
+        """What stands after the word in the address; something that is nothing where the word isn't there."""
+        start, *words = self.path.split("/", 2)
+        server = self.server
+        is_known = not start and len(words) == 2 and hmac.compare_digest(words[0], server.word)
+        is_here = self.headers.get_all("Host") in ([f"{HOST}:{server.port}"], [f"localhost:{server.port}"])
+        return words[1] if is_known and is_here else "/"
 
-    def close(self) -> None:
-        """Ends the process and its programs, if they still run, and removes the folder."""
-        with self._lock:
-            if self._process.stdin is None or self._process.stdin.closed:
-                return
-            # The group is there as long as its first process wasn't waited for, whether that runs or not.
-            if self._process.returncode is None:
-                with suppress(OSError):
-                    os.killpg(self._process.pid, signal.SIGKILL)
-            self._process.wait()
-            for pipe in (self._process.stdin, self._process.stdout):
-                if pipe is not None:
-                    pipe.close()
-            self._folder.remove()
+    def _is_of_page(self) -> bool:
+        """Whether the page sent it: a browser says from where a page sends something, and asks before it sends JSON."""
+        fields = self.headers
+        is_own = fields.get("Origin") == f"http://{fields.get('Host')}"
+        is_near = fields.get("Sec-Fetch-Site", "same-origin") == "same-origin"
+        return is_own and is_near and fields.get("Content-Type") == "application/json"
+
+    def _length(self) -> int:
+        """How many bytes follow the head; -1 where it doesn't say that."""
+        told: list[str] = self.headers.get_all("Content-Length", [])
+        is_told = len(told) == 1 and _LENGTH.match(told[0]) and not self.headers.get("Transfer-Encoding")
+        return int(told[0]) if is_told else -1
+
+    # ---- who isn't
+
+    def _refuse(self, status: int, text: str = "") -> None:
+        """Answers that, and lets the other side end: who is cut off while it sends may never read the answer."""
+        self.close_connection = True
+        if not self.server.waiting.stay(self.connection, is_told=True):
+            return
+        self.connection.sendall(message(status, text))
+        self.connection.shutdown(socket.SHUT_WR)
+        while self.connection.recv(_CHUNK):
+            pass
+
+    def send_error(self, code: int, message: str | None = None, explain: str | None = None) -> None:
+        self._refuse(501 if code == 501 else 400)
+
+    def handle_expect_100(self) -> bool:
+        # Nothing is said before it is known who asks.
+        return True
+
+    def log_message(self, *_: object) -> None:
+        pass
