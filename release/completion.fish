@@ -62,14 +62,10 @@ set -g __helgrothy_commands \
     'helgrothy draw' \
     'helgrothy lint' \
     'helgrothy export' \
-    'helgrothy import' \
     'helgrothy why' \
     'helgrothy count' \
     'helgrothy page' \
     'helgrothy search' \
-    'helgrothy status' \
-    'helgrothy result' \
-    'helgrothy rows' \
     'helgrothy hint' \
     'helgrothy hint sudoku' \
     'helgrothy hint queens' \
@@ -138,8 +134,9 @@ set -g __helgrothy_valued \
     'helgrothy search --seconds' \
     'helgrothy search --folder' \
     'helgrothy search --for' \
-    'helgrothy rows --count' \
-    'helgrothy rows --for' \
+    'helgrothy search --status' \
+    'helgrothy search --result' \
+    'helgrothy search --rows' \
     'helgrothy hint --with' \
     'helgrothy hint --without' \
     'helgrothy hint --seconds' \
@@ -332,17 +329,13 @@ complete -c helgrothy -n '__helgrothy_is \'helgrothy\'' -s h -l help -d 'show th
 complete -c helgrothy -n '__helgrothy_is \'helgrothy\'' -l version -d 'show program\'s version number and exit'
 complete -c helgrothy -n '__helgrothy_is \'helgrothy\' 1' -a make -d 'write a problem'
 complete -c helgrothy -n '__helgrothy_is \'helgrothy\' 1' -a solve -d 'solve a problem and draw what is found'
-complete -c helgrothy -n '__helgrothy_is \'helgrothy\' 1' -a draw -d 'draw a listing'
+complete -c helgrothy -n '__helgrothy_is \'helgrothy\' 1' -a draw -d 'draw a listing, or another solver\'s answer'
 complete -c helgrothy -n '__helgrothy_is \'helgrothy\' 1' -a lint -d 'report all faults and slips of a problem'
 complete -c helgrothy -n '__helgrothy_is \'helgrothy\' 1' -a export -d 'write a problem for another solver'
-complete -c helgrothy -n '__helgrothy_is \'helgrothy\' 1' -a import -d 'read another solver\'s answer as a listing'
 complete -c helgrothy -n '__helgrothy_is \'helgrothy\' 1' -a why -d 'report which items conflict where there is no solution'
 complete -c helgrothy -n '__helgrothy_is \'helgrothy\' 1' -a count -d 'count the solutions of a problem'
 complete -c helgrothy -n '__helgrothy_is \'helgrothy\' 1' -a page -d 'a local page to type a problem in'
 complete -c helgrothy -n '__helgrothy_is \'helgrothy\' 1' -a search -d 'count or list all solutions, by all processors or many machines'
-complete -c helgrothy -n '__helgrothy_is \'helgrothy\' 1' -a status -d 'report how far a search is'
-complete -c helgrothy -n '__helgrothy_is \'helgrothy\' 1' -a result -d 'print what a search that is done has found'
-complete -c helgrothy -n '__helgrothy_is \'helgrothy\' 1' -a rows -d 'print rows at which a search may be cut'
 complete -c helgrothy -n '__helgrothy_is \'helgrothy\' 1' -a hint -d 'report a step that is forced, and why'
 complete -c helgrothy -n '__helgrothy_is \'helgrothy\' 1' -a minimal -d 'drop what is given while there is one solution'
 complete -c helgrothy -n '__helgrothy_is \'helgrothy\' 1' -a sudoku -d 'make and solve a Sudoku from its clues'
@@ -433,6 +426,7 @@ complete -c helgrothy -n '__helgrothy_is \'helgrothy draw\'' -l html -d 'a page 
 complete -c helgrothy -n '__helgrothy_is \'helgrothy draw\'' -l json -d 'a line of JSON for each solution: its number, and the rows of the table that is drawn; where none is, the numbers of its options, their items, and the colours'
 complete -c helgrothy -n '__helgrothy_is \'helgrothy draw\'' -l csv -d 'the table that is drawn as CSV; where none is, a line for each choice'
 complete -c helgrothy -n '__helgrothy_is \'helgrothy draw\'' -l options -d 'of --json and --csv: the options, also where a table is drawn'
+complete -c helgrothy -n '__helgrothy_is \'helgrothy draw\'' -l listing -d 'an answer as a listing, for dlxcheck to judge'
 complete -c helgrothy -n '__helgrothy_is \'helgrothy draw\'' -l cell -r -f -d 'a regular expression that finds the cells, as whole words, in an option\'s line; its first two groups (or those named row and column) are row and column, a number or a single letter, and a third one its label'
 complete -c helgrothy -n '__helgrothy_is \'helgrothy draw\'' -l row -r -f -d 'a regular expression that finds the name of a row in the words of an option: the picture is a table of these names, in the order of the file'
 complete -c helgrothy -n '__helgrothy_is \'helgrothy draw\'' -l column -r -f -d 'a regular expression that finds the name of a column in the words of an option: the picture is a table of these names, in the order of the file'
@@ -440,7 +434,6 @@ complete -c helgrothy -n '__helgrothy_is \'helgrothy draw\'' -l label -r -f -d '
 complete -c helgrothy -n '__helgrothy_is \'helgrothy lint\'' -s h -l help -d 'show this help message and exit'
 complete -c helgrothy -n '__helgrothy_is \'helgrothy lint\'' -l for -r -f -a 'dlx1 dlx2 dlx3' -d 'default: dlx3'
 complete -c helgrothy -n '__helgrothy_is \'helgrothy export\'' -s h -l help -d 'show this help message and exit'
-complete -c helgrothy -n '__helgrothy_is \'helgrothy import\'' -s h -l help -d 'show this help message and exit'
 complete -c helgrothy -n '__helgrothy_is \'helgrothy why\'' -s h -l help -d 'show this help message and exit'
 complete -c helgrothy -n '__helgrothy_is \'helgrothy why\'' -l seconds -r -f -d 'the time (default: 10)'
 complete -c helgrothy -n '__helgrothy_is \'helgrothy count\'' -s h -l help -d 'show this help message and exit'
@@ -456,12 +449,9 @@ complete -c helgrothy -n '__helgrothy_is \'helgrothy search\'' -l dask -r -f -d 
 complete -c helgrothy -n '__helgrothy_is \'helgrothy search\'' -l seconds -r -f -d 'stop after S seconds, with status 6'
 complete -c helgrothy -n '__helgrothy_is \'helgrothy search\'' -l folder -r -f -a '(__fish_complete_directories)' -d 'keep what is done here (default: PROBLEM.search, removed at the end)'
 complete -c helgrothy -n '__helgrothy_is \'helgrothy search\'' -l for -r -f -a 'dlx1 dlx2 dlx3' -d 'the program (default: the first that takes such a text)'
-complete -c helgrothy -n '__helgrothy_is \'helgrothy status\'' -s h -l help -d 'show this help message and exit'
-complete -c helgrothy -n '__helgrothy_is \'helgrothy result\'' -s h -l help -d 'show this help message and exit'
-complete -c helgrothy -n '__helgrothy_is \'helgrothy result\'' -l list -d 'list the solutions, of a search with --list'
-complete -c helgrothy -n '__helgrothy_is \'helgrothy rows\'' -s h -l help -d 'show this help message and exit'
-complete -c helgrothy -n '__helgrothy_is \'helgrothy rows\'' -l count -r -f -d 'up to N rows (default: 100)'
-complete -c helgrothy -n '__helgrothy_is \'helgrothy rows\'' -l for -r -f -a 'dlx1 dlx2 dlx3' -d 'the program (default: the first that takes such a text)'
+complete -c helgrothy -n '__helgrothy_is \'helgrothy search\'' -l status -r -f -a '(__fish_complete_directories)' -d 'report how far the search of this folder is, and about how long the rest takes'
+complete -c helgrothy -n '__helgrothy_is \'helgrothy search\'' -l result -r -f -a '(__fish_complete_directories)' -d 'print what the search of this folder has found, its number of solutions or, with --list, the solutions; nothing, with status 6, while something is left'
+complete -c helgrothy -n '__helgrothy_is \'helgrothy search\'' -l rows -r -f -d 'print up to N rows at which a search of PROBLEM may be cut, for queues that run programs and nothing else: dlx-span searches between two of them, and dlx-join puts the texts together'
 complete -c helgrothy -n '__helgrothy_is \'helgrothy hint\'' -s h -l help -d 'show this help message and exit'
 complete -c helgrothy -n '__helgrothy_is \'helgrothy hint\'' -l with -r -f -d 'only solutions with the option that has these items, as many as it takes to be clear; may be repeated'
 complete -c helgrothy -n '__helgrothy_is \'helgrothy hint\'' -l without -r -f -d 'only solutions without the options that have all of these items, or patterns of them; may be repeated'
@@ -881,14 +871,9 @@ complete -c helgrothy -n '__helgrothy_is \'helgrothy draw\' 1' -f -a '(__fish_co
 complete -c helgrothy -n '__helgrothy_is \'helgrothy lint\' 1' -f -a '(__fish_complete_suffix .dlx)'
 complete -c helgrothy -n '__helgrothy_is \'helgrothy export\' 1' -f -a 'asp cnf opb'
 complete -c helgrothy -n '__helgrothy_is \'helgrothy export\' 2' -f -a '(__fish_complete_suffix .dlx)'
-complete -c helgrothy -n '__helgrothy_is \'helgrothy import\' 1' -f -a 'cadical clasp'
-complete -c helgrothy -n '__helgrothy_is \'helgrothy import\' 2' -f -a '(__fish_complete_suffix .dlx)'
 complete -c helgrothy -n '__helgrothy_is \'helgrothy why\' 1' -f -a '(__fish_complete_suffix .dlx)'
 complete -c helgrothy -n '__helgrothy_is \'helgrothy count\' 1' -f -a '(__fish_complete_suffix .dlx)'
 complete -c helgrothy -n '__helgrothy_is \'helgrothy search\' 1' -f -a '(__fish_complete_suffix .dlx)'
-complete -c helgrothy -n '__helgrothy_is \'helgrothy status\' 1' -f -a '(__fish_complete_directories)'
-complete -c helgrothy -n '__helgrothy_is \'helgrothy result\' 1' -f -a '(__fish_complete_directories)'
-complete -c helgrothy -n '__helgrothy_is \'helgrothy rows\' 1' -f -a '(__fish_complete_suffix .dlx)'
 complete -c helgrothy -n '__helgrothy_is \'helgrothy hint sudoku\' 1' -F
 complete -c helgrothy -n '__helgrothy_is \'helgrothy hint queens\' 1' -F
 complete -c helgrothy -n '__helgrothy_is \'helgrothy hint polyominoes\' 1' -F -a 'pentominoes tetrominoes'

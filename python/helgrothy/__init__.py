@@ -11,21 +11,23 @@ The modules, which need no import of their own:
     make      makes problems that people know, such as `make.sudoku.problem(..)`
     draw      draws solutions as boards; `table` as tables
     data      writes solutions as JSON and CSV
-    shuffle   gives solutions in a random order
     symmetry  gives one solution of those that are images of each other
-    cost      finds the solution that costs least; `wishes` has costs by the names of items
-    given     has the solutions with some options and without others; `hint` finds a step that is forced
+    hint      finds a step that is forced
+    cost      has what `solve(cost=..)` gives and raises; `wishes` has costs by the names of items
+    given     has a problem with some options and without others, as `solve(given=..)` searches it
+    shuffle   has the random order of `solve(seed=..)`
     minimal   finds out which of the options that are given a single solution takes
     lint      looks for slips in the text of a problem
     why       says why a problem has no solution
     export    writes problems for other solvers; `answers` reads what they answer
+    engines   finds one solution by other engines as well as the programs
 
-`Problem.count(jobs=..)` searches by many processors. `python3 -m helgrothy --help` has the same as commands. Modules
-that aren't named here, and names that begin with an underscore, are the package's own.
+The classes have their modules, `problem` and `errors`, and what begins with an underscore is the package's own.
+`Problem.count(jobs=..)` searches by many processors. `python3 -m helgrothy --help` has the same as commands.
 """
 
 # First, since it says where the modules of all that follows may come from.
-from . import alone  # noqa: F401, I001
+from . import _alone  # noqa: F401, I001
 from importlib import import_module
 from typing import TYPE_CHECKING, Any
 
@@ -48,6 +50,11 @@ if TYPE_CHECKING:
         why,
         wishes,
     )
+    from ._run.solution import Listed, Solution
+    from ._run.stream import Solutions
+    from ._spans import Progress
+    from ._text.listing import Null, Step
+    from ._text.syntax import Bounds
     from .errors import (
         AnswerFault,
         Fault,
@@ -62,12 +69,7 @@ if TYPE_CHECKING:
         TableFault,
         UnknownChoice,
     )
-    from .listing import Null, Step
     from .problem import Problem
-    from .solution import Listed, Solution
-    from .spans import Progress
-    from .stream import Solutions
-    from .syntax import Bounds
 
 __version__ = "0.1.0"
 __all__ = [
@@ -112,14 +114,14 @@ __all__ = [
 # Where the names come from that are neither modules nor errors. All are loaded when they are first used, so that a
 # command waits for no module that it doesn't need.
 _HOMES = {
-    "Bounds": "syntax",
-    "Listed": "solution",
-    "Null": "listing",
+    "Bounds": "_text.syntax",
+    "Listed": "_run.solution",
+    "Null": "_text.listing",
     "Problem": "problem",
-    "Progress": "spans",
-    "Solution": "solution",
-    "Solutions": "stream",
-    "Step": "listing",
+    "Progress": "_spans",
+    "Solution": "_run.solution",
+    "Solutions": "_run.stream",
+    "Step": "_text.listing",
 }
 
 

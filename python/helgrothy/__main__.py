@@ -9,7 +9,7 @@ from typing import NoReturn
 
 def main(words: Sequence[str] | None = None) -> int:
     """Does what the arguments of a command say; returns its status."""
-    from . import commands
+    from ._cli import commands
 
     return commands.main(sys.argv[1:] if words is None else list(words))
 

@@ -11,13 +11,13 @@ from collections.abc import Callable, Iterable, Iterator, Sequence
 from functools import partial
 from typing import Any, TypeVar
 
+from ._run.solution import Solution
+from ._run.wire import OfNumbers
+from ._text.shown import text_of
 from .errors import AnswerFault
 from .problem import Problem
-from .shown import text_of
-from .solution import Solution
-from .wire import OfNumbers
 
-__all__ = ["SOLVERS", "solutions"]
+__all__ = ["ANY", "SOLVERS", "begins", "solutions"]
 
 Option = TypeVar("Option", bound=Any)
 
@@ -36,10 +36,27 @@ _TOLD = {
     ),
 }
 SOLVERS = tuple(_TOLD)
+# Either of them, for `solutions`: clasp prints lines of both kinds.
+ANY = " or ".join(SOLVERS)
+# What an answer without values may have been made without.
+_HINTS = {
+    "cadical": "without -n it prints the values",
+    "clasp": "without -q it prints the answers",
+    ANY: "cadical without -n prints the values, clasp without -q the answers",
+}
+
+
+def begins(line: bytes) -> bool:
+    """Whether an answer may begin with this line. A listing doesn't: its first line is a number and a colon."""
+    text = text_of(line).rstrip()
+    words = text.split()
+    if words[:1] == ["v"] or words and all(map(_ATOM.match, words)):
+        return True
+    return any(form.match(text) for form in (_STATUS, _ANSWER, *_TOLD.values()))
 
 
 def solutions(solver: str, problem: Problem[Option], lines: Iterable[bytes]) -> Iterator[Solution[Option]]:
-    """The answers in what a solver printed, from its lines: the options that each takes.
+    """The answers in what a solver printed, from its lines: the options of each. solver: one of `SOLVERS`, or `ANY`.
 
     None comes where the solver says that there is none. Whether they are solutions isn't judged; `Problem.check` does.
     Raises `AnswerFault`.
@@ -57,7 +74,7 @@ def _answers(reader: _Reader, lines: Iterable[bytes]) -> Iterator[list[int]]:
 class _Reader:
     def __init__(self, solver: str, problem: Problem[Any]) -> None:
         self._solver = solver
-        self._told = _TOLD[solver]
+        self._told = _TOLD["clasp" if solver == ANY else solver]
         self._options = len(problem.options)
         self._status: str | None = None
         self._has_answer = False
@@ -79,9 +96,9 @@ class _Reader:
         status = _STATUS.match(line)
         if status is not None:
             self._status = status.group(1)
-        elif self._solver == "clasp" and _ANSWER.match(line):
+        elif self._solver != "cadical" and _ANSWER.match(line):
             self._follows = True
-        elif self._solver == "clasp" and (words and all(map(_ATOM.match, words)) or follows and not words):
+        elif self._solver != "cadical" and (words and all(map(_ATOM.match, words)) or follows and not words):
             yield self._atoms(words)
         elif words and not self._told.match(line):
             raise AnswerFault(number, line[:60], f"no line of an answer of {self._solver}")
@@ -94,8 +111,7 @@ class _Reader:
             return
         if self._status is None:
             raise AnswerFault(self._number, "", f"there is no answer: {self._solver} says whether there is a solution")
-        hint = "without -n it prints the values" if self._solver == "cadical" else "without -q it prints the answers"
-        reason = "it found none in its time" if self._status == "UNKNOWN" else f"no values; {hint}"
+        reason = "it found none in its time" if self._status == "UNKNOWN" else f"no values; {_HINTS[self._solver]}"
         raise AnswerFault(self._number, self._status, reason)
 
     def _literals(self, words: Sequence[str]) -> Iterator[list[int]]:

@@ -24,17 +24,18 @@ from contextlib import closing
 from fractions import Fraction
 from typing import Any, Generic, TypeVar, Union
 
-from . import answers, export, sat_solver
-from .amounts import A_NUMBER, is_number
+from . import answers, export
+from ._reason import sat_solver
+from ._reason.prices import PARTS, Prices
+from ._reason.sat_solver import Engine, Heard, NoAnswer
+from ._reason.states import Sweep
+from ._run.programs import Run
+from ._run.solution import Solution, Source
+from ._run.wire import OfNumbers
+from ._text.amounts import A_NUMBER, is_number
+from ._text.shown import bytes_of
 from .errors import AnswerFault, OutOfTime, ProgramFailed, TableFault
-from .prices import PARTS, Prices
 from .problem import Problem
-from .programs import Run
-from .sat_solver import Engine, Heard, NoAnswer
-from .shown import bytes_of
-from .solution import Solution, Source
-from .states import Sweep
-from .wire import OfNumbers
 
 __all__ = ["Cost", "Least", "NotLeast", "least", "read"]
 

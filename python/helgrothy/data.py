@@ -16,9 +16,9 @@ from abc import ABC, abstractmethod
 from collections.abc import Callable, Iterable, Iterator, Mapping, Sequence
 from typing import Any, Optional
 
+from ._text.sheet import Row, Sheet, sheet_of
+from ._text.shown import bytes_of, text_of
 from .problem import Problem
-from .sheet import Row, Sheet, sheet_of
-from .shown import bytes_of, text_of
 
 __all__ = ["FORMATS", "Csv", "Data", "Form", "Json", "as_table", "of_csv", "of_json", "to_csv", "to_json"]
 

@@ -17,14 +17,14 @@ import time
 from collections.abc import Callable, Generator
 from typing import Any, TypeVar
 
-from . import sat_solver
+from ._reason import sat_solver
+from ._reason.sat_solver import Asked, NoAnswer
+from ._run.programs import Run
+from ._run.solution import Solution
+from ._run.stream import Outcome, Solutions, sooner
+from ._run.wire import OfNumbers
 from .errors import HelgrothyError, OutOfTime
 from .problem import Problem
-from .programs import Run
-from .sat_solver import Asked, NoAnswer
-from .solution import Solution
-from .stream import Outcome, Solutions, sooner
-from .wire import OfNumbers
 
 __all__ = ["Claimed", "solve"]
 

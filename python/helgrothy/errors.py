@@ -4,7 +4,7 @@ from __future__ import annotations
 
 import os
 
-from .shown import shown
+from ._text.shown import shown
 
 
 class HelgrothyError(Exception):

@@ -11,7 +11,7 @@ from dataclasses import dataclass
 from itertools import zip_longest
 from typing import Any
 
-from .counting import Clauses
+from ._reason.counting import Clauses
 from .problem import Problem
 
 __all__ = ["FORMATS", "asp", "cnf", "opb"]

@@ -7,48 +7,107 @@ out. Solutions come as those of the problem itself.
 from __future__ import annotations
 
 from collections.abc import Callable, Hashable, Iterable, Iterator, Sequence
-from typing import Any, Generic, TypeVar
+from numbers import Integral
+from typing import TYPE_CHECKING, Any, Generic, TypeVar, Union
 
-from .listing import Step
-from .named import Named, told
+from ._run.solution import Solution
+from ._run.stream import Solutions
+from ._run.wire import OfNumbers
+from ._text.listing import Null, Step
+from ._text.named import Named, told
+from .errors import ProblemFault
 from .problem import Problem
-from .solution import Solution
-from .wire import OfNumbers
 
-__all__ = ["Given", "forbidden", "given"]
+if TYPE_CHECKING:
+    from ._run.cheapest import Cheapest
+    from .cost import Cost
+
+__all__ = ["Given", "Which", "forbidden", "given"]
 
 Option = TypeVar("Option", bound=Any)
+# What says an option: its number, the option itself, or a text of names.
+Which = Union[int, Iterable[Hashable]]
 
 
-def given(problem: Problem[Any], options: Sequence[str]) -> list[int]:
-    """The places of options, each said by items that it alone has, `r1c3 r1=4`. Raises `ValueError`, with the nearest
-    ones, for words that no option has, or several."""
+def given(problem: Problem[Any], options: Iterable[Which], word: str = "given", *, by_names: bool = False) -> list[int]:
+    """The places of options, each said by its number, as it was passed to the problem, or as a text of items that it
+    alone has, `r1c3 r1=4`. Raises `ValueError`, with the nearest ones, for what says no option, or several.
+
+    word: what messages call them. by_names: a text is names of items, also if it is an option of its letters.
+    """
     found = []
-    for text, places in _found(problem, options, "--with"):
-        if len(places) > 1:
+    for text, places in _found(problem, options, word, by_names):
+        if len({problem.line(problem.options[place]) for place in places}) > 1:
             reason = f"{len(places)} options have this, name more items of one: {told(problem, places)}"
-            raise ValueError(f"--with {text}: {reason}")
+            raise ValueError(f"{word} {text}: {reason}")
+        if len(places) > 1:
+            raise ValueError(f"{word} {text}: the options {' '.join(map(str, places))} are equal; a number says one")
         found += places
     return found
 
 
-def forbidden(problem: Problem[Any], options: Sequence[str]) -> set[int]:
-    """The places of all options that are said by items, or patterns of them. Raises `ValueError` for words that no
-    option has."""
-    return {place for _, places in _found(problem, options, "--without") for place in places}
+def forbidden(
+    problem: Problem[Any], options: Iterable[Which], word: str = "forbidden", *, by_names: bool = False
+) -> set[int]:
+    """The places of options, said as those of `given`, but that a text, which may have patterns, is of all options that
+    have its items. Raises `ValueError` for what says no option."""
+    return {place for _, places in _found(problem, options, word, by_names) for place in places}
 
 
-def _found(problem: Problem[Any], options: Sequence[str], word: str) -> Iterator[tuple[str, list[int]]]:
-    """Each text with the places of the options that have its items, of which there is one at least."""
-    if not options:
-        return
-    named = Named(problem)
-    for text in options:
-        words = text.split()
-        places = named.having(words)
+def _found(
+    problem: Problem[Any], options: Iterable[Which], word: str, by_names: bool
+) -> Iterator[tuple[str, list[int]]]:
+    """What each option was said by, and the places that this says, of which there is one at least."""
+    if isinstance(options, str):
+        raise TypeError(f"{word} is of options, and this is a text: [{options!r}]")
+    said = _Said(problem, by_names)
+    for one in options:
+        text = one if isinstance(one, str) else repr(one)
+        places, reason = said.places(one)
         if not places:
-            raise ValueError(f"{word} {text}: {named.why_none(words) if words else 'it names no item'}")
+            raise ValueError(f"{word} {text}: {reason}")
         yield text, places
+
+
+class _Said:
+    """Options of a problem as they are said. What only some of them need is made when it is first asked for."""
+
+    def __init__(self, problem: Problem[Any], by_names: bool) -> None:
+        self._problem = problem
+        self._by_names = by_names
+        self._named: Named | None = None
+        # The places of the options by their uses.
+        self._alike: dict[frozenset[tuple[str, str | None]], list[int]] | None = None
+
+    def places(self, one: Which) -> tuple[list[int], str]:
+        """The places, or none and why."""
+        if isinstance(one, Integral):
+            place, last = int(one), len(self._problem.options) - 1
+            return ([place], "") if 0 <= place <= last else ([], f"the problem has the options 0 to {last}")
+        assert isinstance(one, Iterable)
+        places = [] if self._by_names else self._same(one)
+        if places or not isinstance(one, str):
+            return places, "no option is this; a text of names says one by some of its items"
+        if self._named is None:
+            self._named = Named(self._problem)
+        words = one.split()
+        places = self._named.having(words)
+        return places, "" if places else self._named.why_none(words) if words else "it names no item"
+
+    def _same(self, option: Iterable[Hashable]) -> list[int]:
+        """The places of the options that are equal to one."""
+        if self._alike is None:
+            self._alike = {}
+            for place, its in enumerate(self._problem.options):
+                self._alike.setdefault(self._key(its), []).append(place)
+        try:
+            return self._alike.get(self._key(option), [])
+        except (ProblemFault, TypeError):
+            # It has what is no item.
+            return []
+
+    def _key(self, option: Iterable[Hashable]) -> frozenset[tuple[str, str | None]]:
+        return frozenset(self._problem._uses(option).items())
 
 
 class Given(Generic[Option]):
@@ -72,10 +131,36 @@ class Given(Generic[Option]):
             self.inner = _marked(problem, self.places, marked)
         self._reader = _Outer(problem, self.places)
 
-    def solve(self, limit: int | None = None, *, seconds: float | None = None) -> Iterator[Solution[Option]]:
-        """The solutions of the problem. limit and seconds are those of `Problem.solve`."""
-        with self.inner.solve(limit, seconds=seconds) as solutions:
-            yield from map(self.outer, solutions)
+    def solve(
+        self,
+        limit: int | None = None,
+        spacing: int = 1,
+        *,
+        nulls: bool = False,
+        seconds: float | None = None,
+        seed: int | None = None,
+    ) -> Solutions[Option]:
+        """The solutions of the problem. What it takes is as of `Problem.solve`."""
+        if seed is None:
+            return self._all_of(self.inner.solve(limit, spacing, nulls=nulls, seconds=seconds), nulls)
+        from . import shuffle
+
+        if nulls:
+            raise ValueError("with a seed there are no nulls")
+        return self._all_of(shuffle.solve(self.inner, seed, limit, spacing, seconds=seconds))
+
+    def _all_of(self, searched: Solutions[Any], nulls: bool = False) -> Solutions[Option]:
+        """Solutions of what is searched as those of the problem."""
+        if self.inner is self.problem:
+            return searched
+        reader = _Outer(self.problem, self.places, nulls)
+        return searched._as(lambda solution: Solution(reader, solution))
+
+    def least(self, costs: Sequence[Cost] | str, seconds: float | None = None) -> Cheapest[Option]:
+        """The solution of least cost, if there is one. What it takes is as of `Problem.solve`."""
+        from ._run.cheapest import Cheapest
+
+        return Cheapest(self, costs, seconds)
 
     def outer(self, solution: Solution[Any]) -> Solution[Option]:
         """A solution of what is searched as one of the problem."""
@@ -122,12 +207,13 @@ def _marked(problem: Problem[Any], places: Iterable[int], marked: dict[int, str]
 class _Outer(OfNumbers[Any]):
     """Reads solutions of what is searched as those of the problem itself."""
 
-    def __init__(self, problem: Problem[Any], places: Sequence[int]) -> None:
-        super().__init__(problem)
+    def __init__(self, problem: Problem[Any], places: Sequence[int], nulls: bool = False) -> None:
+        super().__init__(problem, nulls)
         self._places = places
 
     def choices(self, told: Any) -> list[Any]:
-        return [self._places[number] for number in told.numbers]
+        numbers = iter(told.numbers)
+        return [choice if isinstance(choice, Null) else self._places[next(numbers)] for choice in told]
 
     def steps(self, told: Any) -> list[Step]:
         return [

@@ -8,12 +8,13 @@ from dataclasses import dataclass
 from itertools import islice
 from typing import Any
 
-from . import engines, sat_solver
+from . import engines
+from ._reason import sat_solver
+from ._reason.sums import search
+from ._text.shown import shown
+from ._text.syntax import COMMENT, Bounds, Sheet, read
 from .errors import ProgramFailed, ProgramNotFound
 from .problem import Problem
-from .shown import shown
-from .sums import search
-from .syntax import COMMENT, Bounds, Sheet, read
 
 __all__ = ["Remark", "lint"]
 

@@ -8,15 +8,15 @@ from __future__ import annotations
 
 import random
 import time
-from dataclasses import dataclass
 from collections.abc import Callable, Collection, Sequence
+from dataclasses import dataclass
 from typing import Any
 
+from ._text.named import told
+from ._text.sheet import teller
 from .errors import OutOfTime
 from .given import Given
-from .named import told
 from .problem import Problem
-from .sheet import teller
 from .shuffle import order
 from .shuffle import solve as shuffled
 

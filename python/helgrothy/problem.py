@@ -9,25 +9,28 @@ from collections import Counter
 from collections.abc import Callable, Generator, Hashable, Iterable, Iterator, Mapping, Sequence
 from functools import partial
 from numbers import Integral
-from typing import IO, TYPE_CHECKING, Any, Generic, NoReturn, TypeVar, Union
+from typing import IO, TYPE_CHECKING, Any, Generic, NoReturn, TypeVar, Union, overload
 
-from . import counter
-from . import listing as listings
+from ._run import counter
+from ._run.programs import Ending, Run
+from ._run.solution import Listed, Solution
+from ._run.stream import Outcome, Solutions, check_numbers, sooner
+from ._run.wire import OfListing, Wire
+from ._text import listing as listings
+from ._text.listing import Null
+from ._text.names import colour_names, item_names
+from ._text.shown import bytes_of, text_of
+from ._text.syntax import MOST_ITEMS, MOST_USES, ONCE, Bounds, Nearest, Sheet, bounds_fault, read
 from .errors import ListingFault, NoPicture, OutOfTime, ProblemFault, ProgramFailed
-from .listing import Null
-from .names import colour_names, item_names
-from .programs import Ending, Run
-from .shown import bytes_of, text_of
-from .solution import Listed, Solution
-from .stream import Outcome, Solutions, check_numbers, sooner
-from .syntax import MOST_ITEMS, MOST_USES, ONCE, Bounds, Nearest, Sheet, bounds_fault, read
-from .wire import OfListing, Wire
 
 if TYPE_CHECKING:
     from concurrent.futures import Executor
 
+    from ._run.cheapest import Cheapest
+    from ._spans import Progress
+    from .cost import Cost
     from .draw import Drawing, Pattern, Picture
-    from .spans import Progress
+    from .given import Given, Which
     from .table import Table
 
 _HASHABLE = "items and colours are hashable"
@@ -293,18 +296,81 @@ class Problem(Generic[Option]):
         """The problem as the programs read it."""
         return "".join(f"{line}\n" for line in self._lines())
 
+    @overload
     def solve(
-        self, limit: int | None = None, spacing: int = 1, *, nulls: bool = False, seconds: float | None = None
+        self,
+        limit: int | None = None,
+        spacing: int = 1,
+        *,
+        nulls: bool = False,
+        seconds: float | None = None,
+        seed: int | None = None,
+        given: Iterable[Which] | None = None,
+        forbidden: Iterable[Which] | None = None,
+        cost: None = None,
+    ) -> Solutions[Option]: ...
+
+    @overload
+    def solve(
+        self,
+        *,
+        cost: Sequence[Cost] | str,
+        seconds: float | None = None,
+        given: Iterable[Which] | None = None,
+        forbidden: Iterable[Which] | None = None,
+    ) -> Cheapest[Option]: ...
+
+    def solve(
+        self,
+        limit: int | None = None,
+        spacing: int = 1,
+        *,
+        nulls: bool = False,
+        seconds: float | None = None,
+        seed: int | None = None,
+        given: Iterable[Which] | None = None,
+        forbidden: Iterable[Which] | None = None,
+        cost: Sequence[Cost] | str | None = None,
     ) -> Solutions[Option]:
         """The solutions, one by one as they are found, each a list of options as they were given.
 
         limit: stop after so many solutions. spacing: give each one whose number is a multiple of it. nulls: have
         the choices of none in the lists, as `Null`. seconds: raise `OutOfTime` where it takes longer.
 
+        seed: in a random order, the same for the same number on every machine and in every Python. With a limit the
+        search begins anew, ever longer, until so many are found in one order of the options.
+
+        given, forbidden: options that each solution has, and that none has. Each is said by its number, as it was
+        passed to the problem, or as a text of items, `"r1 c2"`: of the given ones one option alone has these, and all
+        that have them are forbidden. Raises `ValueError` for what says no option.
+
+        cost: the solution of least cost alone, a `cost.Least` with its `cost`, by a number for each option in their
+        order, or by a text of names and numbers as `helgrothy solve --cost` takes it. Raises `cost.NotLeast`, an
+        `OutOfTime` with the `best` one, where it isn't proved in the time that none costs less; `TableFault` for a
+        wrong text; and `engines.Claimed`.
+
         A `Solution` is read when it is first touched. Nothing but one is held in memory, and the program ends where
         the caller stops. Raises `ProgramNotFound`, `ProgramFailed` and `OutOfTime`.
         """
-        return self._search(None, limit, spacing, nulls, seconds)
+        if seed is None and given is None and forbidden is None and cost is None:
+            return self._search(None, limit, spacing, nulls, seconds)
+        asked = self._given(given, forbidden)
+        if cost is not None:
+            if (limit in (None, 1), spacing, nulls, seed) != (True, 1, False, None):
+                raise ValueError("the solution of least cost is one: without limit, spacing, nulls and seed")
+            return asked.least(cost, seconds)
+        return asked.solve(limit, spacing, nulls=nulls, seconds=seconds, seed=seed)
+
+    def _given(self, options: Iterable[Which] | None, others: Iterable[Which] | None) -> Given[Option]:
+        """The problem with some options and without others. Raises `ValueError`."""
+        from .given import Given, forbidden, given
+
+        held = given(self, () if options is None else options)
+        dropped = forbidden(self, () if others is None else others)
+        both = next((place for place in held if place in dropped), None)
+        if both is not None:
+            raise ValueError(f"option {both} is both given and forbidden: {self.line(self.options[both])}")
+        return Given(self, held, dropped)
 
     def _search(
         self,
@@ -380,10 +446,13 @@ class Problem(Generic[Option]):
         jobs: int | None = None,
         executor: Executor | None = None,
         progress: Callable[[Progress], object] | None = None,
+        given: Iterable[Which] | None = None,
+        forbidden: Iterable[Which] | None = None,
     ) -> int:
         """How many solutions there are, or `limit` where there are as many or more.
 
-        Without a limit dlx-count runs beside the search, and the first that ends gives the number.
+        Without a limit dlx-count runs beside the search, and the first that ends gives the number. given, forbidden:
+        as of `solve`.
 
         jobs: search by up to so many processors at once. executor: search by the workers of an executor of
         `concurrent.futures`, such as Dask's, of which there are `jobs`. progress: gets now and then how far the
@@ -392,6 +461,9 @@ class Problem(Generic[Option]):
         Raises `ProgramNotFound`, `ProgramFailed` and, where it takes longer than `seconds`, `OutOfTime`, whose `found`
         is then a number that was reached at least; with workers also `SearchFault`, where these can't do it.
         """
+        if given is not None or forbidden is not None:
+            inner = self._given(given, forbidden).inner
+            return inner.count(limit, seconds=seconds, jobs=jobs, executor=executor, progress=progress)
         if jobs is not None or executor is not None or progress is not None:
             return self._count_spans(limit, seconds, jobs, executor, progress)
         if limit is None:
@@ -417,7 +489,7 @@ class Problem(Generic[Option]):
         Those before it aren't made where dlx-count is first, which counts the branches that they are in. Raises
         `ProgramNotFound`, `ProgramFailed` and `OutOfTime`.
         """
-        from . import numbered
+        from ._run import numbered
 
         return next(iter(numbered.solve(self, number, seconds)), None)
 
@@ -427,7 +499,7 @@ class Problem(Generic[Option]):
         They are counted, and a number of them is drawn: the same one for the same seed, and without one another each
         time. Raises `ProgramNotFound`, `ProgramFailed` and `OutOfTime`.
         """
-        from . import numbered
+        from ._run import numbered
 
         begun = time.monotonic()
         total = self._count(seconds).total
@@ -443,7 +515,7 @@ class Problem(Generic[Option]):
         it, by up to `jobs` processes at once (as many as there are processors). Raises `ProgramNotFound`,
         `ProgramFailed` and `OutOfTime`.
         """
-        from . import occurrences
+        from ._run import occurrences
 
         return occurrences.find(self, seconds, jobs).by_option
 
@@ -460,7 +532,7 @@ class Problem(Generic[Option]):
         executor: Executor | None,
         progress: Callable[[Progress], object] | None,
     ) -> int:
-        from . import spans
+        from . import _spans as spans
 
         if limit is not None:
             raise ValueError("a search by jobs or an executor has no limit")

@@ -12,11 +12,11 @@ import time
 from collections.abc import Generator, Sequence
 from typing import Any, TypeVar
 
+from ._run.programs import Run
+from ._run.solution import Solution
+from ._run.stream import Outcome, Solutions, check_numbers, sooner
 from .errors import OutOfTime
 from .problem import Problem
-from .programs import Run
-from .solution import Solution
-from .stream import Outcome, Solutions, check_numbers, sooner
 
 __all__ = ["solve"]
 

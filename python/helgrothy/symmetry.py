@@ -15,14 +15,14 @@ from collections.abc import Generator, Hashable, Sequence
 from dataclasses import dataclass
 from typing import Any, TypeVar
 
+from ._reason.turns import Cell, symmetries
+from ._run.solution import Solution
+from ._run.stream import Outcome, Solutions, check_numbers, sooner
+from ._text.shown import shown
+from ._text.syntax import ONCE
 from .draw import compiled
 from .errors import NoPicture, OutOfTime
 from .problem import Problem
-from .shown import shown
-from .solution import Solution
-from .stream import Outcome, Solutions, check_numbers, sooner
-from .syntax import ONCE
-from .turns import Cell, symmetries
 
 __all__ = ["Motion", "Plan", "motions", "plan", "solve"]
 

@@ -16,11 +16,12 @@ from collections.abc import Callable, Hashable, Iterator
 from dataclasses import dataclass
 from typing import Any
 
-from . import engines, sat_solver
+from . import engines
+from ._reason import sat_solver
+from ._reason.sums import Count, Sums
+from ._text.syntax import Bounds
 from .errors import OutOfTime
 from .problem import Problem
-from .sums import Count, Sums
-from .syntax import Bounds
 
 __all__ = ["Conflict", "find"]
 

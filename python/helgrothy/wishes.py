@@ -14,14 +14,14 @@ from collections.abc import Iterable, Iterator, Sequence
 from dataclasses import dataclass, field
 from typing import TYPE_CHECKING, Any
 
-from .amounts import A_NUMBER, is_number, number_of, spelled
+from ._text.amounts import A_NUMBER, is_number, number_of, spelled
 from .errors import TableFault
 from .problem import Problem
 
 if TYPE_CHECKING:
     from fractions import Fraction
 
-    from .named import Named
+    from ._text.named import Named
 
 __all__ = ["Costs", "Wish", "of_table", "read"]
 
@@ -73,7 +73,7 @@ def read(text: str, problem: Problem[Any]) -> Costs:
         from . import cost
 
         return Costs(cost.read(text, len(problem.options)))
-    from .named import Named
+    from ._text.named import Named
 
     named = Named(problem)
     return summed(problem, [_wish(number, words, named) for number, words in lines])

@@ -8,7 +8,7 @@ from folders import InFolder
 from test_commands import run
 
 from helgrothy import AnswerFault, Problem, make
-from helgrothy.answers import SOLVERS, solutions
+from helgrothy.answers import SOLVERS, begins, solutions
 from helgrothy.export import FORMATS
 
 PAIR = Problem("abc", options=["ab", "c", "a", "bc"])
@@ -62,16 +62,38 @@ class Answers(InFolder):
         (solution,) = problem.solve(limit=1)
         values = " ".join(str(k + 1 if k in solution.numbers else -k - 1) for k in range(16))
         answer = f"s SATISFIABLE\nv {values} 0\n"
-        status, listing, told = run("import", "cadical", path, given=answer)
+        drawn = str(problem.draw(solution))
+        self.assertEqual(run("draw", path, given=answer), (0, drawn, ""))
+        status, listing, told = run("draw", path, "--listing", given=answer)
         self.assertEqual((status, told), (0, ""))
         self.assertEqual(problem.check(listing), [True])
-        self.assertEqual(run("draw", path, given=listing)[1], str(problem.draw(solution)))
-        # What isn't a solution is none for dlxcheck.
-        listing = run("import", "cadical", path, given=f"v {values.replace('-1 ', '1 ', 1)} 0\n")[1]
-        self.assertEqual(problem.check(listing), [False])
-        told = (1, "", "helgrothy: clasp says that there is no solution\n")
-        self.assertEqual(run("import", "clasp", path, given="UNSATISFIABLE\n"), told)
-        self.assertEqual(run("import", "clasp", "-", given="UNSATISFIABLE\n")[0], 2)
+        self.assertEqual(run("draw", path, given=listing)[1], drawn)
+        # What isn't a solution is none for dlxcheck, and isn't drawn.
+        wrong = f"v {values.replace('-1 ', '1 ', 1)} 0\n"
+        self.assertEqual(problem.check(run("draw", path, "--listing", given=wrong)[1]), [False])
+        told = "helgrothy: answer 1 of the other solver is no solution, as dlxcheck judges it\n"
+        self.assertEqual(run("draw", path, given=wrong), (2, "", told))
+        self.assertEqual(run("draw", path, given=answer + wrong), (2, drawn, told.replace("1", "2")))
+        for words in ([], ["--listing"], ["--json"]):
+            told = (1, "", "helgrothy: the other solver reports that there is no solution\n")
+            self.assertEqual(run("draw", path, *words, given="UNSATISFIABLE\n"), told)
+        told = (1, "", "helgrothy: the other solver gave no solution 2\n")
+        self.assertEqual(run("draw", path, "--number", "2", given=answer), told)
+        self.assertEqual(run("draw", path, "--listing", given=listing)[0], 2)
+        self.assertEqual(run("draw", "-", given="UNSATISFIABLE\n")[0], 2)
+
+    def test_many_answers(self):
+        """As many as dlxcheck doesn't judge in one run."""
+        problem = make.queens.problem(9)
+        text = "".join(f"Answer: {k}\n{' '.join(f'x({n + 1})' for n in it.numbers)}\n" for k, it in enumerate(problem.solve(), 1))
+        status, printed, _ = run("draw", self.file("q.dlx", problem.text), "--json", given=f"Solving...\n{text}SATISFIABLE\n")
+        self.assertEqual((status, printed.count("\n")), (0, 352))
+
+    def test_what_an_answer_begins_with(self):
+        for line in ("c x", "s SATISFIABLE", "v 1 0", "UNSATISFIABLE", "clasp version 3.3.5", "Answer: 1", "x(1) x(2)", "o 3", "% x"):
+            self.assertTrue(begins(line.encode() + b"\n"), line)
+        for line in ("", "\n", "1:\n", " a (1 of 1)\n", "x\n", "\x1b[2J"):
+            self.assertFalse(begins(line.encode()), line)
 
     @unittest.skipUnless(all(map(shutil.which, SOLVERS)), "no other solvers")
     def test_solvers(self):

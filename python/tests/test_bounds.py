@@ -12,13 +12,18 @@ import unittest
 import xml.etree.ElementTree
 from unittest import mock
 
-from helgrothy import NoPicture, OutOfTime, Problem, console, make, programs, sat_solver, syntax
+from test_commands import Pipe, run
+
+from helgrothy import NoPicture, OutOfTime, Problem, make
+from helgrothy._cli import console
+from helgrothy._cli.watch import Watch
+from helgrothy._reason import sat_solver
+from helgrothy._run import programs
+from helgrothy._text import syntax
+from helgrothy._text.shown import shown
+from helgrothy._text.syntax import read
 from helgrothy.draw import Cell, Pattern, Picture
 from helgrothy.lint import lint
-from helgrothy.shown import shown
-from helgrothy.syntax import read
-from helgrothy.watch import Watch
-from test_commands import Pipe, run
 
 # What would go on for ever is ended long before. Of a processor, so that it says nothing of what else a machine does; what
 # runs into its own time gets more of it.
@@ -191,7 +196,7 @@ class Time(unittest.TestCase):
             while True:
                 pass
 
-        with mock.patch("helgrothy.acts._problem", slow):
+        with mock.patch("helgrothy._cli.acts._problem", slow):
             status, _, error = run("solve", "--seconds", "0.1")
         self.assertEqual((status, error), (2, "helgrothy: it wasn't done in 0.1 seconds\n"))
 

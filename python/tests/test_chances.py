@@ -11,8 +11,9 @@ from problems import problem_of
 from test_commands import run
 from test_counter import dominoes
 
-from helgrothy import OutOfTime, Problem, ProgramNotFound, chances, occurrences, programs
-from helgrothy.draw import Pattern
+from helgrothy import OutOfTime, Problem, ProgramNotFound
+from helgrothy._run import occurrences, programs
+from helgrothy.draw import Pattern, chances
 
 
 class Occurrences(InFolder):

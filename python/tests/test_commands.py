@@ -10,8 +10,10 @@ from unittest import mock
 
 from folders import InFolder
 
-from helgrothy import OutOfTime, make, solving, sums, why
+from helgrothy import OutOfTime, make, why
 from helgrothy.__main__ import main
+from helgrothy._cli import solving
+from helgrothy._reason import sums
 
 # Each mistake with the line that says what is wrong, and what to do.
 MISTAKES = (
@@ -35,7 +37,10 @@ MISTAKES = (
     (["queens", "8", "9"], "helgrothy queens: 9: one argument too many; see helgrothy queens --help"),
     (["queens"], "helgrothy queens: the following arguments are required: N|REGIONS; see helgrothy queens --help"),
     (["search", "x.dlx", "--lis"], "helgrothy search: --lis: no such option (is it --list?); see helgrothy search --help"),
-    (["rows", "--fr", "dlx1"], "helgrothy rows: --fr: no such option (is it --for?); see helgrothy rows --help"),
+    (["search", "--fr", "dlx1"], "helgrothy search: --fr: no such option (is it --for?); see helgrothy search --help"),
+    (["search"], "helgrothy search: the following arguments are required: PROBLEM; see helgrothy search --help"),
+    (["search", "--status", "f", "--list"], "helgrothy search: --status: without --list; see helgrothy search --help"),
+    (["search", "--rows", "3", "x.dlx", "--jobs", "2"], "helgrothy search: --rows: without --jobs; see helgrothy search --help"),
     (["export", "cmf"], "helgrothy export: cmf: no such format (is it cnf?); see helgrothy export --help"),
     (["export", "xml"], "helgrothy export: xml: no such format (there are asp, cnf and opb); see helgrothy export --help"),
     (["queens", "abc"], "helgrothy: abc: neither a number nor a file"),
@@ -142,7 +147,7 @@ class Commands(InFolder):
         for words, wanted in (
             (("solve", "missing.dlx"), "helgrothy: missing.dlx: No such file or directory\n"),
             (("sudoku", "12"), "helgrothy: line 1: 2 places; a Sudoku of 9 rows has 81, one of 4 to 25 rows as many as its square\n"),
-            (("draw", "-"), "helgrothy: the problem is a file; the listing comes from standard input\n"),
+            (("draw", "-"), "helgrothy: the problem is a file; the listing or answer comes from standard input\n"),
             (("solve",), "helgrothy: standard input: line 1: no items\n"),
             (("queens", "4", "--svg", "--all"), "helgrothy: an SVG is of one solution: --number says which\n"),
         ):

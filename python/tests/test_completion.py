@@ -29,10 +29,10 @@ class Completion(unittest.TestCase):
         self.assertEqual([str(place) for place in commands["dlx-span"].places], ["words 1 2 3", "words m0 m1"])
         search = commands["helgrothy search"]
         self.assertEqual([str(place) for place in search.places], ["problem"])
-        names = ["--list", "--jobs", "--dask", "--seconds", "--folder", "--for"]
+        names = ["--list", "--jobs", "--dask", "--seconds", "--folder", "--for", "--status", "--result", "--rows"]
         self.assertEqual([option.names for option in search.options][1:], [(name,) for name in names])
-        others = {"make", "solve", "count", "draw", "lint", "export", "hint", "import", "minimal", "why"}
-        others |= {"page", "search", "status", "result", "rows"}
+        others = {"make", "solve", "count", "draw", "lint", "export", "hint", "minimal", "why"}
+        others |= {"page", "search"}
         self.assertEqual(set(commands["helgrothy"].commands), {*others, *KINDS})
         values = {option.names[-1]: option.value for option in commands["helgrothy lint"].options}
         self.assertEqual(str(values["--for"]), "words dlx1 dlx2 dlx3")

@@ -12,7 +12,8 @@ from unittest import mock
 from problems import problem_of
 from test_commands import run
 
-from helgrothy import Problem, TableFault, cost, make, sat_solver
+from helgrothy import Problem, TableFault, cost, make
+from helgrothy._reason import sat_solver
 
 SOLVERS = ["clasp", "dlx3"] if shutil.which("clasp") else ["dlx3"]
 

@@ -10,7 +10,8 @@ from unittest import mock
 from folders import InFolder
 from test_commands import run
 
-from helgrothy import OutOfTime, Problem, ProgramFailed, ProgramNotFound, counter, make, programs
+from helgrothy import OutOfTime, Problem, ProgramFailed, ProgramNotFound, make
+from helgrothy._run import counter, programs
 
 
 def dominoes(size):

@@ -4,8 +4,8 @@ import itertools
 import unittest
 from unittest import mock
 
-from helgrothy import counting
-from helgrothy.counting import Clauses
+from helgrothy._reason import counting
+from helgrothy._reason.counting import Clauses
 
 
 def follows(clauses, known):

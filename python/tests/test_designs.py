@@ -6,11 +6,13 @@ import random
 import unittest
 from unittest import mock
 
-from helgrothy import OutOfTime, Problem, make, programs
-from helgrothy.make import fewest, quick
-from helgrothy.make.designs import read_factors
 from folders import InFolder
 from test_commands import run, run_until
+
+from helgrothy import OutOfTime, Problem, make
+from helgrothy._run import programs
+from helgrothy.make import fewest, quick
+from helgrothy.make.designs import read_factors
 
 FACTORS = """\
 # what is to be tested

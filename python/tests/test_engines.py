@@ -14,7 +14,10 @@ from unittest import mock
 from folders import InFolder
 from test_commands import run, run_until
 
-from helgrothy import Problem, acts, console, cost, engines, make, programs, sat_solver
+from helgrothy import Problem, cost, engines, make
+from helgrothy._cli import acts, console
+from helgrothy._reason import sat_solver
+from helgrothy._run import programs
 
 # A problem with one solution, options 1, 4 and 5; and one without, of which no sum says so.
 TEXT = "A B C D | x\nA C x:1\nA B x:2\nC D x:1\nB\nD\n"

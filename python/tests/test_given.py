@@ -57,10 +57,33 @@ class Choices(InFolder):
             ([""], "--with : it names no item"),
         ):
             with self.assertRaises(ValueError) as raised:
-                given(problem, words)
+                given(problem, words, "--with", by_names=True)
             self.assertEqual(str(raised.exception), wanted)
         with self.assertRaisesRegex(ValueError, "--without b x: x: no such item"):
-            forbidden(problem, ["b", "b x"])
+            forbidden(problem, ["b", "b x"], "--without")
+
+    def test_ways_to_say_an_option(self):
+        """By its number, as it was passed, or by names; a text that is an option of its letters is that option."""
+        letters = Problem("abc", options=["ab", "c", "a", "bc"])
+        self.assertEqual(given(letters, ["c", "a", 3, ("b", "c"), {"b": None, "a": None}]), [1, 2, 3, 3, 0])
+        self.assertEqual(forbidden(letters, ["a", "bc"]), {2, 3})
+        self.assertEqual((given(letters, ["a b"]), forbidden(letters, ["b "])), ([0], {0, 3}))
+        doors = Problem("AB", ["x"], [{"A": None, "x": "red"}, {"A": None, "x": 2}, "B"])
+        self.assertEqual(given(doors, [{"x": 2, "A": None}, "A x:red", "B"]), [1, 0, 2])
+        same = Problem([(0, "s"), (1, "s")], options=[[(0, "s")], [(0, "s")], [(1, "s")]])
+        self.assertEqual((forbidden(same, [[(0, "s")]]), given(same, [1, same.options[2]])), ({0, 1}, [1, 2]))
+        for options, wanted in (
+            ([[(0, "s")]], "given [(0, 's')]: the options 0 1 are equal; a number says one"),
+            ([3], "given 3: the problem has the options 0 to 2"),
+            ([-1], "given -1: the problem has the options 0 to 2"),
+            ([[(0, "s"), (1, "s")]], "given [(0, 's'), (1, 's')]: no option is this; a text of names says one by some of its items"),
+            ([[["s"]]], "given [['s']]: no option is this; a text of names says one by some of its items"),
+        ):
+            with self.assertRaises(ValueError) as raised:
+                given(same, options)
+            self.assertEqual(str(raised.exception), wanted)
+        with self.assertRaisesRegex(TypeError, "^given is of options, and this is a text: \\['ab'\\]$"):
+            letters.solve(given="ab")
 
     def test_commands(self):
         self.assertEqual(run("solve", "--with", "mon bob", given=DAYS)[1], "mon bob\ntue ann\n")
@@ -84,7 +107,7 @@ class Choices(InFolder):
 
     def test_a_beginning_of_names(self):
         problem = Problem.parse("mon/hall mon/lab tue\nmon/hall\nmon/lab\ntue\n")
-        with self.assertRaisesRegex(ValueError, r"^--with mon: mon: no such item \(2 begin so; mon\* is any of them\)$"):
+        with self.assertRaisesRegex(ValueError, r"^given mon: mon: no such item \(2 begin so; mon\* is any of them\)$"):
             given(problem, ["mon"])
 
     def test_other_ways(self):

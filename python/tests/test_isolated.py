@@ -8,10 +8,12 @@ import tempfile
 import unittest
 from unittest import mock
 
-from helgrothy import Problem, ProgramNotFound, programs
+import helgrothy
+from helgrothy import Problem, ProgramNotFound
+from helgrothy._run import programs
 
 SCRIPT = os.path.join(os.path.dirname(os.path.dirname(os.path.dirname(os.path.abspath(__file__)))), "scripts", "helgrothy")
-PACKAGE = os.path.dirname(os.path.dirname(programs.__file__))
+PACKAGE = os.path.dirname(os.path.dirname(os.path.abspath(helgrothy.__file__)))
 # A module of each that the commands load, and of each that these load in turn.
 MODULES = ["argparse", "colorsys", "difflib", "fractions", "html", "random", "re", "signal", "statistics", "tempfile"]
 BOARD = ". . Q .\nQ . . .\n. . . Q\n. Q . .\n"
@@ -46,7 +48,7 @@ class Isolated(unittest.TestCase):
     def strangers_folder(self) -> None:
         for module in MODULES:
             self.file(f"{module}.py", "print('HIJACKED')\n")
-        for name in ("__init__", "__main__", "commands", "spans/__init__", "spans/commands"):
+        for name in ("__init__", "__main__", "_cli/commands", "_spans/__init__", "_spans/commands"):
             self.file(f"helgrothy/{name}.py", "print('HIJACKED')\n")
         for program in ("dlx1", "dlx-span", "dlx-join", "sh", "python3", "readlink", "dirname"):
             self.file(program, "#!/bin/sh\necho HIJACKED\n", 0o755)
@@ -69,7 +71,7 @@ class Isolated(unittest.TestCase):
     def test_run_by_m_the_package_loads_nothing_of_the_current_folder(self):
         """Python looks there first, and did so for what it loaded before the package."""
         # Some are loaded where they are needed first.
-        late = "dataclasses, difflib, helgrothy.acts, helgrothy.cost, html, tempfile"
+        late = "dataclasses, difflib, helgrothy._cli.acts, helgrothy.cost, html, tempfile"
         before, after = (self.modules_of(more) for more in ("", f"import {late}; "))
         for module in [it for it in after if it not in before and it not in sys.builtin_module_names]:
             self.file(f"{module}.py", "print('HIJACKED')\n")
@@ -125,7 +127,7 @@ class Isolated(unittest.TestCase):
         self.assertEqual(done.stdout, BOARD)
 
     def test_programs_that_are_not_built(self):
-        package = self.file("python/helgrothy/programs.py", "")
+        package = self.file("python/helgrothy/_run/programs.py", "")
         nowhere = mock.patch.dict(os.environ, {"PATH": "", programs.VARIABLE: ""})
         with nowhere, mock.patch.object(programs, "__file__", package):
             with self.assertRaisesRegex(ProgramNotFound, "^dlx1 is neither beside the package nor on the path; name its"):
@@ -139,7 +141,7 @@ class Isolated(unittest.TestCase):
     def test_no_program_that_anybody_may_put_there_is_run(self):
         os.chmod(self.folder, 0o1777)
         self.file("bin/dlx1", "#!/bin/sh\n", 0o755)
-        package = self.file("python/helgrothy/programs.py", "")
+        package = self.file("python/helgrothy/_run/programs.py", "")
         os.chmod(os.path.dirname(os.path.dirname(package)), 0o755)
         with mock.patch.object(programs, "__file__", package):
             self.assertNotIn(os.path.join(self.folder, "bin"), programs.folders("dlx1"))
@@ -193,7 +195,7 @@ class ClosedStreams(unittest.TestCase):
             ("helgrothy", ["queens", "4"], False, BOARD, "Altogether 1 solution (limit).\n"),
             ("helgrothy", ["make", "langford", "1"], False, None, ""),
             ("helgrothy", ["--help"], False, None, ""),
-            ("helgrothy", ["status", "folder"], False, None, ""),
+            ("helgrothy", ["search", "--status", "folder"], False, None, ""),
             ("dlx-progress", [], True, "", "0.0 seconds: solution 2, 50.00% of the tree, about 0.0 seconds left\n"),
         ):
             has_all = words == ["solve", "-", "--all"]
@@ -222,7 +224,7 @@ class ClosedStreams(unittest.TestCase):
     def test_a_listing(self):
         """As the programs in one, but that its warnings come first: where they can't be told nothing is listed."""
         listing, warning = "1:\n A x (1 of 2)\n2:\n A (2 of 2)\n", "Option ignored (no primary items): line 2\n"
-        for words in (["search", "p.dlx", "--list"], ["result", "folder", "--list"]):
+        for words in (["search", "p.dlx", "--list"], ["search", "--result", "folder", "--list"]):
             for closed in itertools.product((False, True), repeat=3):
                 with self.subTest(words=words, closed=closed):
                     redirected = " ".join(text for is_closed, text in zip(closed, ("<&-", ">&-", "2>&-")) if is_closed)

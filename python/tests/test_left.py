@@ -21,7 +21,9 @@ BEGINS = "echo $$ >> {pids}; printf '1:\\n A (1 of 1)\\n B (1 of 1)\\n'; exec /b
 PROBLEM = "A B\nA\nB\nA B\n"
 START = """
 import time
-from helgrothy import Problem, chances, cost, engines, hint, make, minimal, occurrences, shuffle, symmetry, why
+from helgrothy import Problem, cost, engines, hint, make, minimal, shuffle, symmetry, why
+from helgrothy._run import occurrences
+from helgrothy.draw import chances
 from helgrothy.__main__ import main
 p = Problem("AB", options=["A", "B", "AB"])
 """

@@ -9,7 +9,8 @@ from unittest import mock
 from folders import InFolder
 from test_commands import run
 
-from helgrothy import OutOfTime, Problem, TableFault, make, minimal, puzzle_commands
+from helgrothy import OutOfTime, Problem, TableFault, make, minimal
+from helgrothy._cli import puzzle_commands
 
 CLUES = "53..7....6..195....98....6.8...6...34..8.3..17...2...6.6....28....419..5....8..79"
 SMALL = "12.4 3.12 2.43 4.21"

@@ -11,7 +11,8 @@ from problems import problem_of
 from test_commands import run
 from test_counter import copies, dominoes
 
-from helgrothy import OutOfTime, Problem, ProgramFailed, make, numbered, programs
+from helgrothy import OutOfTime, Problem, ProgramFailed, make
+from helgrothy._run import numbered, programs
 
 # A dlx-count that finds a solution by its number; it passes over those before it.
 FINDS = """\

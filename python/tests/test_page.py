@@ -24,16 +24,17 @@ import unittest
 import urllib.parse
 from unittest import mock
 
-from helgrothy import HelgrothyError, Problem, cost, make
-from helgrothy.listing import branch_of
-from helgrothy.page import answer, folders, forms, lobby, server, terms
-from helgrothy.page.document import document, frame
-from helgrothy.page.examples import examples, first_of
-from helgrothy.page.record import Record
-from helgrothy.page.start import start
-from helgrothy.programs import Run
-from helgrothy.wire import OfNumbers
 from test_commands import run
+
+from helgrothy import HelgrothyError, Problem, cost, make
+from helgrothy._page import answer, answering, folders, forms, server, terms, waiting
+from helgrothy._page.document import document, frame
+from helgrothy._page.examples import examples, first_of
+from helgrothy._page.record import Record
+from helgrothy._page.start import start
+from helgrothy._run.programs import Run
+from helgrothy._run.wire import OfNumbers
+from helgrothy._text.listing import branch_of
 
 EVIL = [
     "</script><script>alert(1)</script>", "<img/src=x/onerror=alert(2)>", "<!--", "]]>", "{{data}}", "&lt;b>", "\"onload='x'",
@@ -483,7 +484,7 @@ class Served(unittest.TestCase):
 
     def test_who_is_not(self):
         for how in (
-            {"path": "/answer"}, {"path": "//answer"}, {"path": "/{word}x/answer"}, {"path": "/{word}"}, {"path": "/{word}/../answer"},
+            {"path": "/answer"}, {"path": "//answer"}, {"path": "//{word}/answer"}, {"path": "/{word}x/answer"}, {"path": "/{word}"}, {"path": "/{word}/../answer"},
             {"path": "/{word}/solve"}, {"path": "/{word}/answer?x"}, {"path": "http://127.0.0.1/{word}/answer"},
             {"Host": "evil.example"}, {"Host": "127.0.0.1"}, {"Host": "127.0.0.1:{port}.evil.example"}, {"leave_out": ["Host"]},
             {"Origin": "http://evil.example"}, {"Origin": "null"}, {"Origin": "http://127.0.0.1:1"}, {"leave_out": ["Origin"]},
@@ -550,14 +551,14 @@ class Served(unittest.TestCase):
 
     def be_patient(self, seconds):
         """Requests have so many seconds to come."""
-        for module in (lobby, server):
-            patience = mock.patch.object(module, "PATIENCE", seconds)
-            patience.start()
-            self.addCleanup(patience.stop)
+        patience = mock.patch.object(waiting, "PATIENCE", seconds)
+        patience.start()
+        self.addCleanup(patience.stop)
 
     def test_who_says_nothing_shuts_nobody_out(self):
         with tempfile.TemporaryDirectory() as place, command(place) as (process, address):
             with Strangers(address.port, 300) as strangers:
+                self.assertLess(len(os.listdir(f"/proc/{process.pid}/task")), 50)
                 for _ in range(30):
                     connection = http.client.HTTPConnection(address.netloc, timeout=60)
                     connection.request("GET", address.path)
@@ -568,18 +569,19 @@ class Served(unittest.TestCase):
                     self.assertTrue(told.read().endswith(b'\r\n\r\n{"remarks":[]}\n'))
             self.assertGreaterEqual(strangers.came, 300)
 
-    def test_who_says_nothing_has_no_thread(self):
-        """Nor who doesn't know the word."""
+    def test_who_says_nothing_has_one_of_few_threads(self):
+        """And who doesn't know the word. Who knows it has a thread of its own, which they don't take."""
         self.be_patient(600)
         self.wait(lambda: threading.active_count() == 2)
         known = self.begun()
         self.wait(lambda: threading.active_count() == 3)
         for said in (b"", b"GET / HTTP/1.1\r\n", b"GET / HTTP/1.1\r\n\r\n"):
-            for _ in range(10):
+            for _ in range(40):
                 self.connect(said)
         self.assertEqual(self.ask("GET", "/", b"")[0], 404)
-        self.assertEqual(threading.active_count(), 3)
-        known.close()
+        self.wait(lambda: threading.active_count() <= 3 + self.server.waiting.most)
+        known.sendall(b"123456789")
+        self.assertIn(b" 200 ", known.recv(1 << 16))
 
     def test_a_request_has_a_few_seconds(self):
         """Whether nothing comes, or a byte now and then, and of its head or of what follows that."""
@@ -599,7 +601,7 @@ class Served(unittest.TestCase):
 
     def test_who_comes_too_many_is_told(self):
         self.be_patient(600)
-        with mock.patch.object(self.server._lobby, "_most", 3):
+        with mock.patch.object(self.server.waiting, "most", 3):
             first, *_ = [self.connect() for _ in range(4)]
             self.assertIn(b"\r\n\r\ntoo much is asked at once", first.recv(1 << 16))
         known = [self.begun() for _ in range(server._MOST_AT_ONCE)]
@@ -620,7 +622,7 @@ class Served(unittest.TestCase):
 
     def test_where_no_answer_can_be_made(self):
         fault = OSError(errno.ENOSPC, os.strerror(errno.ENOSPC))
-        with mock.patch.object(server, "Folder", side_effect=fault):
+        with mock.patch.object(answering, "Folder", side_effect=fault):
             self.assertEqual(self.ask()[:2], (503, "no answer can be made: No space left on device"))
         with mock.patch.object(threading.Thread, "start", side_effect=RuntimeError):
             self.assertEqual(self.ask()[:2], (503, "too much is asked at once"))

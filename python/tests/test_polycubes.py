@@ -3,12 +3,13 @@
 import unittest
 import xml.etree.ElementTree as ElementTree
 
-from helgrothy import NoPicture, Problem, make
-from helgrothy.make import polycubes
-from helgrothy.make.cubes import SETS
-from helgrothy.turns import images
 from folders import InFolder
 from test_commands import run
+
+from helgrothy import NoPicture, Problem, make
+from helgrothy._reason.turns import images
+from helgrothy.make import polycubes
+from helgrothy.make.cubes import SETS
 
 # Bad pieces and boxes, each with the sentence that says what is wrong.
 BAD = (

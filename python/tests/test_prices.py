@@ -7,8 +7,9 @@ from unittest import mock
 
 from problems import problem_of
 
-from helgrothy import Problem, cost, make, prices, sat_solver, wishes
-from helgrothy.prices import Prices
+from helgrothy import Problem, cost, make, wishes
+from helgrothy._reason import prices, sat_solver
+from helgrothy._reason.prices import Prices
 
 # All have as many shifts as they must, and fay likes nights.
 ROSTER = """\

@@ -18,10 +18,10 @@ from helgrothy import (
     ProgramFailed,
     ProgramNotFound,
     Step,
-    listing,
     make,
-    programs,
 )
+from helgrothy._run import programs
+from helgrothy._text import listing
 
 EXAMPLES = os.path.join(os.path.dirname(os.path.abspath(__file__)), "..", "..", "examples")
 

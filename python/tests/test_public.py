@@ -48,9 +48,15 @@ class Names(unittest.TestCase):
             with self.assertRaisesRegex(AttributeError, f"module 'helgrothy' has no attribute '{wrong}'"):
                 helgrothy._load(wrong)
 
+    def test_modules_without_an_underscore_are_public(self):
+        contents = pydoc.plain(pydoc.render_doc(helgrothy)).partition("PACKAGE CONTENTS\n")[2].partition("\n\n")[0]
+        listed = re.findall(r"^    (\w+)", contents, re.MULTILINE)
+        # The classes are in the last two.
+        self.assertEqual({name for name in listed if name[0] != "_"}, MODULES | {"problem", "errors"})
+
     def test_nothing_is_loaded_before_it_is_used(self):
         code = "import sys, helgrothy; dir(helgrothy); print(*(name for name in sys.modules if 'helgrothy' in name))"
-        self.assertEqual(sorted(fresh(code)), ["helgrothy", "helgrothy.alone"])
+        self.assertEqual(sorted(fresh(code)), ["helgrothy", "helgrothy._alone"])
 
     def test_checkers_of_types_know_them(self):
         with open(os.path.join(PACKAGE, "__init__.py"), encoding="utf-8") as file:

@@ -7,7 +7,8 @@ from concurrent.futures import ProcessPoolExecutor
 from fractions import Fraction
 from unittest import mock
 
-from helgrothy import Listed, OutOfTime, Problem, Solution, Solutions, Step, answers, cost, make, sat_solver, shuffle, symmetry
+from helgrothy import Listed, OutOfTime, Problem, Solution, Solutions, Step, answers, cost, make, shuffle, symmetry
+from helgrothy._reason import sat_solver
 from helgrothy.draw import Pattern
 
 BOARD = make.queens.problem(6)

@@ -17,15 +17,17 @@ import unittest
 from concurrent.futures import Executor, Future, ProcessPoolExecutor, ThreadPoolExecutor
 from unittest import mock
 
-from helgrothy import ListingFault, OutOfTime, Problem, ProgramFailed, ProgramNotFound, SearchFault, guard, make, programs
+from helgrothy import ListingFault, OutOfTime, Problem, ProgramFailed, ProgramNotFound, SearchFault, make
 from helgrothy.__main__ import main
-from helgrothy.spans import folder as folders
-from helgrothy.spans import about, cuts, held, join, loop, progress, record, rows, show, span, text, workers
-from helgrothy.spans.commands import NOT_DONE, progress_main
-from helgrothy.spans.folder import Folder
-from helgrothy.spans.loop import Job, Kept, Loop
-from helgrothy.spans.pace import Pace
-from helgrothy.spans.rows import PARTS, WHOLE, Span, cut, place, read, share_of, word_of
+from helgrothy._run import guard, programs
+from helgrothy._spans import about, cuts
+from helgrothy._spans import folder as folders
+from helgrothy._spans import held, join, loop, progress, record, rows, show, span, text, workers
+from helgrothy._spans.commands import NOT_DONE, progress_main
+from helgrothy._spans.folder import Folder
+from helgrothy._spans.loop import Job, Kept, Loop
+from helgrothy._spans.pace import Pace
+from helgrothy._spans.rows import PARTS, WHOLE, Span, cut, place, read, share_of, word_of
 from tests.problems import digest_of, narrow, problem_of
 
 QUEENS = make.queens.problem(7).text.encode()
@@ -440,7 +442,7 @@ class Loops(unittest.TestCase):
         problem = make.queens.problem(6).text.encode()
         for changed in ({"MOST_TEXT": 200}, {"_LONGEST_WORD": 3}, {"MOST_TEXT": 200, "_LONGEST_WORD": 3}):
             found = {}
-            with mock.patch.multiple(loop, **changed), mock.patch("helgrothy.spans.pace._FIRST", 5):
+            with mock.patch.multiple(loop, **changed), mock.patch("helgrothy._spans.pace._FIRST", 5):
                 submit = loop.submitting(ThreadPoolExecutor(2))
                 search = Loop(Job(problem, 1, True), submit, lambda: 2, lambda kept: taken(found, kept), None)
                 self.assertTrue(search.search([WHOLE]))
@@ -675,8 +677,8 @@ class Folders(unittest.TestCase):
             folder.keep(Kept(Span((2, 1, 1), None, FIFTH, PARTS), b"", 0, 0.5))
             folder.flush()
         out = io.StringIO()
-        with contextlib.redirect_stdout(out), mock.patch("helgrothy.console.write", lambda lines: out.writelines(lines)):
-            self.assertEqual(main(["status", self.path]), 0)
+        with contextlib.redirect_stdout(out), mock.patch("helgrothy._cli.console.write", lambda lines: out.writelines(lines)):
+            self.assertEqual(main(["search", "--status", self.path]), 0)
         self.assertIn("99.9 % done", out.getvalue())
 
     def test_a_listing_stays_in_files(self):
@@ -1054,9 +1056,9 @@ class Commands(unittest.TestCase):
         folder = f"{self.path}.found"
         for _ in range(2):
             self.assertEqual(self.run_it("search", self.path, "--list", "--folder", folder), (0, listing, told))
-        self.assertEqual(self.run_it("result", folder, "--list"), (0, listing, told))
-        self.assertEqual(self.run_it("result", folder), (0, b"", told))
-        status, printed, message = self.run_it("status", folder)
+        self.assertEqual(self.run_it("search", "--result", folder, "--list"), (0, listing, told))
+        self.assertEqual(self.run_it("search", "--result", folder), (0, b"", told))
+        status, printed, message = self.run_it("search", "--status", folder)
         self.assertEqual((status, message), (0, ""))
         self.assertRegex(printed.decode(), r"\A100 % done: 40 solutions, [0-9.]+ seconds of a processor\n\Z")
         status, printed, message = self.run_it("search", self.path, "--folder", folder)
@@ -1102,7 +1104,7 @@ class Commands(unittest.TestCase):
         for wrong in (right[:at] + b" (2 of " + right[at + 7 :], right[:-9], b"span\n", b"["):
             with open(name, "wb") as file:
                 file.write(wrong)
-            for words in (["result", folder, "--list"], ["result", folder], search):
+            for words in (["search", "--result", folder, "--list"], ["search", "--result", folder], search):
                 with self.subTest(words=words, wrong=wrong[-9:]):
                     status, printed, told = self.run_it(*words)
                     self.assertEqual((status, printed, told.count("\n")), (2, b"", 1))
@@ -1120,12 +1122,12 @@ class Commands(unittest.TestCase):
             self.assertEqual(status, NOT_DONE)
             line = r"\Ahelgrothy: not done in {} seconds: [0-9.]+ %; the same command goes on \(.*q.dlx.search\)\n\Z"
             self.assertRegex(told, line.format(seconds))
-            if b"left" in self.run_it("status", folder)[1]:
+            if b"left" in self.run_it("search", "--status", folder)[1]:
                 break
-        self.assertEqual(self.run_it("result", folder)[:2], (NOT_DONE, b""))
-        self.assertEqual(self.run_it("result", folder, "--list")[:2], (NOT_DONE, b""))
+        self.assertEqual(self.run_it("search", "--result", folder)[:2], (NOT_DONE, b""))
+        self.assertEqual(self.run_it("search", "--result", folder, "--list")[:2], (NOT_DONE, b""))
         line = r"\A[0-9.]+ % done: [0-9,]+ solutions, .*\nleft: about .*\n\Z"
-        self.assertRegex(self.run_it("status", folder)[1].decode(), line)
+        self.assertRegex(self.run_it("search", "--status", folder)[1].decode(), line)
 
     def test_a_problem_that_does_not_come(self):
         """The time that a command is given is for reading too."""
@@ -1145,20 +1147,26 @@ class Commands(unittest.TestCase):
             with open(self.path, "wb") as file:
                 file.write(given)
             self.assertEqual(self.run_it("search", self.path, "--for", kind), (2, b"", message))
-            self.assertEqual(self.run_it("rows", self.path, "--for", kind), (2, b"", message))
+            self.assertEqual(self.run_it("search", self.path, "--rows", "9", "--for", kind), (2, b"", message))
             self.assertEqual(os.listdir(os.path.dirname(self.path)), ["q.dlx"])
         for words in (
             ["search", "-"],
             ["search", f"{self.path}.no"],
+            ["search", "--status", self.path],
+            ["search", "--result", self.path],
+            ["search", self.path, "--status", self.path],
+            ["search", "--status", self.path, "--result", self.path],
+            ["search", "--status", self.path, "--list"],
+            ["search", self.path, "--rows", "9", "--jobs", "2"],
+            ["search", "--rows", "9"],
             ["status", self.path],
-            ["result", self.path],
             ["search"],
             ["search", self.path, "--jobs", "0"],
             ["search", self.path, "--jobs", "1_0"],
             ["search", self.path, "--jobs", "9" * 5_000],
             ["search", self.path, "--seconds", "0"],
             ["search", self.path, "--jobs", "2", "--dask", "x"],
-            ["rows", self.path, "--count", "0"],
+            ["search", self.path, "--rows", "0"],
         ):
             with self.subTest(words=words):
                 status, printed, told = self.run_it(*words)
@@ -1190,7 +1198,7 @@ class Commands(unittest.TestCase):
     def test_rows(self):
         out = io.TextIOWrapper(io.BytesIO(), write_through=True)
         with mock.patch.object(sys, "stdout", out):
-            self.assertEqual(main(["rows", self.path, "--count", "5"]), 0)
+            self.assertEqual(main(["search", self.path, "--rows", "5"]), 0)
         edges = [read(word) for word in out.buffer.getvalue().decode().split()]
         self.assertEqual(len(edges), 5)
         self.assertEqual(texts(1, QUEENS, True, edges), whole(1, QUEENS, "m1"))

@@ -5,11 +5,12 @@ import subprocess
 import sys
 import unittest
 
-from helgrothy import commands, programs
-from helgrothy.commands import parser_of_all
+import helgrothy
+from helgrothy._cli import commands
+from helgrothy._cli.commands import parser_of_all
 from helgrothy.make import HELPS, KINDS
 
-PACKAGE = os.path.dirname(os.path.dirname(programs.__file__))
+PACKAGE = os.path.dirname(os.path.dirname(os.path.abspath(helgrothy.__file__)))
 SCRIPT = """\
 import sys
 sys.path.insert(0, sys.argv.pop(1))
@@ -45,7 +46,7 @@ class Startup(unittest.TestCase):
             with self.subTest(words=words):
                 modules = loaded(*words.split())
                 self.assertLess(len(modules), LISTS if words in lists else MOST)
-                self.assertNotIn("helgrothy.acts", modules)
+                self.assertNotIn("helgrothy._cli.acts", modules)
                 if words.partition(" ")[0] in KINDS:
                     self.assertEqual([name for name in SLOW if name in modules], [])
                 if words in lists:
@@ -81,9 +82,9 @@ class Startup(unittest.TestCase):
     def test_what_only_other_commands_need(self):
         for words in ("solve --help", "lint --help", "why --help", "draw --help"):
             modules = loaded(*words.split())
-            self.assertEqual([name for name in ("helgrothy.problem", "helgrothy.spans", "dataclasses", "json") if name in modules], [])
+            self.assertEqual([name for name in ("helgrothy.problem", "helgrothy._spans", "dataclasses", "json") if name in modules], [])
         queens = loaded("make", "queens", "4")
-        self.assertEqual([name for name in ("helgrothy.make.sudoku", "helgrothy.why", "helgrothy.page") if name in queens], [])
+        self.assertEqual([name for name in ("helgrothy.make.sudoku", "helgrothy.why", "helgrothy._page") if name in queens], [])
 
 
 if __name__ == "__main__":

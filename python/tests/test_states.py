@@ -6,8 +6,9 @@ from unittest import mock
 
 from problems import problem_of
 
-from helgrothy import Problem, cost, sat_solver, states
-from helgrothy.states import Sweep
+from helgrothy import Problem, cost
+from helgrothy._reason import sat_solver, states
+from helgrothy._reason.states import Sweep
 
 
 def swept(problem, costs):

@@ -5,8 +5,8 @@ import subprocess
 import unittest
 
 from helgrothy import Problem, ProblemFault, export, make
+from helgrothy._reason.sums import search
 from helgrothy.lint import lint
-from helgrothy.sums import search
 
 NURSES = "- " + " ".join(f"d{day}" for day in range(9)) + "\nnight" + " 1" * 9 + "\n\n"
 NURSES += "".join(f"nurse{number} 0:2\n" for number in range(3))

@@ -9,9 +9,11 @@ import time
 import unittest
 from unittest import mock
 
-from helgrothy import OutOfTime, Problem, make, sat_solver, sums, watch, why
-from helgrothy.matching import Matching
-from helgrothy.sums import Count, Sums, search
+from helgrothy import OutOfTime, Problem, make, why
+from helgrothy._cli import watch
+from helgrothy._reason import sat_solver, sums
+from helgrothy._reason.matching import Matching
+from helgrothy._reason.sums import Count, Sums, search
 
 # Pictures of nine regions that were meant to have nine cells each.
 JIGSAWS = (

@@ -9,7 +9,8 @@ from unittest import mock
 from folders import InFolder
 from test_commands import run
 
-from helgrothy import Problem, TableFault, cost, make, sat_solver, wishes
+from helgrothy import Problem, TableFault, cost, make, wishes
+from helgrothy._reason import sat_solver
 
 ROSTER = """\
 -      mon tue wed

@@ -19,9 +19,11 @@ import warnings
 
 sys.path.insert(0, os.path.dirname(os.path.dirname(os.path.abspath(__file__))))
 
-from helgrothy import Null, Problem, export, lint, programs, why  # noqa: E402
-from helgrothy.sums import search  # noqa: E402
 from test_tools import count  # noqa: E402
+
+from helgrothy import Null, Problem, export, lint, why  # noqa: E402
+from helgrothy._reason.sums import search  # noqa: E402
+from helgrothy._run import programs  # noqa: E402
 
 CLASP = bool(shutil.which("clasp") and shutil.which("gringo"))
 NAMES = ["a", "b", (1, 2), "two words", 7, 2.5, frozenset("f"), "null", "x:y", "|", "ä" * 20, None]

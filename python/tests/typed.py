@@ -24,6 +24,7 @@ def solutions() -> None:
     plan: helgrothy.symmetry.Plan = helgrothy.symmetry.plan(problem, helgrothy.symmetry.motions(problem, "(.)"))
     streams: list[Solutions[str]] = [
         problem.solve(),
+        problem.solve(2, seed=7, given=[0, "ab"], forbidden=["c"]),
         helgrothy.shuffle.solve(problem, 3),
         helgrothy.symmetry.solve(problem, plan),
     ]
@@ -45,6 +46,11 @@ def solutions() -> None:
             total: Fraction = least.cost
             one(least)
             total += 1
+        for cheapest in problem.solve(cost=[1, Fraction(1, 2)], given=["ab"], seconds=2.0):
+            own: Fraction = cheapest.cost
+            one(cheapest)
+            total = own
+        problem.solve(3, cost=[1, 2])  # type: ignore[call-overload]
     except OutOfTime as error:
         found: int = error.found
         found += 1

@@ -31,7 +31,7 @@ TOP = os.path.dirname(os.path.dirname(os.path.dirname(os.path.abspath(__file__))
 sys.path.insert(0, os.path.join(TOP, "python"))
 
 from helgrothy import Problem  # noqa: E402
-from helgrothy.programs import Run, find  # noqa: E402
+from helgrothy._run.programs import Run, find  # noqa: E402
 
 LIMIT = 1_000_000
 HEAD = """\

@@ -6,9 +6,9 @@ import argparse
 from collections.abc import Iterator
 from dataclasses import dataclass, field
 
-from helgrothy.commands import parser_of_all
+from helgrothy._cli.commands import parser_of_all
 from helgrothy.make import cubes, polyominoes
-from helgrothy.spans.commands import progress_parser
+from helgrothy._spans.commands import progress_parser
 
 # What a word may be: any of some words, a file, a folder, a problem (a file that ends with .dlx), or something that
 # nobody can guess.

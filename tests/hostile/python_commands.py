@@ -38,8 +38,8 @@ sys.path.insert(0, os.path.join(TOP, "python"))
 
 from helgrothy import __main__ as commands  # noqa: E402
 from helgrothy import make  # noqa: E402
-from helgrothy.page.document import document  # noqa: E402
-from helgrothy.spans import commands as span_commands  # noqa: E402
+from helgrothy._page.document import document  # noqa: E402
+from helgrothy._spans import commands as span_commands  # noqa: E402
 
 SCRIPT = os.path.join(TOP, "scripts", "helgrothy")
 # A try may take so many seconds of a processor, and one that searches by all of them five seconds of each more. What waits
@@ -366,7 +366,7 @@ class Try:
         literals += [rng.choice(odd)] * rng.choice([0, 0, 1])
         told = rng.choice([b"v " + b" ".join(literals) + b" 0", b"v " + b" ".join(b"x" + one for one in literals), b"Answer: 1\n" + b" ".join(atoms)])
         self.given = changed(rng, b"\n".join([told, rng.choice([b"s SATISFIABLE", b"UNSATISFIABLE", b"s UNKNOWN", b"c", *EVIL]), b""]))
-        return "helgrothy", ["import", rng.choice(["cadical", "clasp"]), self.file(problem)]
+        return "helgrothy", ["draw", self.file(problem), *rng.choice([[], ["--listing"], ["--json"], ["--number", "2"]])]
 
     def why(self):
         return "helgrothy", ["why", self.input(text(self.rng)), "--seconds", "0.5"]
@@ -432,7 +432,7 @@ class Try:
         for _ in range(rng.randint(0, 3)):
             self.damage(folder)
         if rng.random() < 0.5:
-            return "helgrothy", [rng.choice(["status", "result"]), folder]
+            return "helgrothy", ["search", rng.choice(["--status", "--result"]), folder]
         problem = os.path.join(top, "q.dlx") if rng.random() < 0.8 else self.file(changed(rng, QUEENS))
         more = rng.choice([[], ["--for", "dlx3"], ["--jobs", rng.choice(["1", "3", *WORDS])], ["--folder", rng.choice(WORDS)]])
         # No word is a file that is there but those of this try.
@@ -485,7 +485,7 @@ class Try:
         return self.judge(status, out.told(), error.told())
 
     def judge(self, status, out: bytes, error: bytes) -> str:
-        if status not in ((0, 2, 3, 6) if self.words[:1] in (["search"], ["result"]) else (0, 1, 2)):
+        if status not in ((0, 2, 3, 6) if self.words[:1] == ["search"] else (0, 1, 2)):
             return f"status {status}"
         if b"Traceback" in error or b"Exception ignored" in error:
             return f"traceback: {error!r}"
@@ -662,14 +662,14 @@ class Processes:
         self.file("p.dlx", b"A | x\nx\nA x\nA\n")
         self.shell("helgrothy search p.dlx --list --folder f")
         for command, printed in (
-            ("helgrothy result f --list", b"1:\n A x (1 of 2)\n2:\n A (2 of 2)\n"),
+            ("helgrothy search --result f --list", b"1:\n A x (1 of 2)\n2:\n A (2 of 2)\n"),
             ("helgrothy search p.dlx --list", b"1:\n A x (1 of 2)\n2:\n A (2 of 2)\n"),
             ("helgrothy solve p.dlx --all", b"A x\n\nA\n"),
             ("helgrothy solve --all", b"A x\n\nA\n"),
             ("helgrothy lint p.dlx", b"line 2: an option without a primary item is ignored\n"),
             ("helgrothy why p.dlx", b""),
             ("helgrothy make langford 1", None),
-            ("helgrothy status f", None),
+            ("helgrothy search --status f", None),
             ("dlx-progress", b""),
         ):
             for streams in itertools.product(("<p.dlx", "<&-"), (">listing", ">&-", ">/dev/full"), ("2>told", "2>&-", "2>/dev/full")):
@@ -679,18 +679,19 @@ class Processes:
                 is_right = printed is None or listed in (b"", printed)
                 status = int(self.shell("cat status").stdout)
                 is_said = 0 < status < 124 or streams[1:] == (">listing", "2>told")
-                is_said = is_said or command in ("helgrothy make langford 1", "helgrothy status f") and streams[1] == ">listing"
+                is_said = is_said or command in ("helgrothy make langford 1", "helgrothy search --status f") and streams[1] == ">listing"
                 is_well = is_right and is_said and b"Traceback" not in told + done.stderr
                 self.tell(is_well, f"{command} {streams}: {done.stderr!r} {told!r} {listed!r}")
 
     def strangers(self) -> None:
         """A folder of another user's: Python files and programs that the commands must not run."""
         folder = os.path.join(self.top, "strangers")
-        os.makedirs(os.path.join(folder, "helgrothy", "spans"))
+        for room in ("_cli", "_spans"):
+            os.makedirs(os.path.join(folder, "helgrothy", room))
         modules = [one for one in sorted(sys.stdlib_module_names) if not one.startswith("_")] if hasattr(sys, "stdlib_module_names") else ["re", "random", "difflib", "colorsys", "argparse"]
         for module in modules:
             self.file(f"strangers/{module}.py", b"import os; os.write(2, b'HIJACKED')\n")
-        for module in ("__init__", "__main__", "commands", "spans/__init__", "spans/commands"):
+        for module in ("__init__", "__main__", "_cli/commands", "_spans/__init__", "_spans/commands"):
             self.file(f"strangers/helgrothy/{module}.py", b"print('HIJACKED')\n")
         for program in ("dlx1", "dlx2", "dlx3", "dlxcheck", "dlx-span", "dlx-join", "cadical", "clasp"):
             os.chmod(self.file(f"strangers/{program}", b"#!/bin/sh\necho HIJACKED >&2\n"), 0o755)
@@ -701,8 +702,8 @@ class Processes:
             self.shell("rm -rf f", folder)
             for command in (
                 "helgrothy lint q.dlx", "helgrothy solve p.dlx --all", "helgrothy queens 5 --svg", "helgrothy why r.dlx",
-                "helgrothy export cnf p.dlx", "helgrothy search p.dlx --list", "helgrothy search p.dlx --folder f", "helgrothy status f",
-                "helgrothy result f", "helgrothy rows p.dlx",
+                "helgrothy export cnf p.dlx", "helgrothy search p.dlx --list", "helgrothy search p.dlx --folder f",
+                "helgrothy search --status f", "helgrothy search --result f", "helgrothy search p.dlx --rows 100",
             ):  # fmt: skip
                 done = self.shell(command, folder, **path)
                 is_well = b"HIJACKED" not in done.stdout + done.stderr and b"Traceback" not in done.stderr and done.returncode in (0, 1)

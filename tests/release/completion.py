@@ -48,9 +48,9 @@ LINES = [
     ("helgrothy search q", "helgrothy search queens.dlx "),
     ("helgrothy search --folder f", "helgrothy search --folder folder/"),
     ("helgrothy search queens.dlx --j", "helgrothy search queens.dlx --jobs "),
-    ("helgrothy status f", "helgrothy status folder/"),
-    ("helgrothy result --l", "helgrothy result --list "),
-    ("helgrothy rows --c", "helgrothy rows --count "),
+    ("helgrothy search --status f", "helgrothy search --status folder/"),
+    ("helgrothy search --result f", "helgrothy search --result folder/"),
+    ("helgrothy search queens.dlx --ro", "helgrothy search queens.dlx --rows "),
 ]
 # Of several words that fit bash makes what they have in common. It has redirections completed, as others do themselves.
 BASH = [

@@ -399,22 +399,22 @@ def mend(trial):
 
 
 def looks(trial):
-    """`status` tells something at any time."""
+    """`--status` tells something at any time."""
     if not os.path.isdir(trial.folder):
         return
-    done = subprocess.run(["helgrothy", "status", trial.folder], capture_output=True, timeout=LONG)
-    trial.say(f"status {done.returncode} of helgrothy status: {done.stdout!r} {done.stderr!r}")
+    done = subprocess.run(["helgrothy", "search", "--status", trial.folder], capture_output=True, timeout=LONG)
+    trial.say(f"status {done.returncode} of helgrothy search --status: {done.stdout!r} {done.stderr!r}")
     if b"Traceback" in done.stderr or done.returncode not in (0, 2) or (done.returncode == 0) != (done.stderr == b""):
-        raise Wrong(f"helgrothy status: {done}")
+        raise Wrong(f"helgrothy search --status: {done}")
 
 
 def result(trial, folder, must_be_done=False):
     if not os.path.isdir(folder):
         return
-    words = ["result", folder, *(["--list"] if trial.listed else [])]
+    words = ["search", "--result", folder, *(["--list"] if trial.listed else [])]
     status, printed, _ = trial.end(trial.start(words))
     if status != 0 and (printed or must_be_done):
-        raise Wrong(f"helgrothy result: {status}, {len(printed)} bytes")
+        raise Wrong(f"helgrothy search --result: {status}, {len(printed)} bytes")
 
 
 def looked_at_while_it_runs(trial):
@@ -463,10 +463,10 @@ def by_hand(trial):
     """Between rows, each by a program, and joined: as a queue does it that runs programs alone."""
     with open(trial.path, "rb") as given:
         count = str(trial.rng.choice([1, 5, 40]))
-        words = ["helgrothy", "rows", "--count", count, "--for", f"dlx{trial.kind}"]
+        words = ["helgrothy", "search", "-", "--rows", count, "--for", f"dlx{trial.kind}"]
         told = subprocess.run(words, stdin=given, capture_output=True)
     if told.returncode != 0 or told.stderr:
-        raise Wrong(f"helgrothy rows: {told}")
+        raise Wrong(f"helgrothy search --rows: {told}")
     rows = told.stdout.decode().split()
     if [tuple(map(int, row.split("."))) for row in rows] != sorted({tuple(map(int, row.split("."))) for row in rows}):
         raise Wrong(f"rows don't rise: {rows}")

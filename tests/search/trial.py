@@ -15,7 +15,7 @@ sys.path[:0] = [os.path.join(TOP, "python"), os.path.join(TOP, "python", "tests"
 os.environ["PYTHONDONTWRITEBYTECODE"] = "1"
 
 from helgrothy.make import langford, queens  # noqa: E402
-from helgrothy.spans.folder import Look  # noqa: E402, F401
+from helgrothy._spans.folder import Look  # noqa: E402, F401
 from problems import digest_of, narrow, problem_of  # noqa: E402, F401
 
 NOT_DONE, CANT, STOPPED = 6, 2, (129, 130, 131, 143, -1, -2, -3, -9, -15)

@@ -6,7 +6,7 @@ from collections.abc import Callable, Iterable, Sequence
 from dataclasses import dataclass
 from typing import Any
 
-from ..named import Named
+from .._text.named import Named
 from ..problem import Problem
 
 

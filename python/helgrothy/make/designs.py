@@ -9,11 +9,11 @@ from dataclasses import dataclass, field
 from math import comb, prod
 from typing import Optional
 
+from .._text.names import colour_names
+from .._text.shown import bytes_of
+from .._text.syntax import MOST_USES, Nearest
 from ..errors import TableFault
-from ..names import colour_names
 from ..problem import Problem
-from ..shown import bytes_of
-from ..syntax import MOST_USES, Nearest
 from .kind import check_items, numbered
 
 Option = dict[Hashable, Optional[str]]

@@ -14,11 +14,11 @@ import time
 from collections.abc import Iterator, Sequence
 from dataclasses import dataclass
 
+from .._run.programs import Run
+from .._text.names import codes
+from .._text.shown import bytes_of
 from ..errors import OutOfTime
-from ..names import codes
 from ..problem import Problem
-from ..programs import Run
-from ..shown import bytes_of
 from ..shuffle import order
 from .designs import Design, Factor, Meeting, Option
 from .kind import Found
@@ -171,8 +171,8 @@ class _Lines:
         """The tests of a solution by their numbers, none where there is no solution, or None where the steps weren't
         enough to know. Raises `OutOfTime`."""
         # Who makes problems alone doesn't wait for these.
-        from ..spans.record import of_text
-        from ..spans.rows import WHOLE
+        from .._spans.record import of_text
+        from .._spans.rows import WHOLE
 
         text = b""
         with Run("dlx-span", ["2", "m1", str(steps), "-", "-"], (line + b"\n" for line in lines), seconds) as run:

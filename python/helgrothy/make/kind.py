@@ -9,14 +9,14 @@ from collections.abc import Callable, Iterable, Sequence, Sized
 from dataclasses import dataclass
 from typing import TYPE_CHECKING, Any, TypeVar
 
-from ..console import did_you_mean, read
+from .._cli.console import did_you_mean, read
+from .._text.syntax import MOST_ITEMS, MOST_USES
 from ..draw import Drawing
 from ..errors import TableFault
 from ..problem import Problem
-from ..syntax import MOST_ITEMS, MOST_USES
 
 if TYPE_CHECKING:
-    from ..sheet import Sheet
+    from .._text.sheet import Sheet
     from ..wishes import Wish
     from .clues import Clues
 

@@ -21,10 +21,10 @@ from collections.abc import Iterator
 from dataclasses import dataclass, field
 from typing import NoReturn
 
-from ..amounts import number_of
+from .._text.amounts import number_of
+from .._text.shown import bytes_of
+from .._text.syntax import MOST_NAME, MOST_USES, Nearest
 from ..errors import TableFault
-from ..shown import bytes_of
-from ..syntax import MOST_NAME, MOST_USES, Nearest
 
 # What each kind of line has in its cells.
 _CELLS = {

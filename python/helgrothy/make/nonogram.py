@@ -10,15 +10,15 @@ from __future__ import annotations
 
 import argparse
 import re
-from dataclasses import dataclass
 from collections.abc import Collection, Iterator, Sequence
+from dataclasses import dataclass
 from itertools import chain, groupby
 from typing import Any, Optional
 
+from .._text.syntax import MOST_USES
 from ..draw import Cell, Drawing, Picture, check_size
 from ..errors import TableFault
 from ..problem import Problem
-from ..syntax import MOST_USES
 from .clues import Clues
 from .kind import Counted, Kind, check_texts, cut, numbered, read_text
 from .runs import EMPTY, FILLED, Clue, arrangements, count, known, steps

@@ -8,9 +8,9 @@ from collections import Counter
 from collections.abc import Callable, Collection, Iterable, Iterator, Sequence
 from typing import Any
 
+from .._text.syntax import MOST_USES
 from ..errors import TableFault
 from ..problem import Problem
-from ..syntax import MOST_USES
 
 Place = tuple[int, ...]
 Form = frozenset[Place]

@@ -7,11 +7,11 @@ import re
 from collections.abc import Iterator, Sequence
 from typing import Any
 
+from .._reason.turns import images
 from ..draw import Cell, Drawing, Shades
+from ..draw.solid import Cube, Solid, check_box
 from ..errors import TableFault
 from ..problem import Problem
-from ..solid import Cube, Solid, check_box
-from ..turns import images
 from .cubes import SETS
 from .kind import Counted, Kind, check_items, check_sizes, check_texts, is_one, numbered, read_text
 from .pieces import Form, Pieces, alike

@@ -11,7 +11,7 @@ from ..draw import Cell, Drawing, Picture, Shades, check_size
 from ..errors import TableFault
 from ..problem import Problem
 from .kind import Counted, Kind, check_items, check_sizes, check_texts, is_one, numbered, picture, read_text
-from .pieces import Form, Place, Pieces, alike
+from .pieces import Form, Pieces, Place, alike
 
 Square = tuple[int, int]
 

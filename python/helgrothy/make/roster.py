@@ -8,13 +8,13 @@ from collections.abc import Iterable, Iterator, Sequence
 from dataclasses import dataclass, field
 from typing import Any
 
-from ..amounts import number_of
-from ..console import positive
+from .._cli.console import positive
+from .._text.amounts import number_of
+from .._text.sheet import Row, Sheet, whole_names
+from .._text.syntax import MOST_USES
 from ..draw import Cell, Drawing, Picture, Shades, check_size
 from ..errors import TableFault
 from ..problem import Problem
-from ..sheet import Row, Sheet, whole_names
-from ..syntax import MOST_USES
 from ..wishes import Wish, check
 from .kind import Counted, Kind, check_items, check_numbers, check_texts, numbered, read_text
 from .rules import DaysOff, InARow, Rest, Rule

@@ -8,10 +8,10 @@ from collections import Counter
 from collections.abc import Iterable, Sequence
 from typing import Any
 
+from .._text.sheet import Row, Sheet, whole_names
 from ..draw import Cell, Drawing, Picture, check_size
 from ..errors import TableFault
 from ..problem import Problem
-from ..sheet import Row, Sheet, whole_names
 from .kind import Counted, Kind, check_items, check_texts, numbered, read_text
 
 # Where the table begins in the comments of a problem.

@@ -11,10 +11,10 @@ from collections.abc import Iterator, Sequence
 from dataclasses import dataclass
 from typing import Any
 
+from .._text.syntax import MOST_USES
 from ..draw import Cell, Drawing, Picture
 from ..errors import TableFault
 from ..problem import Problem
-from ..syntax import MOST_USES
 from . import areas
 from .areas import Cage, Square
 from .clues import Clues, options_of

@@ -7,10 +7,10 @@ import re
 from collections.abc import Callable, Iterator, Sequence
 from typing import Any
 
-from ..console import positive
+from .._cli.console import positive
+from .._text.sheet import Row, Sheet
 from ..draw import Cell, Drawing, Picture, check_size, shade
 from ..problem import Problem
-from ..sheet import Row, Sheet
 from . import allowed
 from .designs import LEVELS, Design, Factor, Option, read_factors, read_rules
 from .fewest import Few, fewest

@@ -6,13 +6,13 @@ import argparse
 from collections.abc import Iterable, Sequence
 from typing import Any, Optional
 
-from ..amounts import number_of
-from ..console import positive
+from .._cli.console import positive
+from .._text.amounts import number_of
+from .._text.sheet import Row, Sheet, whole_names
+from .._text.shown import bytes_of
+from .._text.syntax import MOST_NAME
 from ..draw import Cell, Drawing, Picture, Shades, check_size
 from ..problem import Problem
-from ..sheet import Row, Sheet, whole_names
-from ..shown import bytes_of
-from ..syntax import MOST_NAME
 from ..wishes import Wish, check
 from .kind import Counted, Kind, check_items, check_numbers, check_texts, numbered, read_text
 from .lessons import Lesson, Order, Plan, Room, Slot

@@ -8,9 +8,9 @@ from collections import Counter
 from collections.abc import Iterable, Iterator, Sequence
 from typing import Any, Optional
 
+from .._text.syntax import MOST_USES
 from ..draw import Cell, Drawing, Picture, check_size
 from ..problem import Problem
-from ..syntax import MOST_USES
 from .kind import Counted, Kind, check_texts, picture, read_text
 
 Square = tuple[int, int]

@@ -9,24 +9,13 @@ import sys
 from collections.abc import Iterable, Iterator, Mapping, Sequence
 from typing import TYPE_CHECKING, Any, Optional
 
-from ..console import number
+from .._cli.console import number
+from .._text.shown import bytes_of
+from .._text.syntax import MOST_COLOUR, MOST_NAME, MOST_USES
 from ..draw import Cell, Drawing, Picture, Shades, check_size
 from ..errors import TableFault
 from ..problem import Problem
-from ..shown import bytes_of
-from ..syntax import MOST_COLOUR, MOST_NAME, MOST_USES
-from .kind import (
-    Counted,
-    Kind,
-    check_items,
-    check_numbers,
-    check_sizes,
-    check_texts,
-    cut,
-    numbered,
-    picture,
-    read_text,
-)
+from .kind import Counted, Kind, check_items, check_numbers, check_sizes, check_texts, cut, numbered, picture, read_text
 
 if TYPE_CHECKING:
     import random

@@ -1,0 +1,80 @@
+"""The command `count`, and the option `--count` of those that solve."""
+
+from __future__ import annotations
+
+from collections.abc import Callable
+from typing import TYPE_CHECKING, Any
+
+from ..errors import OutOfTime
+from . import console
+from .console import number, seconds, write
+
+if TYPE_CHECKING:
+    import argparse
+
+    from ..problem import Problem
+
+
+def add(commands: Any, act: Callable[[argparse.Namespace], int]) -> None:
+    """Adds the command, which does what `act` does."""
+    from .._run.counter import MOST_MEGABYTES
+
+    parser = commands.add_parser(
+        "count",
+        help="count the solutions of a problem",
+        description="Prints how many solutions a problem has, exactly: by dlx-count, which makes none of them, and at "
+        "the same time by a search that makes each; the first that ends gives the number. Status 1 says that there is "
+        "no solution.",
+    )
+    console.add_problem(parser)
+    parser.add_argument(
+        "--json",
+        dest="data",
+        action="store_const",
+        const="json",
+        help="a line of JSON: the number, and the program that counted",
+    )
+    parser.add_argument(
+        "--megabytes",
+        type=number,
+        default=MOST_MEGABYTES,
+        metavar="M",
+        help=f"the memory of dlx-count (default: {MOST_MEGABYTES})",
+    )
+    parser.add_argument("--seconds", type=seconds, metavar="S", help="give up after S seconds")
+    parser.set_defaults(command=act)
+
+
+def add_option(which: Any) -> None:
+    """Adds `--count` to the options of solving that say which solutions are shown."""
+    which.add_argument("--count", action="store_true", help="only how many solutions there are")
+
+
+def show(problem: Problem[Any], arguments: argparse.Namespace) -> int:
+    """Prints how many solutions a problem has."""
+    memory = {"megabytes": arguments.megabytes} if "megabytes" in arguments else {}
+    try:
+        counted = problem._count(arguments.seconds, gives_up=_tell_search, **memory)
+    except OutOfTime as error:
+        console.say(f"helgrothy: {error}; {error.found} solution{'' if error.found == 1 else 's'} till then")
+        return 2
+    console.write_long_numbers()
+    if arguments.data == "json":
+        import json
+
+        write([json.dumps({"solutions": counted.total, "program": counted.program}) + "\n"])
+    else:
+        write([f"{counted.total}\n"])
+    return 0 if counted.total else 1
+
+
+def check(arguments: argparse.Namespace) -> None:
+    """Raises `ValueError` where a count can't be shown in the form that is asked for."""
+    if arguments.shuffle is not None or arguments.up_to_symmetry:
+        raise ValueError("all solutions are counted: without --shuffle and --up-to-symmetry")
+    if arguments.svg or arguments.html or arguments.data == "csv":
+        raise ValueError("a number is printed as it is or by --json")
+
+
+def _tell_search(told: str) -> None:
+    console.say(f"helgrothy: {told.splitlines()[-1] if told else 'dlx-count failed'} The search goes on.")

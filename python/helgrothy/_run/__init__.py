@@ -1,0 +1,1 @@
+"""Runs of the programs: what they are given, and their lines read as solutions and counts."""

@@ -1,0 +1,88 @@
+"""Counts by the program dlx-count, beside a search by the solver.
+
+Where much repeats dlx-count is faster than any search. Where little does, it searches by turns, and the solver alone is
+somewhat faster and knows how many solutions it has found. So both run at once, and the first that ends gives the
+number. On a single processor the solver has nine tenths of it.
+"""
+
+from __future__ import annotations
+
+import re
+from collections.abc import Callable, Sequence
+from contextlib import ExitStack
+from dataclasses import dataclass
+
+from .._text.listing import last_number
+from ..errors import OutOfTime, ProgramNotFound
+from .programs import Ending, Run
+
+PROGRAM = "dlx-count"
+# What dlx-count may take for its states, in megabytes.
+MOST_MEGABYTES = 512
+LAST_LINE = re.compile(r"Altogether (\d+) solutions?\.\Z")
+# Python reads so many digits at once.
+_DIGITS = 4000
+
+
+@dataclass(frozen=True)
+class Count:
+    """How many solutions there are, and the program that counted them."""
+
+    total: int
+    program: str
+
+
+def count(
+    text: bytes,
+    kind: int,
+    words: Sequence[str] = (),
+    seconds: float | None = None,
+    *,
+    megabytes: int = MOST_MEGABYTES,
+    gives_up: Callable[[str], object] = lambda told: None,
+) -> Count:
+    """How many solutions the problem of a text has.
+
+    words: arguments of the search. gives_up: gets what dlx-count said where it has no number; the search goes on.
+
+    Raises `ProgramNotFound`, `ProgramFailed` and `OutOfTime`, whose `found` is the last number that the search printed.
+    """
+    found, line = 0, b""
+    with ExitStack() as both:
+        search = both.enter_context(Run(f"dlx{kind}", words, [text], seconds))
+        counter = _begun(both, text, kind, megabytes)
+        try:
+            while not search.has_ended:
+                for chunk in search.chunks(until=counter):
+                    found = last_number(line + chunk) or found
+                    line = (line + chunk).rpartition(b"\n")[2]
+                if counter is not None and not search.has_ended:
+                    told = counter.messages().rpartition("\n")[2] if counter.status() == 0 else ""
+                    if last := LAST_LINE.match(told):
+                        return Count(read_number(last.group(1)), PROGRAM)
+                    gives_up(counter.messages())
+                    counter = None
+            total = Ending(search).total
+        except OutOfTime as error:
+            error.found = found
+            raise
+    return Count(total, search.program)
+
+
+def _begun(both: ExitStack, text: bytes, kind: int, megabytes: int) -> Run | None:
+    """A run of dlx-count, if it can be had."""
+    try:
+        counter = both.enter_context(Run(PROGRAM, [str(kind), f"b{megabytes}"], [text]))
+    except (ProgramNotFound, OSError):
+        return None
+    counter.go_behind()
+    return counter
+
+
+def read_number(digits: str) -> int:
+    """The number of decimal digits, however many there are."""
+    if len(digits) <= _DIGITS:
+        return int(digits)
+    half = len(digits) // 2
+    shift: int = 10**half
+    return read_number(digits[:-half]) * shift + read_number(digits[-half:])

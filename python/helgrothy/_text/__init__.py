@@ -1,0 +1,1 @@
+"""Text: of problems and of listings, names as the programs read them, and tables."""
