@@ -18,6 +18,7 @@ The modules, which need no import of their own:
     minimal   finds out which of the options that are given a single solution takes
     lint      looks for slips in the text of a problem
     why       says why a problem has no solution
+    graphs    makes problems of graphs, such as those of networkx: matchings, colourings, covers by edges
     export    writes problems for other solvers; `answers` reads what they answer
     engines   finds one solution by other engines as well as the programs
 
@@ -39,6 +40,7 @@ if TYPE_CHECKING:
         engines,
         export,
         given,
+        graphs,
         hint,
         lint,
         make,
@@ -99,6 +101,7 @@ __all__ = [
     "engines",
     "export",
     "given",
+    "graphs",
     "hint",
     "lint",
     "make",
