@@ -108,6 +108,7 @@ set -g __helgrothy_valued \
     'helgrothy make wordsearch --fill' \
     'helgrothy make roster --in-a-row' \
     'helgrothy make roster --days-off' \
+    'helgrothy make roundrobin --in-a-row' \
     'helgrothy make tests --tests' \
     'helgrothy make tests --strength' \
     'helgrothy make timetable --daily' \
@@ -178,6 +179,7 @@ set -g __helgrothy_valued \
     'helgrothy hint roster --with' \
     'helgrothy hint roster --without' \
     'helgrothy hint roster --seconds' \
+    'helgrothy hint roundrobin --in-a-row' \
     'helgrothy hint roundrobin --with' \
     'helgrothy hint roundrobin --without' \
     'helgrothy hint roundrobin --seconds' \
@@ -289,6 +291,7 @@ set -g __helgrothy_valued \
     'helgrothy roster --without' \
     'helgrothy roster --shuffle' \
     'helgrothy roster --cost' \
+    'helgrothy roundrobin --in-a-row' \
     'helgrothy roundrobin --number' \
     'helgrothy roundrobin --limit' \
     'helgrothy roundrobin --seed' \
@@ -397,6 +400,7 @@ complete -c helgrothy -n '__helgrothy_is \'helgrothy make roster\'' -l in-a-row 
 complete -c helgrothy -n '__helgrothy_is \'helgrothy make roster\'' -l days-off -r -f -d 'everybody has N days off together, once at least'
 complete -c helgrothy -n '__helgrothy_is \'helgrothy make roundrobin\'' -s h -l help -d 'show this help message and exit'
 complete -c helgrothy -n '__helgrothy_is \'helgrothy make roundrobin\'' -l double -d 'each two teams meet twice, once at each one\'s home'
+complete -c helgrothy -n '__helgrothy_is \'helgrothy make roundrobin\'' -l in-a-row -r -f -d 'no team is more than N rounds in a row at home, or away'
 complete -c helgrothy -n '__helgrothy_is \'helgrothy make tests\'' -s h -l help -d 'show this help message and exit'
 complete -c helgrothy -n '__helgrothy_is \'helgrothy make tests\'' -l tests -r -f -d 'so many tests'
 complete -c helgrothy -n '__helgrothy_is \'helgrothy make tests\'' -l strength -r -f -d 'the values of any T factors come together (default: 2)'
@@ -534,6 +538,7 @@ complete -c helgrothy -n '__helgrothy_is \'helgrothy hint roster\'' -l without -
 complete -c helgrothy -n '__helgrothy_is \'helgrothy hint roster\'' -l seconds -r -f -d 'the time (default: 5)'
 complete -c helgrothy -n '__helgrothy_is \'helgrothy hint roundrobin\'' -s h -l help -d 'show this help message and exit'
 complete -c helgrothy -n '__helgrothy_is \'helgrothy hint roundrobin\'' -l double -d 'each two teams meet twice, once at each one\'s home'
+complete -c helgrothy -n '__helgrothy_is \'helgrothy hint roundrobin\'' -l in-a-row -r -f -d 'no team is more than N rounds in a row at home, or away'
 complete -c helgrothy -n '__helgrothy_is \'helgrothy hint roundrobin\'' -l with -r -f -d 'only solutions with the option that has these items, as many as it takes to be clear; may be repeated'
 complete -c helgrothy -n '__helgrothy_is \'helgrothy hint roundrobin\'' -l without -r -f -d 'only solutions without the options that have all of these items, or patterns of them; may be repeated'
 complete -c helgrothy -n '__helgrothy_is \'helgrothy hint roundrobin\'' -l seconds -r -f -d 'the time (default: 5)'
@@ -785,6 +790,7 @@ complete -c helgrothy -n '__helgrothy_is \'helgrothy roster\'' -l up-to-symmetry
 complete -c helgrothy -n '__helgrothy_is \'helgrothy roster\'' -l cost -r -F -d 'the solution of least cost, from a file: lines of names of items (or patterns) and a number, which each option that has them costs, or a number for each option; by clasp where the path has it, else by dlx3'
 complete -c helgrothy -n '__helgrothy_is \'helgrothy roundrobin\'' -s h -l help -d 'show this help message and exit'
 complete -c helgrothy -n '__helgrothy_is \'helgrothy roundrobin\'' -l double -d 'each two teams meet twice, once at each one\'s home'
+complete -c helgrothy -n '__helgrothy_is \'helgrothy roundrobin\'' -l in-a-row -r -f -d 'no team is more than N rounds in a row at home, or away'
 complete -c helgrothy -n '__helgrothy_is \'helgrothy roundrobin\'' -l number -r -f -d 'the K-th solution instead of the first'
 complete -c helgrothy -n '__helgrothy_is \'helgrothy roundrobin\'' -l random -d 'one of all solutions, each as likely as any other'
 complete -c helgrothy -n '__helgrothy_is \'helgrothy roundrobin\'' -l limit -r -f -d 'the first N solutions'
