@@ -68,7 +68,9 @@ def draw(arguments: argparse.Namespace) -> int:
     page = page_of(problem, arguments)
     show = showing(problem, arguments, None, page)
     shown = 0
+    numbers: list[int] = []
     for listed in problem.listed(console.input_lines()):
+        numbers = [*numbers[:1], listed.number]
         if arguments.number in (None, listed.number):
             show(listed.number, listed, lambda _: listed.numbers, lambda: listed.steps)
             shown += 1
@@ -76,7 +78,15 @@ def draw(arguments: argparse.Namespace) -> int:
                 break
     if page is not None and shown:
         write([page.text(shown, False)])
-    return 0 if shown else fail(f"the listing has no solution {arguments.number or 'to draw'}", 1)
+    return 0 if shown else fail(_none_of(arguments.number, numbers), 1)
+
+
+def _none_of(number: int | None, ends: list[int]) -> str:
+    """What to say where a listing has no solution of a number, or none; `ends`: the first number that it has, and the
+    last one."""
+    if not ends:
+        return "the listing has no solution to draw; with m1 a program lists each, with m1 t1 the first"
+    return f"the listing has no solution {number}: its numbers are {' to '.join(map(str, dict.fromkeys(ends)))}"
 
 
 # ---- lint, export, why, count, hint, minimal

@@ -180,7 +180,8 @@ class _Listing:
             console.say(line)
         self._write_page(total, is_complete, reasons)
         if total and not self._shown:
-            return fail(f"there is no solution {self._number}", 1)
+            numbers = f"1 to {total}" if total > 1 else "1 alone"
+            return fail(f"there is no solution {self._number}: --number takes {numbers}", 1)
         return 0 if self._shown and len(self._pair) < 2 else 1
 
     def _deadline(self) -> float | None:
