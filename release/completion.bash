@@ -78,7 +78,7 @@ _dlx_options() {
         'helgrothy make timetable')
             options='--help --daily' ;;
         'helgrothy solve')
-            options='--help --number --random --limit --all --count --chances --unique --svg --html --json --csv --options --seed --seconds --with --without --shuffle --up-to-symmetry --cost --cell --row --column --label' ;;
+            options='--help --number --random --limit --all --count --chances --unique --svg --html --json --csv --options --seed --seconds --with --without --shuffle --up-to-symmetry --cost --all-costs --cell --row --column --label' ;;
         'helgrothy draw')
             options='--help --number --svg --html --json --csv --options --cell --row --column --label' ;;
         'helgrothy lint')
@@ -118,23 +118,23 @@ _dlx_options() {
         'helgrothy minimal sudoku')
             options='--help --regions --cages --diagonals --with --seed --seconds' ;;
         'helgrothy sudoku')
-            options='--help --regions --cages --diagonals --number --random --limit --all --count --chances --unique --svg --html --json --csv --options --seed --seconds --with --without --shuffle --up-to-symmetry --cost' ;;
+            options='--help --regions --cages --diagonals --number --random --limit --all --count --chances --unique --svg --html --json --csv --options --seed --seconds --with --without --shuffle --up-to-symmetry --cost --all-costs' ;;
         'helgrothy queens' | 'helgrothy langford' | 'helgrothy words' | 'helgrothy nonogram' | 'helgrothy kakuro')
-            options='--help --number --random --limit --all --count --chances --unique --svg --html --json --csv --options --seed --seconds --with --without --shuffle --up-to-symmetry --cost' ;;
+            options='--help --number --random --limit --all --count --chances --unique --svg --html --json --csv --options --seed --seconds --with --without --shuffle --up-to-symmetry --cost --all-costs' ;;
         'helgrothy polyominoes')
-            options='--help --no-turns --no-mirrors --some --number --random --limit --all --count --chances --unique --svg --html --json --csv --options --seed --seconds --with --without --shuffle --up-to-symmetry --cost' ;;
+            options='--help --no-turns --no-mirrors --some --number --random --limit --all --count --chances --unique --svg --html --json --csv --options --seed --seconds --with --without --shuffle --up-to-symmetry --cost --all-costs' ;;
         'helgrothy polycubes')
-            options='--help --mirrors --some --number --random --limit --all --count --chances --unique --svg --html --json --csv --options --seed --seconds --with --without --shuffle --up-to-symmetry --cost' ;;
+            options='--help --mirrors --some --number --random --limit --all --count --chances --unique --svg --html --json --csv --options --seed --seconds --with --without --shuffle --up-to-symmetry --cost --all-costs' ;;
         'helgrothy wordsearch')
-            options='--help --forwards --fill --number --random --limit --all --count --chances --unique --svg --html --json --csv --options --seed --seconds --with --without --shuffle --up-to-symmetry --cost' ;;
+            options='--help --forwards --fill --number --random --limit --all --count --chances --unique --svg --html --json --csv --options --seed --seconds --with --without --shuffle --up-to-symmetry --cost --all-costs' ;;
         'helgrothy roster')
-            options='--help --rest --in-a-row --days-off --number --random --limit --all --count --chances --unique --svg --html --json --csv --options --seed --seconds --with --without --shuffle --up-to-symmetry --cost' ;;
+            options='--help --rest --in-a-row --days-off --number --random --limit --all --count --chances --unique --svg --html --json --csv --options --seed --seconds --with --without --shuffle --up-to-symmetry --cost --all-costs' ;;
         'helgrothy roundrobin')
-            options='--help --double --in-a-row --number --random --limit --all --count --chances --unique --svg --html --json --csv --options --seed --seconds --with --without --shuffle --up-to-symmetry --cost' ;;
+            options='--help --double --in-a-row --number --random --limit --all --count --chances --unique --svg --html --json --csv --options --seed --seconds --with --without --shuffle --up-to-symmetry --cost --all-costs' ;;
         'helgrothy tests')
-            options='--help --tests --strength --least --number --random --limit --all --count --chances --unique --svg --html --json --csv --options --seed --seconds --with --without --shuffle --up-to-symmetry --cost' ;;
+            options='--help --tests --strength --least --number --random --limit --all --count --chances --unique --svg --html --json --csv --options --seed --seconds --with --without --shuffle --up-to-symmetry --cost --all-costs' ;;
         'helgrothy timetable')
-            options='--help --daily --number --random --limit --all --count --chances --unique --svg --html --json --csv --options --seed --seconds --with --without --shuffle --up-to-symmetry --cost' ;;
+            options='--help --daily --number --random --limit --all --count --chances --unique --svg --html --json --csv --options --seed --seconds --with --without --shuffle --up-to-symmetry --cost --all-costs' ;;
         *) return 1 ;;
     esac
 }

@@ -25,10 +25,11 @@ MISTAKES = (
     (
         ["queens", "8", "--wherever", "3"],
         "helgrothy queens: --wherever: no such option (there are --number, --random, --limit, --all, --count, --chances, --unique, --svg, --html, --json, "
-        "--csv, --options, --seed, --seconds, --with, --without, --shuffle, --up-to-symmetry and --cost); see helgrothy queens --help",
+        "--csv, --options, --seed, --seconds, --with, --without, --shuffle, --up-to-symmetry, --cost and --all-costs); see "
+        "helgrothy queens --help",
     ),
     (["queens", "8", "--limt=3"], "helgrothy queens: --limt: no such option (is it --limit?); see helgrothy queens --help"),
-    (["queens", "8", "--al"], "helgrothy queens: --al: no such option (is it --all?); see helgrothy queens --help"),
+    (["queens", "8", "--al"], "helgrothy queens: --al: no such option (is it --all or --all-costs?); see helgrothy queens --help"),
     (
         ["count", "queens", "8"],
         "helgrothy count: queens: a problem stands here, and this makes one: helgrothy make queens 8 | helgrothy count; "

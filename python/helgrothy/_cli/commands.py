@@ -214,6 +214,12 @@ def _add_solving(parser: Parser) -> None:
     with parser.under(_WHICH):
         add_choices(parser)
         _add_ways(parser)
+    with parser.under(_SHOWN):
+        parser.add_argument(
+            "--all-costs",
+            action="store_true",
+            help="of --cost and wishes: each line that costs something, not only the ten that cost most",
+        )
 
 
 def _add_which(parser: argparse.ArgumentParser) -> None:

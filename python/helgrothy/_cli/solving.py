@@ -46,7 +46,9 @@ def solve(problem: Problem[Any], arguments: argparse.Namespace) -> int:
     asked = Given(problem, *choices(problem, arguments))
     costs = _costs(problem, arguments)
     if costs is not None:
-        return _show_least(asked, costs, arguments)
+        return _show_least(asked, costs if arguments.all_costs else costs.folded(), arguments)
+    if arguments.all_costs:
+        raise ValueError("--all-costs is of --cost, and of the wishes of a table")
     if arguments.count:
         count_command.check(arguments)
         return count_command.show(asked.inner, arguments)
