@@ -104,6 +104,7 @@ set -g __helgrothy_valued \
     'helgrothy make wordsearch --fill' \
     'helgrothy make roster --in-a-row' \
     'helgrothy make roster --days-off' \
+    'helgrothy make roundrobin --in-a-row' \
     'helgrothy make tests --tests' \
     'helgrothy make tests --strength' \
     'helgrothy make timetable --daily' \
@@ -175,6 +176,7 @@ set -g __helgrothy_valued \
     'helgrothy hint roster --with' \
     'helgrothy hint roster --without' \
     'helgrothy hint roster --seconds' \
+    'helgrothy hint roundrobin --in-a-row' \
     'helgrothy hint roundrobin --with' \
     'helgrothy hint roundrobin --without' \
     'helgrothy hint roundrobin --seconds' \
@@ -286,6 +288,7 @@ set -g __helgrothy_valued \
     'helgrothy roster --without' \
     'helgrothy roster --shuffle' \
     'helgrothy roster --cost' \
+    'helgrothy roundrobin --in-a-row' \
     'helgrothy roundrobin --number' \
     'helgrothy roundrobin --limit' \
     'helgrothy roundrobin --seed' \
@@ -390,6 +393,7 @@ complete -c helgrothy -n '__helgrothy_is \'helgrothy make roster\'' -l in-a-row 
 complete -c helgrothy -n '__helgrothy_is \'helgrothy make roster\'' -l days-off -r -f -d 'everybody has N days off together, once at least'
 complete -c helgrothy -n '__helgrothy_is \'helgrothy make roundrobin\'' -s h -l help -d 'show this help message and exit'
 complete -c helgrothy -n '__helgrothy_is \'helgrothy make roundrobin\'' -l double -d 'each two teams meet twice, once at each one\'s home'
+complete -c helgrothy -n '__helgrothy_is \'helgrothy make roundrobin\'' -l in-a-row -r -f -d 'no team is more than N rounds in a row at home, or away'
 complete -c helgrothy -n '__helgrothy_is \'helgrothy make tests\'' -s h -l help -d 'show this help message and exit'
 complete -c helgrothy -n '__helgrothy_is \'helgrothy make tests\'' -l tests -r -f -d 'so many tests'
 complete -c helgrothy -n '__helgrothy_is \'helgrothy make tests\'' -l strength -r -f -d 'the values of any T factors come together (default: 2)'
@@ -415,6 +419,7 @@ complete -c helgrothy -n '__helgrothy_is \'helgrothy solve\'' -l without -r -f -
 complete -c helgrothy -n '__helgrothy_is \'helgrothy solve\'' -l shuffle -r -f -d 'solutions in a random order of the options, the same for the same number'
 complete -c helgrothy -n '__helgrothy_is \'helgrothy solve\'' -l up-to-symmetry -d 'one solution of those that are images of each other by turns and mirrors of the board or box'
 complete -c helgrothy -n '__helgrothy_is \'helgrothy solve\'' -l cost -r -F -d 'the solution of least cost, from a file: lines of names of items (or patterns) and a number, which each option that has them costs, or a number for each option; by clasp where the path has it, else by dlx3'
+complete -c helgrothy -n '__helgrothy_is \'helgrothy solve\'' -l all-costs -d 'of --cost and wishes: each line that costs something, not only the ten that cost most'
 complete -c helgrothy -n '__helgrothy_is \'helgrothy solve\'' -l cell -r -f -d 'a regular expression that finds the cells, as whole words, in an option\'s line; its first two groups (or those named row and column) are row and column, a number or a single letter, and a third one its label'
 complete -c helgrothy -n '__helgrothy_is \'helgrothy solve\'' -l row -r -f -d 'a regular expression that finds the name of a row in the words of an option: the picture is a table of these names, in the order of the file'
 complete -c helgrothy -n '__helgrothy_is \'helgrothy solve\'' -l column -r -f -d 'a regular expression that finds the name of a column in the words of an option: the picture is a table of these names, in the order of the file'
@@ -524,6 +529,7 @@ complete -c helgrothy -n '__helgrothy_is \'helgrothy hint roster\'' -l without -
 complete -c helgrothy -n '__helgrothy_is \'helgrothy hint roster\'' -l seconds -r -f -d 'the time (default: 5)'
 complete -c helgrothy -n '__helgrothy_is \'helgrothy hint roundrobin\'' -s h -l help -d 'show this help message and exit'
 complete -c helgrothy -n '__helgrothy_is \'helgrothy hint roundrobin\'' -l double -d 'each two teams meet twice, once at each one\'s home'
+complete -c helgrothy -n '__helgrothy_is \'helgrothy hint roundrobin\'' -l in-a-row -r -f -d 'no team is more than N rounds in a row at home, or away'
 complete -c helgrothy -n '__helgrothy_is \'helgrothy hint roundrobin\'' -l with -r -f -d 'only solutions with the option that has these items, as many as it takes to be clear; may be repeated'
 complete -c helgrothy -n '__helgrothy_is \'helgrothy hint roundrobin\'' -l without -r -f -d 'only solutions without the options that have all of these items, or patterns of them; may be repeated'
 complete -c helgrothy -n '__helgrothy_is \'helgrothy hint roundrobin\'' -l seconds -r -f -d 'the time (default: 5)'
@@ -583,6 +589,7 @@ complete -c helgrothy -n '__helgrothy_is \'helgrothy sudoku\'' -l without -r -f 
 complete -c helgrothy -n '__helgrothy_is \'helgrothy sudoku\'' -l shuffle -r -f -d 'solutions in a random order of the options, the same for the same number'
 complete -c helgrothy -n '__helgrothy_is \'helgrothy sudoku\'' -l up-to-symmetry -d 'one solution of those that are images of each other by turns and mirrors of the board or box'
 complete -c helgrothy -n '__helgrothy_is \'helgrothy sudoku\'' -l cost -r -F -d 'the solution of least cost, from a file: lines of names of items (or patterns) and a number, which each option that has them costs, or a number for each option; by clasp where the path has it, else by dlx3'
+complete -c helgrothy -n '__helgrothy_is \'helgrothy sudoku\'' -l all-costs -d 'of --cost and wishes: each line that costs something, not only the ten that cost most'
 complete -c helgrothy -n '__helgrothy_is \'helgrothy queens\'' -s h -l help -d 'show this help message and exit'
 complete -c helgrothy -n '__helgrothy_is \'helgrothy queens\'' -l number -r -f -d 'the K-th solution instead of the first'
 complete -c helgrothy -n '__helgrothy_is \'helgrothy queens\'' -l random -d 'one of all solutions, each as likely as any other'
@@ -603,6 +610,7 @@ complete -c helgrothy -n '__helgrothy_is \'helgrothy queens\'' -l without -r -f 
 complete -c helgrothy -n '__helgrothy_is \'helgrothy queens\'' -l shuffle -r -f -d 'solutions in a random order of the options, the same for the same number'
 complete -c helgrothy -n '__helgrothy_is \'helgrothy queens\'' -l up-to-symmetry -d 'one solution of those that are images of each other by turns and mirrors of the board or box'
 complete -c helgrothy -n '__helgrothy_is \'helgrothy queens\'' -l cost -r -F -d 'the solution of least cost, from a file: lines of names of items (or patterns) and a number, which each option that has them costs, or a number for each option; by clasp where the path has it, else by dlx3'
+complete -c helgrothy -n '__helgrothy_is \'helgrothy queens\'' -l all-costs -d 'of --cost and wishes: each line that costs something, not only the ten that cost most'
 complete -c helgrothy -n '__helgrothy_is \'helgrothy langford\'' -s h -l help -d 'show this help message and exit'
 complete -c helgrothy -n '__helgrothy_is \'helgrothy langford\'' -l number -r -f -d 'the K-th solution instead of the first'
 complete -c helgrothy -n '__helgrothy_is \'helgrothy langford\'' -l random -d 'one of all solutions, each as likely as any other'
@@ -623,6 +631,7 @@ complete -c helgrothy -n '__helgrothy_is \'helgrothy langford\'' -l without -r -
 complete -c helgrothy -n '__helgrothy_is \'helgrothy langford\'' -l shuffle -r -f -d 'solutions in a random order of the options, the same for the same number'
 complete -c helgrothy -n '__helgrothy_is \'helgrothy langford\'' -l up-to-symmetry -d 'one solution of those that are images of each other by turns and mirrors of the board or box'
 complete -c helgrothy -n '__helgrothy_is \'helgrothy langford\'' -l cost -r -F -d 'the solution of least cost, from a file: lines of names of items (or patterns) and a number, which each option that has them costs, or a number for each option; by clasp where the path has it, else by dlx3'
+complete -c helgrothy -n '__helgrothy_is \'helgrothy langford\'' -l all-costs -d 'of --cost and wishes: each line that costs something, not only the ten that cost most'
 complete -c helgrothy -n '__helgrothy_is \'helgrothy polyominoes\'' -s h -l help -d 'show this help message and exit'
 complete -c helgrothy -n '__helgrothy_is \'helgrothy polyominoes\'' -l no-turns -d 'pieces may not be turned'
 complete -c helgrothy -n '__helgrothy_is \'helgrothy polyominoes\'' -l no-mirrors -d 'pieces may not be mirrored'
@@ -646,6 +655,7 @@ complete -c helgrothy -n '__helgrothy_is \'helgrothy polyominoes\'' -l without -
 complete -c helgrothy -n '__helgrothy_is \'helgrothy polyominoes\'' -l shuffle -r -f -d 'solutions in a random order of the options, the same for the same number'
 complete -c helgrothy -n '__helgrothy_is \'helgrothy polyominoes\'' -l up-to-symmetry -d 'one solution of those that are images of each other by turns and mirrors of the board or box'
 complete -c helgrothy -n '__helgrothy_is \'helgrothy polyominoes\'' -l cost -r -F -d 'the solution of least cost, from a file: lines of names of items (or patterns) and a number, which each option that has them costs, or a number for each option; by clasp where the path has it, else by dlx3'
+complete -c helgrothy -n '__helgrothy_is \'helgrothy polyominoes\'' -l all-costs -d 'of --cost and wishes: each line that costs something, not only the ten that cost most'
 complete -c helgrothy -n '__helgrothy_is \'helgrothy polycubes\'' -s h -l help -d 'show this help message and exit'
 complete -c helgrothy -n '__helgrothy_is \'helgrothy polycubes\'' -l mirrors -d 'mirror images of pieces may be used too'
 complete -c helgrothy -n '__helgrothy_is \'helgrothy polycubes\'' -l some -d 'pieces may be left over'
@@ -668,6 +678,7 @@ complete -c helgrothy -n '__helgrothy_is \'helgrothy polycubes\'' -l without -r 
 complete -c helgrothy -n '__helgrothy_is \'helgrothy polycubes\'' -l shuffle -r -f -d 'solutions in a random order of the options, the same for the same number'
 complete -c helgrothy -n '__helgrothy_is \'helgrothy polycubes\'' -l up-to-symmetry -d 'one solution of those that are images of each other by turns and mirrors of the board or box'
 complete -c helgrothy -n '__helgrothy_is \'helgrothy polycubes\'' -l cost -r -F -d 'the solution of least cost, from a file: lines of names of items (or patterns) and a number, which each option that has them costs, or a number for each option; by clasp where the path has it, else by dlx3'
+complete -c helgrothy -n '__helgrothy_is \'helgrothy polycubes\'' -l all-costs -d 'of --cost and wishes: each line that costs something, not only the ten that cost most'
 complete -c helgrothy -n '__helgrothy_is \'helgrothy words\'' -s h -l help -d 'show this help message and exit'
 complete -c helgrothy -n '__helgrothy_is \'helgrothy words\'' -l number -r -f -d 'the K-th solution instead of the first'
 complete -c helgrothy -n '__helgrothy_is \'helgrothy words\'' -l random -d 'one of all solutions, each as likely as any other'
@@ -688,6 +699,7 @@ complete -c helgrothy -n '__helgrothy_is \'helgrothy words\'' -l without -r -f -
 complete -c helgrothy -n '__helgrothy_is \'helgrothy words\'' -l shuffle -r -f -d 'solutions in a random order of the options, the same for the same number'
 complete -c helgrothy -n '__helgrothy_is \'helgrothy words\'' -l up-to-symmetry -d 'one solution of those that are images of each other by turns and mirrors of the board or box'
 complete -c helgrothy -n '__helgrothy_is \'helgrothy words\'' -l cost -r -F -d 'the solution of least cost, from a file: lines of names of items (or patterns) and a number, which each option that has them costs, or a number for each option; by clasp where the path has it, else by dlx3'
+complete -c helgrothy -n '__helgrothy_is \'helgrothy words\'' -l all-costs -d 'of --cost and wishes: each line that costs something, not only the ten that cost most'
 complete -c helgrothy -n '__helgrothy_is \'helgrothy wordsearch\'' -s h -l help -d 'show this help message and exit'
 complete -c helgrothy -n '__helgrothy_is \'helgrothy wordsearch\'' -l forwards -d 'no word is written to the left or straight up'
 complete -c helgrothy -n '__helgrothy_is \'helgrothy wordsearch\'' -l fill -r -f -d 'letters in the free squares too, the same for the same number'
@@ -710,6 +722,7 @@ complete -c helgrothy -n '__helgrothy_is \'helgrothy wordsearch\'' -l without -r
 complete -c helgrothy -n '__helgrothy_is \'helgrothy wordsearch\'' -l shuffle -r -f -d 'solutions in a random order of the options, the same for the same number'
 complete -c helgrothy -n '__helgrothy_is \'helgrothy wordsearch\'' -l up-to-symmetry -d 'one solution of those that are images of each other by turns and mirrors of the board or box'
 complete -c helgrothy -n '__helgrothy_is \'helgrothy wordsearch\'' -l cost -r -F -d 'the solution of least cost, from a file: lines of names of items (or patterns) and a number, which each option that has them costs, or a number for each option; by clasp where the path has it, else by dlx3'
+complete -c helgrothy -n '__helgrothy_is \'helgrothy wordsearch\'' -l all-costs -d 'of --cost and wishes: each line that costs something, not only the ten that cost most'
 complete -c helgrothy -n '__helgrothy_is \'helgrothy nonogram\'' -s h -l help -d 'show this help message and exit'
 complete -c helgrothy -n '__helgrothy_is \'helgrothy nonogram\'' -l number -r -f -d 'the K-th solution instead of the first'
 complete -c helgrothy -n '__helgrothy_is \'helgrothy nonogram\'' -l random -d 'one of all solutions, each as likely as any other'
@@ -730,6 +743,7 @@ complete -c helgrothy -n '__helgrothy_is \'helgrothy nonogram\'' -l without -r -
 complete -c helgrothy -n '__helgrothy_is \'helgrothy nonogram\'' -l shuffle -r -f -d 'solutions in a random order of the options, the same for the same number'
 complete -c helgrothy -n '__helgrothy_is \'helgrothy nonogram\'' -l up-to-symmetry -d 'one solution of those that are images of each other by turns and mirrors of the board or box'
 complete -c helgrothy -n '__helgrothy_is \'helgrothy nonogram\'' -l cost -r -F -d 'the solution of least cost, from a file: lines of names of items (or patterns) and a number, which each option that has them costs, or a number for each option; by clasp where the path has it, else by dlx3'
+complete -c helgrothy -n '__helgrothy_is \'helgrothy nonogram\'' -l all-costs -d 'of --cost and wishes: each line that costs something, not only the ten that cost most'
 complete -c helgrothy -n '__helgrothy_is \'helgrothy kakuro\'' -s h -l help -d 'show this help message and exit'
 complete -c helgrothy -n '__helgrothy_is \'helgrothy kakuro\'' -l number -r -f -d 'the K-th solution instead of the first'
 complete -c helgrothy -n '__helgrothy_is \'helgrothy kakuro\'' -l random -d 'one of all solutions, each as likely as any other'
@@ -750,6 +764,7 @@ complete -c helgrothy -n '__helgrothy_is \'helgrothy kakuro\'' -l without -r -f 
 complete -c helgrothy -n '__helgrothy_is \'helgrothy kakuro\'' -l shuffle -r -f -d 'solutions in a random order of the options, the same for the same number'
 complete -c helgrothy -n '__helgrothy_is \'helgrothy kakuro\'' -l up-to-symmetry -d 'one solution of those that are images of each other by turns and mirrors of the board or box'
 complete -c helgrothy -n '__helgrothy_is \'helgrothy kakuro\'' -l cost -r -F -d 'the solution of least cost, from a file: lines of names of items (or patterns) and a number, which each option that has them costs, or a number for each option; by clasp where the path has it, else by dlx3'
+complete -c helgrothy -n '__helgrothy_is \'helgrothy kakuro\'' -l all-costs -d 'of --cost and wishes: each line that costs something, not only the ten that cost most'
 complete -c helgrothy -n '__helgrothy_is \'helgrothy roster\'' -s h -l help -d 'show this help message and exit'
 complete -c helgrothy -n '__helgrothy_is \'helgrothy roster\'' -l rest -d 'no shift on the next day that stands higher in the table'
 complete -c helgrothy -n '__helgrothy_is \'helgrothy roster\'' -l in-a-row -r -f -d 'nobody works more than N days in a row'
@@ -773,8 +788,10 @@ complete -c helgrothy -n '__helgrothy_is \'helgrothy roster\'' -l without -r -f 
 complete -c helgrothy -n '__helgrothy_is \'helgrothy roster\'' -l shuffle -r -f -d 'solutions in a random order of the options, the same for the same number'
 complete -c helgrothy -n '__helgrothy_is \'helgrothy roster\'' -l up-to-symmetry -d 'one solution of those that are images of each other by turns and mirrors of the board or box'
 complete -c helgrothy -n '__helgrothy_is \'helgrothy roster\'' -l cost -r -F -d 'the solution of least cost, from a file: lines of names of items (or patterns) and a number, which each option that has them costs, or a number for each option; by clasp where the path has it, else by dlx3'
+complete -c helgrothy -n '__helgrothy_is \'helgrothy roster\'' -l all-costs -d 'of --cost and wishes: each line that costs something, not only the ten that cost most'
 complete -c helgrothy -n '__helgrothy_is \'helgrothy roundrobin\'' -s h -l help -d 'show this help message and exit'
 complete -c helgrothy -n '__helgrothy_is \'helgrothy roundrobin\'' -l double -d 'each two teams meet twice, once at each one\'s home'
+complete -c helgrothy -n '__helgrothy_is \'helgrothy roundrobin\'' -l in-a-row -r -f -d 'no team is more than N rounds in a row at home, or away'
 complete -c helgrothy -n '__helgrothy_is \'helgrothy roundrobin\'' -l number -r -f -d 'the K-th solution instead of the first'
 complete -c helgrothy -n '__helgrothy_is \'helgrothy roundrobin\'' -l random -d 'one of all solutions, each as likely as any other'
 complete -c helgrothy -n '__helgrothy_is \'helgrothy roundrobin\'' -l limit -r -f -d 'the first N solutions'
@@ -794,6 +811,7 @@ complete -c helgrothy -n '__helgrothy_is \'helgrothy roundrobin\'' -l without -r
 complete -c helgrothy -n '__helgrothy_is \'helgrothy roundrobin\'' -l shuffle -r -f -d 'solutions in a random order of the options, the same for the same number'
 complete -c helgrothy -n '__helgrothy_is \'helgrothy roundrobin\'' -l up-to-symmetry -d 'one solution of those that are images of each other by turns and mirrors of the board or box'
 complete -c helgrothy -n '__helgrothy_is \'helgrothy roundrobin\'' -l cost -r -F -d 'the solution of least cost, from a file: lines of names of items (or patterns) and a number, which each option that has them costs, or a number for each option; by clasp where the path has it, else by dlx3'
+complete -c helgrothy -n '__helgrothy_is \'helgrothy roundrobin\'' -l all-costs -d 'of --cost and wishes: each line that costs something, not only the ten that cost most'
 complete -c helgrothy -n '__helgrothy_is \'helgrothy tests\'' -s h -l help -d 'show this help message and exit'
 complete -c helgrothy -n '__helgrothy_is \'helgrothy tests\'' -l tests -r -f -d 'so many tests'
 complete -c helgrothy -n '__helgrothy_is \'helgrothy tests\'' -l strength -r -f -d 'the values of any T factors come together (default: 2)'
@@ -817,6 +835,7 @@ complete -c helgrothy -n '__helgrothy_is \'helgrothy tests\'' -l without -r -f -
 complete -c helgrothy -n '__helgrothy_is \'helgrothy tests\'' -l shuffle -r -f -d 'solutions in a random order of the options, the same for the same number'
 complete -c helgrothy -n '__helgrothy_is \'helgrothy tests\'' -l up-to-symmetry -d 'one solution of those that are images of each other by turns and mirrors of the board or box'
 complete -c helgrothy -n '__helgrothy_is \'helgrothy tests\'' -l cost -r -F -d 'the solution of least cost, from a file: lines of names of items (or patterns) and a number, which each option that has them costs, or a number for each option; by clasp where the path has it, else by dlx3'
+complete -c helgrothy -n '__helgrothy_is \'helgrothy tests\'' -l all-costs -d 'of --cost and wishes: each line that costs something, not only the ten that cost most'
 complete -c helgrothy -n '__helgrothy_is \'helgrothy timetable\'' -s h -l help -d 'show this help message and exit'
 complete -c helgrothy -n '__helgrothy_is \'helgrothy timetable\'' -l daily -r -f -d 'nobody has more than N lessons a day'
 complete -c helgrothy -n '__helgrothy_is \'helgrothy timetable\'' -l number -r -f -d 'the K-th solution instead of the first'
@@ -838,6 +857,7 @@ complete -c helgrothy -n '__helgrothy_is \'helgrothy timetable\'' -l without -r 
 complete -c helgrothy -n '__helgrothy_is \'helgrothy timetable\'' -l shuffle -r -f -d 'solutions in a random order of the options, the same for the same number'
 complete -c helgrothy -n '__helgrothy_is \'helgrothy timetable\'' -l up-to-symmetry -d 'one solution of those that are images of each other by turns and mirrors of the board or box'
 complete -c helgrothy -n '__helgrothy_is \'helgrothy timetable\'' -l cost -r -F -d 'the solution of least cost, from a file: lines of names of items (or patterns) and a number, which each option that has them costs, or a number for each option; by clasp where the path has it, else by dlx3'
+complete -c helgrothy -n '__helgrothy_is \'helgrothy timetable\'' -l all-costs -d 'of --cost and wishes: each line that costs something, not only the ten that cost most'
 complete -c dlx1 -n '__helgrothy_is \'dlx1\' 1+' -f -a 'm1 m1000 t1 t2'
 complete -c dlx2 -n '__helgrothy_is \'dlx2\' 1+' -f -a 'm1 m1000 t1 t2'
 complete -c dlx3 -n '__helgrothy_is \'dlx3\' 1+' -f -a 'm1 m1000 t1 t2'

@@ -19,6 +19,7 @@ The modules, which need no import of their own:
     minimal   finds out which of the options that are given a single solution takes
     lint      looks for slips in the text of a problem
     why       says why a problem has no solution
+    graphs    makes problems of graphs, such as those of networkx: matchings, colourings, covers by edges
     export    writes problems for other solvers; `answers` reads what they answer
     engines   finds one solution by other engines as well as the programs
 
@@ -40,6 +41,7 @@ if TYPE_CHECKING:
         engines,
         export,
         given,
+        graphs,
         hint,
         lint,
         make,
@@ -100,6 +102,7 @@ __all__ = [
     "engines",
     "export",
     "given",
+    "graphs",
     "hint",
     "lint",
     "make",

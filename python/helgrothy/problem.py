@@ -29,7 +29,7 @@ if TYPE_CHECKING:
     from ._run.cheapest import Cheapest
     from ._spans import Progress
     from .cost import Cost
-    from .draw import Drawing, Pattern, Picture
+    from .draw import Drawing, Look, Picture
     from .given import Given, Which
     from .table import Table
 
@@ -61,7 +61,7 @@ class Problem(Generic[Option]):
         secondary: dict[Hashable, None]
         options: Options[Option]
         comments: tuple[str, ...]
-        pattern: Pattern | Table | None
+        pattern: Look | None
 
     `options` is a list that only `add_option` makes longer. `pattern` may be set to a `Pattern` of `helgrothy.draw` or
     a `Table` of `helgrothy.table`, by which solutions are drawn from then on.
@@ -74,7 +74,7 @@ class Problem(Generic[Option]):
     secondary: dict[Hashable, None]
     options: Options[Option]
     comments: tuple[str, ...]
-    pattern: Pattern | Table | None
+    pattern: Look | None
 
     def __init__(
         self,
@@ -571,7 +571,7 @@ class Problem(Generic[Option]):
                 if not isinstance(choice, Null):
                     yield bytes_of(f" {self.line(choice)} (1 of 1)\n")
 
-    def draw(self, solution: Iterable[Any] = (), pattern: Pattern | Table | None = None) -> Picture:
+    def draw(self, solution: Iterable[Any] = (), pattern: Look | None = None) -> Picture:
         """A picture of a solution, or of the problem as it stands before one. Raises `NoPicture`.
 
         The problems that `helgrothy.make` makes have pictures of their own; others are drawn by a pattern, which may
@@ -579,7 +579,7 @@ class Problem(Generic[Option]):
         """
         return self._drawing(pattern)([self.line(choice) for choice in solution if not isinstance(choice, Null)])
 
-    def _drawing(self, pattern: Pattern | Table | None = None) -> Drawing:
+    def _drawing(self, pattern: Look | None = None) -> Drawing:
         """Raises `NoPicture`."""
         from .draw import drawing_of
 

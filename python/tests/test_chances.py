@@ -133,7 +133,7 @@ class Pictures(InFolder):
         self.assertEqual((found["solutions"], found["occurrences"][1], len(found["occurrences"])), (3, 0, 36))
 
     def test_what_is_refused(self):
-        self.assertEqual(run("queens", "3", "--chances"), (1, "", "Altogether 0 solutions.\n"))
+        self.assertEqual(run("queens", "3", "--chances"), (1, "", "Altogether 0 solutions; `helgrothy why` may say which items conflict.\n"))
         self.assertEqual(run("queens", "4", "--chances", "--html")[2], "helgrothy: --chances has no page: --svg is its picture\n")
         told = run("queens", "4", "--chances", "--up-to-symmetry")[2]
         self.assertEqual(told, "helgrothy: --chances is of all solutions: without --shuffle and --up-to-symmetry\n")

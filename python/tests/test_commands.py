@@ -25,10 +25,11 @@ MISTAKES = (
     (
         ["queens", "8", "--wherever", "3"],
         "helgrothy queens: --wherever: no such option (there are --number, --random, --limit, --all, --count, --chances, --unique, --svg, --html, --json, "
-        "--csv, --options, --seed, --seconds, --with, --without, --shuffle, --up-to-symmetry and --cost); see helgrothy queens --help",
+        "--csv, --options, --seed, --seconds, --with, --without, --shuffle, --up-to-symmetry, --cost and --all-costs); see "
+        "helgrothy queens --help",
     ),
     (["queens", "8", "--limt=3"], "helgrothy queens: --limt: no such option (is it --limit?); see helgrothy queens --help"),
-    (["queens", "8", "--al"], "helgrothy queens: --al: no such option (is it --all?); see helgrothy queens --help"),
+    (["queens", "8", "--al"], "helgrothy queens: --al: no such option (is it --all or --all-costs?); see helgrothy queens --help"),
     (
         ["count", "queens", "8"],
         "helgrothy count: queens: a problem stands here, and this makes one: helgrothy make queens 8 | helgrothy count; "
@@ -165,10 +166,34 @@ class Commands(InFolder):
     def test_no_such_solution(self):
         for words in ((), ("--json",), ("--shuffle", "3")):
             told = run("queens", "6", "--number", "9", *words)
-            self.assertEqual(told, (1, "", "Altogether 4 solutions.\nhelgrothy: there is no solution 9\n"))
+            self.assertEqual(told, (1, "", "Altogether 4 solutions.\nhelgrothy: there is no solution 9: --number takes 1 to 4\n"))
+        self.assertIn("no solution 5000: --number takes 1 alone\n", run("queens", "1", "--number", "5000")[2])
         self.assertNotIn("no solution 9", run("queens", "3", "--number", "9")[2])
-        path = self.file("q.dlx", make.queens.problem(6).text)
-        self.assertEqual(run("draw", path, "--number", "9"), (1, "", "helgrothy: the listing has no solution 9\n"))
+        board = make.queens.problem(6)
+        path = self.file("q.dlx", board.text)
+        for given, told in (
+            ([2, 4], "the listing has no solution 9: its numbers are 2 to 4"),
+            ([3], "the listing has no solution 9: its numbers are 3"),
+            ([], "the listing has no solution to draw; with m1 a program lists each, with m1 t1 the first"),
+        ):
+            listing = b"".join(line for number in given for line in board._listing([board.solution(number)], number))
+            told = (1, "", f"helgrothy: {told}\n")
+            self.assertEqual(run("draw", path, "--number", "9", given=listing.decode()), told)
+
+    def test_help_has_groups(self):
+        def groups(*words):
+            told = run(*words, "--help")[1].partition("\n\n")[2]
+            parts = re.findall(r"^([\w ]+):\n((?:(?: .*)?\n)+)", told, re.MULTILINE)
+            return {title: re.findall(r"^  (?:-h, )?(--[\w-]+|[A-Z|]+)", text, re.MULTILINE) for title, text in parts}
+
+        own = groups("polyominoes")
+        self.assertEqual(list(own)[1:], ["of this kind", "which solutions", "what to show"])
+        self.assertEqual(own["of this kind"], ["PIECES", "REGION", "--no-turns", "--no-mirrors", "--some"])
+        self.assertEqual(own["what to show"][:4], ["--svg", "--html", "--json", "--csv"])
+        self.assertLess({"--number", "--all", "--with", "--cost"}, set(own["which solutions"]))
+        self.assertIn("--least", groups("tests")["of this kind"])
+        self.assertIn("--cell", groups("solve")["what to show"])
+        self.assertEqual(groups("hint", "roundrobin")["of this kind"], ["TEAMS", "--double", "--in-a-row"])
 
     def test_as_a_program(self):
         how = {"cwd": PACKAGE, "capture_output": True, "text": True}

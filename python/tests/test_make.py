@@ -1,6 +1,7 @@
 """Each maker's problems have the known numbers of solutions, and their pictures show them."""
 
 import itertools
+import random
 import unittest
 import xml.etree.ElementTree as ElementTree
 
@@ -151,6 +152,86 @@ class Makers(unittest.TestCase):
                 make.roundrobin.problem(teams)
         with self.assertRaisesRegex(TableFault, "^line 3: ann: the team of line 1 has this name$"):
             make.roundrobin.problem(["ann home:1", "bob", "ann"])
+
+    def test_wishes_of_teams(self):
+        """Wishes leave those round robins without wishes that meet them, and what is refused can't be."""
+        rng = random.Random(2)
+        refused = 0
+        for names, double, tries in (("abcd", False, 30), ("abc", True, 15), ("abcde", False, 6)):
+            bare = make.roundrobin.problem(names, double=double)
+            sheet = make.roundrobin.sheet(bare)
+            plans = [sheet.rows([bare.line(option) for option in solution]) for solution in bare.solve()]
+            rounds = max(number for number, _, _ in plans[0])
+            for _ in range(tries):
+                wishes = [self.wish(rng, names, rounds) for _ in range(rng.randint(1, 4))]
+                in_a_row = rng.choice([None, None, 1, 2])
+                lines = [" ".join([name, *(word for own, word in wishes if own == name)]) for name in names]
+                wanted = sum(self.is_met(plan, wishes, in_a_row, names, rounds) for plan in plans)
+                with self.subTest(lines=lines, double=double, in_a_row=in_a_row):
+                    try:
+                        problem = make.roundrobin.problem(lines, double=double, in_a_row=in_a_row)
+                    except ValueError as fault:
+                        refused += 1
+                        # That a team is at home and away is refused also where it may rest.
+                        self.assertTrue(wanted == 0 or "in this line too" in str(fault), fault)
+                    else:
+                        self.assertEqual(problem.count(), wanted)
+        self.assertGreater(refused, 5)
+
+    @staticmethod
+    def wish(rng, names, rounds):
+        """The team of a line and a word of it."""
+        own, other = rng.sample(names, 2)
+        at = rng.randint(1, rounds)
+        return own, rng.choice([f"home:{at}", f"away:{at}", f"not:{other}@{at}", f"shares:{other}"])
+
+    @staticmethod
+    def is_met(plan, wishes, in_a_row, names, rounds):
+        where = {(team, at): place for at, *both in plan for team, place in zip(both, ("home", "away"))}
+        for own, word in wishes:
+            kind, _, what = word.partition(":")
+            if kind in ("home", "away") and where.get((own, int(what)), kind) != kind:
+                return False
+            other, _, at = what.partition("@")
+            if kind == "not" and any(int(at) == number and {own, other} == set(both) for number, *both in plan):
+                return False
+            if kind == "shares" and any(
+                where.get((own, at)) == where.get((other, at)) == "home" for at in range(1, rounds + 1)
+            ):
+                return False
+        runs = ["".join(where.get((name, at), "rest")[0] for at in range(1, rounds + 1)) for name in names]
+        return in_a_row is None or not any(letter * (in_a_row + 1) in run for letter in "ha" for run in runs)
+
+    def test_wishes_of_teams_that_cannot_be(self):
+        four = ["ann", "bob", "cat", "dan"]
+        for lines, told in (
+            (["ann", "bob home:9"], "line 2: home:9: no such round: 4 teams play rounds 1 to 3"),
+            (["ann away:4"], "line 1: away:4: no such round: 4 teams play rounds 1 to 3; with --double there are 6"),
+            (["ann not:bob@0"], "line 1: not:bob@0: no such round: 4 teams play rounds 1 to 3"),
+            (["ann home:1 away:1"], "line 1: away:1: home:1 is in this line too"),
+            (["ann away:1 away:2 away:3"], "line 1: ann: 3 rounds away, and each of 4 teams has 1 or 2 games there"),
+            (["ann home:1", "bob home:1", "cat home:1"], "line 3: home:1: 3 of 4 teams are at home in round 1, and 2 can be"),
+            (
+                ["ann shares:bob home:2", "bob home:2"],
+                "line 2: home:2: ann (line 1) is at home in round 2 too, and shares the place",
+            ),
+            (["ann not:bop@1"], "line 1: not:bop@1: no team bop (is it bob?)"),
+            (["ann", "bob shares:bob"], "line 2: shares:bob: this is the team itself"),
+            (["ann upstairs:1"], "line 1: upstairs:1: neither home:ROUND, away:ROUND, not:TEAM@ROUND nor shares:TEAM"),
+            (["ann not:cat@1 not:cat@2 not:cat@3"], "line 3: ann-cat: the wishes of the two leave no round for this game"),
+            (["ann not:bob@1 not:cat@1 not:dan@1"], "line 1: ann: the wishes leave no game for it in round 1"),
+        ):
+            with self.subTest(lines=lines), self.assertRaises(TableFault) as raised:
+                make.roundrobin.problem([*lines, *four[len(lines) :]])
+            self.assertEqual(str(raised.exception), told)
+        with self.assertRaisesRegex(TableFault, "^line 1: a: at home in rounds 2 to 4, and 2 in a row are allowed$"):
+            make.roundrobin.problem(["a home:2 home:3 home:4", *"bcdef"], in_a_row=2)
+        with self.assertRaisesRegex(ValueError, "^at most one round in a row: then two teams are at home in the same"):
+            make.roundrobin.problem(four, in_a_row=1)
+        again = make.roundrobin.problem(["ann shares:bob not:cat@2", *four[1:]], in_a_row=2)
+        self.assertEqual(again.comments[0], "helgrothy make roundrobin --in-a-row 2 TEAMS")
+        self.assertEqual(again.comments[2], "ann shares:bob not:cat@2")
+        self.shown(again)
 
     def is_round_robin(self, lines, teams):
         played = [word for line in lines for word in line.split()[1:3]]

@@ -95,7 +95,7 @@ class Minimal(InFolder):
         status, text, told = run("minimal", "sudoku", CLUES.replace("3", ".").replace("5", "."))
         self.assertEqual((status, text, told.splitlines()[0]), (1, "", "There are several solutions. Of these two:"))
         told = run("minimal", "sudoku", CLUES.replace("53", "52").replace("..7", ".27", 1))
-        self.assertEqual(told, (1, "", "There is no solution.\n"))
+        self.assertEqual(told, (1, "", "There is no solution.\n`helgrothy hint` may say where that shows.\n"))
 
     def test_kakuro(self):
         """Sums and digits are clues: each that is left is needed, and the layout of the file stays."""

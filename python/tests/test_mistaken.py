@@ -49,6 +49,15 @@ COMMANDS = (
     (["roundrobin", "8"], "", "8: there is no such file; TEAMS is a file with a line for each team, its name (of so many teams: seq 8 | helgrothy roundrobin -)"),
     (["roundrobin", "ann,bob"], "", "ann,bob: there is no such file; TEAMS is a file with a line for each team, its name"),
     *(
+        (["solve"], given, f"standard input: line 2: {told}: unknown item (items are parted by blanks, and a {sign} is part of a name)")
+        for given, told, sign in (
+            ("A, B, C\nA, B\nC\n", "B", "comma"), ("A,B,C\nA,B\nC\n", "A,B", "comma"), ("A B C\nA, B\nC\n", "A,", "comma"),
+            ("A B C\nA,B\n", "A,B", "comma"), ("A;B\nA\nB\n", "A", "semicolon"),
+        )
+    ),
+    (["solve"], "mon,hall tue,hall\nmon\n", "standard input: line 2: mon: unknown item (is it mon,hall?)"),
+    (["solve"], "mon,hall tue\nmon,hal\n", "standard input: line 2: mon,hal: unknown item (is it mon,hall?)"),
+    *(
         (words, "A\nA\n", f"a pattern is wrong: {told}; a sign that stands for itself has a backslash in front, such as \\(")
         for words, told in (
             (["solve", "--cell", "("], "(: missing ), unterminated subpattern at character 1"),

@@ -284,7 +284,7 @@ class Faults(unittest.TestCase):
             ("item a: bad bound", 0, None, "a"): lambda: Problem({"a": -1}),
             ("no items", 0, None, ""): lambda: Problem(""),
             ("line 2: no items", 2, None, ""): lambda: Problem.parse("| a b\n"),
-            ("line 2: B,: unknown item (is it B?)", 2, None, "B,"): lambda: Problem.parse("A B\nA B,\n"),
+            ("line 2: B-: unknown item (is it B?)", 2, None, "B-"): lambda: Problem.parse("A B\nA B-\n"),
             ("option 1: C: unknown item", 0, 1, "C"): lambda: Problem.parse("A B\nA B\n").add_option(["C"]),
             ("bad items (5 is no iterable)", 0, None, ""): lambda: Problem(5),
             ("bad secondary (5 is no iterable)", 0, None, ""): lambda: Problem("a", 5),

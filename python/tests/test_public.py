@@ -13,7 +13,7 @@ import helgrothy
 from helgrothy import make
 
 PACKAGE = os.path.dirname(os.path.abspath(helgrothy.__file__))
-MODULES = {"answers", "cost", "data", "draw", "engines", "export", "given", "hint", "lint", "make", "minimal", "shuffle", "symmetry", "table", "why", "wishes"}
+MODULES = {"answers", "cost", "data", "draw", "engines", "export", "given", "graphs", "hint", "lint", "make", "minimal", "shuffle", "symmetry", "table", "why", "wishes"}
 
 
 def fresh(code: str) -> "list[str]":

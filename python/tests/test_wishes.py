@@ -58,6 +58,47 @@ class Lines(unittest.TestCase):
         self.assertEqual(list(costs.told([0, 3, 5])), ["3 by line 3: a 3", "-1.5 by line 4: a x:r -1.5", "0.5 by line 5: b x .5"])
         self.assertEqual(list(costs.told([1, 4])), ["3 by line 3: a 3", "4 by line 6: * y +2 (2 times)"])
 
+    def test_without(self):
+        for head, wanted in (
+            ("a without y 1", [0]), ("without x 1", [4, 5]), ("without x y 1", [5]), ("x:* without a x:r 1", [3]),
+            ("? without [x] 1", [0, 1, 2, 3, 4]), ("without x:r 1", [1, 3, 4, 5]),
+        ):  # fmt: skip
+            self.assertEqual(bare(COLOURS, head), wanted, head)
+        problem = Problem.parse(COLOURS)
+        for text, wanted in (
+            ("a without 1", "line 1: a without 1: behind `without` stand names of items that options don't have"),
+            ("a without c 1", "line 1: a without c 1: c: no such item"),
+            ("c without a 1", "line 1: c without a 1: c: no such item"),
+            ("a without x 1", "line 1: a without x 1: each option with a has one of x"),
+            ("without * 1", "line 1: without * 1: each option has one of *"),
+        ):
+            with self.subTest(text=text), self.assertRaises(TableFault) as raised:
+                wishes.read(text, problem)
+            self.assertEqual(str(raised.exception), wanted)
+        named = Problem.parse("a without\na without\na\nwithout\n")
+        self.assertEqual([sorted(one.places) for one in wishes.read("a [w]ithout 1\na without [w]ithout 2\n", named).wishes], [[0], [1]])
+
+    def test_ten_lines_and_the_rest(self):
+        problem = Problem([f"i{n}" for n in range(14)], options=[[f"i{n}"] for n in range(14)])
+        costs = wishes.read("".join(f"i{n} {n - 4 or 50}\n" for n in range(14)), problem)
+        told = list(costs.folded().told(range(14)))
+        self.assertEqual(len(told), 11)
+        self.assertEqual((told[0], told[1]), ("-4 by line 1: i0 -4", "-3 by line 2: i1 -3"))
+        self.assertEqual(told[-1], "0 by 4 more lines; --all-costs shows each")
+        self.assertEqual(len(list(costs.told(range(14)))), 14)
+        self.assertEqual(len(list(costs.folded().told(range(11)))), 11)
+        for most in (11, 12, 14):
+            numbers = [Fraction(line.partition(" ")[0]) for line in costs.folded().told(range(most))]
+            self.assertEqual(sum(numbers), sum(costs.numbers[:most]))
+
+    def test_pairs_that_cancel(self):
+        problem = Problem.parse(COLOURS)
+        costs = wishes.read("a 3\na x:r -3\n* x 2\nb -2\n* y 1\n", problem)
+        self.assertEqual(list(costs.folded().told([0, 4, 5])), ["2 by line 3: * x 2", "-2 by line 4: b -2", "1 by line 5: * y 1"])
+        self.assertEqual(list(costs.folded().told([1, 2])), ["3 by line 1: a 3", "2 by line 3: * x 2", "1 by line 5: * y 1"])
+        self.assertEqual(list(costs.folded().told([0, 2])), ["2 by line 3: * x 2"])
+        self.assertEqual(len(list(costs.told([0, 2]))), 4)
+
     def test_a_column_stays_one(self):
         problem = Problem("12", options=["1", "2", "12"])
         for text in ("1 2 3", "1\n2\n3\n", "| a b 3\n1 2\n3"):
@@ -158,6 +199,16 @@ class Command(InFolder):
         self.assertRegex(run("roster", path, "--cost", costs)[2], "\n[48] by line 1: \\*/late ann 4")
         page = run("roster", path, "--html")[1]
         self.assertIn("-2 by line 6 of the table: bob mon=-2", page)
+
+    def test_all_costs(self):
+        costs = self.file("costs", "".join(f"r{n} 1\nr{n} c{n} 5\n" for n in range(1, 13)))
+        told = run("queens", "12", "--cost", costs)[2].splitlines()
+        self.assertEqual((len(told), told[0], told[-1]), (12, "The least cost is 12.", "2 by 2 more lines; --all-costs shows each"))
+        self.assertIn("2 by 2 more lines", run("queens", "12", "--cost", costs, "--html")[1])
+        told = run("queens", "12", "--cost", costs, "--all-costs")[2].splitlines()
+        self.assertEqual(told[1:], [f"1 by line {2 * n - 1}: r{n} 1" for n in range(1, 13)])
+        told = run("queens", "12", "--all-costs")
+        self.assertEqual(told, (2, "", "helgrothy: --all-costs is of --cost, and of the wishes of a table\n"))
 
     def test_in_each_kind(self):
         costs = self.file("costs", "r1 c1 5\nr1 c2 -1\n")

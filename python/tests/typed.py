@@ -2,6 +2,7 @@
 
 from __future__ import annotations
 
+from collections.abc import Hashable
 from fractions import Fraction
 
 import helgrothy
@@ -54,6 +55,23 @@ def solutions() -> None:
     except OutOfTime as error:
         found: int = error.found
         found += 1
+
+
+class Ring:
+    """A graph as others have it."""
+
+    edges = [(1, 2), (2, 3), (3, 1)]
+
+
+def of_graphs() -> None:
+    """What a graph's problem has as options."""
+    for matching in helgrothy.graphs.perfect_matchings(Ring()).solve():
+        pairs: list[tuple[object, ...]] = list(matching)
+        pairs.sort(key=len)
+    for found in helgrothy.graphs.colourings(Ring(), 3, positions={1: (0, 0), 2: (0, 1), 3: (1, 1)}).solve():
+        first: helgrothy.graphs.Coloured = found[0]
+        colours: dict[Hashable, Hashable] = helgrothy.graphs.colouring(found)
+        assert colours[first.node] == first.colour
 
 
 def one(solution: Solution[str]) -> None:

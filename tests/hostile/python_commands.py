@@ -241,7 +241,7 @@ def listing(rng: random.Random, problem: bytes) -> bytes:
 
 
 ROSTER = b"-      mon tue wed\nearly  1   1   1\nlate   1   1   0:1\n\nann    2:3\nbob    2    -tue\ncat    1:2  -late\n"
-TEAMS = b"ann\nbob home:1\ncat\ndan away:2\n"
+TEAMS = b"ann not:cat@1\nbob home:1\ncat shares:ann\ndan away:2\n"
 GRID = b"...\n.#.\n...\n"
 LIST = b"tea ear tar ate eat rat art oat era are\n"
 PIECES = b"LL\nL\n\nII\n\nO\n"
@@ -394,7 +394,7 @@ class Try:
         tables = [self.file(changed(rng, table if rng.random() < 0.9 else rng.choice(TABLES))) for table in given]
         if rng.random() < 0.1:
             tables[-1] = rng.choice(WORDS)
-        more = {"roster": ["--rest", "--in-a-row", "1", "--days-off", rng.choice(["1", "2", *WORDS])], "roundrobin": ["--double"], "polyominoes": ["--no-turns", "--some"],
+        more = {"roster": ["--rest", "--in-a-row", "1", "--days-off", rng.choice(["1", "2", *WORDS])], "roundrobin": ["--double", "--in-a-row", "2"], "polyominoes": ["--no-turns", "--some"],
                 "polycubes": ["--some", "--mirrors"], "timetable": ["--daily", "2"], "wordsearch": ["--fill", rng.choice(["1", *WORDS])]}.get(kind, [])  # fmt: skip
         return kind, [*tables, *(more if rng.random() < 0.3 else [])]
 

@@ -41,7 +41,8 @@ def show(asked: Given[Any], arguments: argparse.Namespace) -> int:
     console.write_long_numbers()
     if found.total:
         _write(asked.problem, _of_problem(asked, found), arguments)
-    console.say(f"Altogether {found.total} solution{'' if found.total == 1 else 's'}.")
+    more = "" if found.total else "; `helgrothy why` may say which items conflict"
+    console.say(f"Altogether {found.total} solution{'' if found.total == 1 else 's'}{more}.")
     return 0 if found.total else 1
 
 

@@ -18,7 +18,7 @@ from ..make import HELPS, KINDS
 from . import console
 from . import count as count_command
 from . import puzzle_commands
-from .console import Parser, limited, natural, number, positive, seconds
+from .console import OF_THIS_KIND, Parser, limited, natural, number, positive, seconds
 from .puzzle_commands import add_choices
 
 if TYPE_CHECKING:
@@ -42,6 +42,8 @@ examples:
   helgrothy export cnf mine.dlx | cadical | helgrothy draw mine.dlx
 """
 
+# Titles in what `--help` prints.
+_WHICH, _SHOWN = "which solutions", "what to show"
 
 # What each command but those of the kinds does, for a list of them that loads no command.
 _HELPS = {
@@ -178,7 +180,8 @@ def _add_solve(commands: Any) -> None:
     )
     console.add_problem(parser)
     _add_solving(parser)
-    _add_patterns(parser)
+    with parser.under(_SHOWN):
+        _add_patterns(parser)
     parser.set_defaults(command=_by("solve"))
 
 
@@ -186,20 +189,33 @@ def _add_kind(commands: Any, kind: Kind) -> None:
     parser = commands.add_parser(
         kind.name, help=_help_of_kind(kind.help), description=f"Makes, solves and draws {kind.help}."
     )
-    kind.add_arguments(parser)
-    kind.add_search_arguments(parser)
+    with parser.under(OF_THIS_KIND):
+        kind.add_arguments(parser)
+        kind.add_search_arguments(parser)
     _add_solving(parser)
     patterns = {"cell": None, "row": None, "column": None, "label": None}
     parser.set_defaults(command=_by("make_and_solve"), kind=kind, **patterns)
 
 
-def _add_solving(parser: argparse.ArgumentParser) -> None:
-    _add_which(parser)
-    _add_forms(parser, "a picture as SVG, of one solution")
-    parser.add_argument("--seed", type=number, metavar="N", help="of --random: the same solution for the same number")
+def _add_solving(parser: Parser) -> None:
+    with parser.under(_WHICH):
+        _add_which(parser)
+    with parser.under(_SHOWN):
+        _add_forms(parser, "a picture as SVG, of one solution")
+    with parser.under(_WHICH):
+        parser.add_argument(
+            "--seed", type=number, metavar="N", help="of --random: the same solution for the same number"
+        )
     parser.add_argument("--seconds", type=seconds, metavar="S", help="give up after S seconds")
-    add_choices(parser)
-    _add_ways(parser)
+    with parser.under(_WHICH):
+        add_choices(parser)
+        _add_ways(parser)
+    with parser.under(_SHOWN):
+        parser.add_argument(
+            "--all-costs",
+            action="store_true",
+            help="of --cost and wishes: each line that costs something, not only the ten that cost most",
+        )
 
 
 def _add_which(parser: argparse.ArgumentParser) -> None:

@@ -35,6 +35,8 @@ _MOST_SECONDS = 1e9
 _ON_ITS_WAY, _AT_WORK = 10.0, 0.5
 # After a wrong name so many that are near to it, by `difflib`, are shown, or all where none is near and they are few.
 _MOST_NEAR, _NEAR, _MOST_TOLD = 3, 0.65, 20
+# The title over the arguments of a kind of problems.
+OF_THIS_KIND = "of this kind"
 _INPUT, _OUTPUT, _ERROR = "standard input", "standard output", "standard error"
 
 
@@ -47,6 +49,17 @@ class Parser(argparse.ArgumentParser):
     def __init__(self, *words: Any, **more: Any) -> None:
         more.setdefault("allow_abbrev", False)
         super().__init__(*words, **more)
+
+    @contextmanager
+    def under(self, title: str) -> Iterator[None]:
+        """Has what is added meanwhile stand under a title of its own in what `--help` prints."""
+        before = self._positionals, self._optionals
+        groups = {group.title: group for group in self._action_groups}
+        self._positionals = self._optionals = groups.get(title) or self.add_argument_group(title)
+        try:
+            yield
+        finally:
+            self._positionals, self._optionals = before
 
     def error(self, message: str) -> NoReturn:
         self.exit(2, f"{shown(f'{self.prog}: {message}; see {self.prog} --help')}\n")

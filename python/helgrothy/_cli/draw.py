@@ -18,7 +18,7 @@ from .showing import page_of, showing
 if TYPE_CHECKING:
     import argparse
 
-    from .._run.solution import Solution
+    from .._run.solution import Listed, Solution
 
 # A run of dlxcheck judges so many answers at most.
 _MOST_AT_ONCE = 256
@@ -32,9 +32,10 @@ def draw(problem: Problem[Any], arguments: argparse.Namespace) -> int:
     if not answers.begins(first):
         if arguments.listing:
             raise ValueError("--listing is of another solver's answer, which standard input hasn't")
-        listed = ((found.number, found) for found in problem.listed(lines))
+        numbers: list[int] = []
+        listed = ((found.number, found) for found in _told(problem.listed(lines), numbers))
         shown = _draw(problem, _wanted(listed, arguments), arguments)
-        return 0 if shown else fail(f"the listing has no solution {arguments.number or 'to draw'}", 1)
+        return 0 if shown else fail(_none_of(arguments.number, numbers), 1)
     found = enumerate(answers.solutions(answers.ANY, problem, lines), 1)
     wanted = _wanted(found, arguments)
     shown = _list(problem, wanted) if arguments.listing else _draw(problem, _judged(problem, wanted), arguments)
@@ -53,6 +54,21 @@ def _wanted(
             yield number, solution
             if arguments.number is not None:
                 return
+
+
+def _told(listed: Iterable[Listed[Any]], numbers: list[int]) -> Iterator[Listed[Any]]:
+    """The solutions of a listing; `numbers` gets the first number that it has, and the last one so far."""
+    for solution in listed:
+        numbers[1:] = [solution.number]
+        yield solution
+
+
+def _none_of(number: int | None, ends: list[int]) -> str:
+    """What to say where a listing has no solution of a number, or none; `ends`: the first number that it has, and the
+    last one."""
+    if not ends:
+        return "the listing has no solution to draw; with m1 a program lists each, with m1 t1 the first"
+    return f"the listing has no solution {number}: its numbers are {' to '.join(map(str, dict.fromkeys(ends)))}"
 
 
 def _judged(

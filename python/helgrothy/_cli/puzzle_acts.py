@@ -119,6 +119,8 @@ def minimal(clues: Clues, arguments: argparse.Namespace) -> int:
     except minimals.NotUnique as none:
         for line in uniqueness(clues.problem, none.solutions):
             console.say(line)
+        if not none.solutions:
+            console.say("`helgrothy hint` may say where that shows.")
         return 1
     console.write([clues.write(found.kept)])
     enough = f"{len(found.kept)} of {len(held)} clues {'is' if len(found.kept) == 1 else 'are'} enough"

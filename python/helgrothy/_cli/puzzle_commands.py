@@ -9,7 +9,7 @@ from typing import Any
 
 from ..make import HELPS, KINDS
 from . import console
-from .console import Parser, number, seconds
+from .console import OF_THIS_KIND, Parser, number, seconds
 
 # The commands; `add` has what each one takes.
 NAMES = ("hint", "minimal")
@@ -61,7 +61,8 @@ def _add_command(
         if words is not None and kind not in words:
             # It is only listed.
             continue
-        KINDS[kind].add_arguments(own)
+        with own.under(OF_THIS_KIND):
+            KINDS[kind].add_arguments(own)
         own.set_defaults(kind=KINDS[kind])
         of_kinds.append(own)
     for own in (below.otherwise, *of_kinds):

@@ -46,7 +46,9 @@ def solve(problem: Problem[Any], arguments: argparse.Namespace) -> int:
     asked = Given(problem, *choices(problem, arguments))
     costs = _costs(problem, arguments)
     if costs is not None:
-        return _show_least(asked, costs, arguments)
+        return _show_least(asked, costs if arguments.all_costs else costs.folded(), arguments)
+    if arguments.all_costs:
+        raise ValueError("--all-costs is of --cost, and of the wishes of a table")
     if arguments.count:
         count_command.check(arguments)
         return count_command.show(asked.inner, arguments)
@@ -180,7 +182,8 @@ class _Listing:
             console.say(line)
         self._write_page(total, is_complete, reasons)
         if total and not self._shown:
-            return fail(f"there is no solution {self._number}", 1)
+            numbers = f"1 to {total}" if total > 1 else "1 alone"
+            return fail(f"there is no solution {self._number}: --number takes {numbers}", 1)
         return 0 if self._shown and len(self._pair) < 2 else 1
 
     def _deadline(self) -> float | None:

@@ -111,8 +111,10 @@ FIELDS: dict[str, dict[str, tuple[str, str]]] = {
     "roundrobin": {
         "teams": (
             "Teams",
-            "A line for each team: its name, and where it has to be so, home:3 or away:3 for the third round.",
+            "A line for each team: its name, and what has to be so: home:3 or away:3 for the third round, not:bob@3 "
+            "for no game against bob then, shares:bob if the two have one place, where both are never at home.",
         ),
+        "in_a_row": ("The most rounds in a row at home, or away", ""),
         "double": ("Each two teams meet twice, once at each one's home", ""),
     },
     "tests": {

@@ -253,12 +253,29 @@ class _Reader:
         if reason == "unknown item":
             if name.startswith(b"#"):
                 return COMMENT
-            return self.nearest.question(text_of(name), self.sheet.items)
+            items = self.sheet.items
+            return _of_signs(text_of(name), items) or self.nearest.question(text_of(name), items)
         return ""
+
+
+def _of_signs(name: str, items: Collection[str]) -> str:
+    """What to say where commas were meant to stand between items, or nothing."""
+    for sign, called in _SIGNS.items():
+        parts = [part for part in name.split(sign) if part]
+        # The only item of a problem may be all of them.
+        known = items if len(items) > 1 else {part for item in items for part in item.split(sign)}
+        is_list = (sign in name or len(items) == 1) and bool(parts) and all(part in known for part in parts)
+        if is_list or f"{name}{sign}" in items:
+            return f"items are parted by blanks, and a {called} is part of a name"
+    return ""
 
 
 class _Enough(Exception):
     """There are as many faults as are reported."""
+
+
+# Signs that are no blanks, and that some would put between items.
+_SIGNS = {",": "comma", ";": "semicolon"}
 
 
 class Nearest:

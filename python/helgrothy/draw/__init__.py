@@ -12,7 +12,7 @@ import math
 import re
 from collections.abc import Callable, Hashable, Iterator, Sequence
 from dataclasses import dataclass, field
-from typing import TYPE_CHECKING, Any
+from typing import TYPE_CHECKING, Any, Protocol
 
 from .._text.shown import escaped, shown
 from ..errors import NoPicture
@@ -20,7 +20,7 @@ from ..errors import NoPicture
 if TYPE_CHECKING:
     from ..problem import Problem
 
-__all__ = ["Cell", "Drawing", "Pattern", "Picture", "drawing_of"]
+__all__ = ["Cell", "Drawing", "Look", "Pattern", "Picture", "drawing_of"]
 
 Place = tuple[int, int]
 
@@ -126,6 +126,13 @@ def check_size(rows: int, columns: int, cells: int) -> None:
 
 
 Drawing = Callable[[Sequence[str]], Picture]
+
+
+class Look(Protocol):
+    """How the solutions of problems are drawn: a `Pattern`, a `Table`, or what else gives a drawing."""
+
+    def of(self, problem: Problem[Any]) -> Drawing:
+        """The drawing for a problem, from the lines of a solution's options."""
 
 
 def shade(number: int) -> str:
