@@ -276,7 +276,8 @@ class _Solving:
             cell = self._request.cell or (kind.cell if kind else None)
             if cell is None:
                 raise ValueError("up to symmetry: that takes a board or a box, or the pattern of its cells")
-            plan = symmetry.plan(problem, symmetry.motions(problem, cell))
+            grid = kind.grid(problem) if kind and not self._request.cell else "square"
+            plan = symmetry.plan(problem, symmetry.motions(problem, cell, grid))
             return symmetry.solve(problem, plan, limit, seconds=seconds)
         return problem.solve(limit, seconds=seconds)
 
