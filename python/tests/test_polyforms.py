@@ -5,7 +5,7 @@ import unittest
 from folders import InFolder
 from test_commands import run
 
-from helgrothy import NoPicture, Problem, make
+from helgrothy import NoPicture, Problem, TableFault, make
 from helgrothy._reason.grids import HEX, TRIANGLE
 from helgrothy.make import polyforms
 
@@ -118,6 +118,20 @@ class Polyforms(InFolder):
     def test_a_picture_that_hangs_together_only_the_other_way(self):
         sphinx = make.polyforms.problem(" P\nPPPPP", "##P\n#PPPPP", grid="triangle")
         self.assertEqual(sphinx.count(), 1)
+
+    def test_which_triangles_of_a_region_point_up(self):
+        wide = "   .........\n  ...........\n ....#####....\n....#######....\n....#######....\n ....#####....\n  ...........\n   .........\n"
+        for region in (wide, "\n".join(f" {line}" for line in wide.splitlines())):
+            path = self.file("region", region)
+            told = run("polyforms", self.file("p", "\n\n".join(["DD"] * 36)), path, "--grid", "triangle", "--up-to-symmetry")[2]
+            self.assertEqual(told, "Altogether 1 solution up to 12 symmetries (limit).\n")
+        one = make.polyforms.problem("hexiamonds", "...\n...", some=True)
+        self.assertEqual([option[0] for option in one.options], ["O"])
+        for region in ("v..\n...", "...\n.v.", "v^v\n^v^"):
+            self.assertEqual([option[0] for option in make.polyforms.problem("hexiamonds", region, some=True).options], ["X"])
+        for region in ("v.^\n...", "vv.\n..."):
+            with self.assertRaisesRegex(TableFault, "not all can be right"):
+                make.polyforms.problem("hexiamonds", region)
 
     def test_commands(self):
         self.assertEqual(run("polyforms", "hexiamonds", "6x6", "--count")[1], "624\n")

@@ -66,6 +66,17 @@ _EXAMPLES = [
         "polyominoes",
         {"pieces": "pentominoes", "region": "........\n" * 3 + "...##...\n" * 2 + "........\n" * 2 + "........"},
     ),
+    Example("Tetrahexes in 4 by 7", "polyforms", {"pieces": "tetrahexes", "region": "4x7"}),
+    Example(
+        "Lozenges in a hexagon",
+        "polyforms",
+        {
+            "pieces": "DD",
+            "region": " .....\n.......\n.......\n .....",
+            "grid": "triangle",
+            "copies": "D=12",
+        },
+    ),
     Example("The Soma cube", "polycubes", {"pieces": "soma", "box": "3x3x3"}),
     Example(
         "A crossword of 28 words",

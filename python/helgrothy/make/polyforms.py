@@ -2,7 +2,8 @@
 
 A picture of hexagons has a blank between two cells of a row, and each row lies half a hexagon, which is one place, to
 the left or to the right of the next one. In a picture of triangles they stand side by side, and every other one points
-down: the first place of the first line points up, unless only the other way all triangles hang together.
+down. The first place of a piece's first line points up, unless the piece hangs together only the other way. A region is
+taken the way in which more triangles touch, unless its cells ^ and v say which ones point up and down.
 """
 
 from __future__ import annotations
@@ -13,7 +14,7 @@ from collections.abc import Iterable, Iterator
 from contextlib import suppress
 from typing import Any
 
-from .._reason.grids import GRIDS, HEX, TRIANGLE, Grid, of_rhombus
+from .._reason.grids import GRIDS, HEX, TRIANGLE, Grid, of_rhombus, points_up
 from .._reason.grids import Place as Spot
 from ..draw import Cell, Drawing, board_of
 from ..errors import NoPicture, TableFault
@@ -122,12 +123,12 @@ def _region(region: str, grid: Grid) -> list[Spot]:
         high, wide = int(box.group(1)), int(box.group(2))
         if not high or not wide:
             raise TableFault(1, region, "an empty region")
-        places = [(r, c) for r in range(high) for c in range(wide)]
         check_items(high * wide * (2 if grid is TRIANGLE else 1))
+        places = [(r, c) for r in range(high) for c in range(wide)]
         cells = [of_rhombus(*at, half) for at in places for half in (0, 1)] if grid is TRIANGLE else places
     else:
         check_sizes(region, "ROWSxCOLUMNS")
-        cells = _drawn(picture(region), "# ", grid)
+        cells = _drawn_region(picture(region), grid)
         if not cells:
             raise TableFault(1, "", "the region has no cell")
     top, left = grid.corner(cells)
@@ -150,25 +151,54 @@ def _pieces(text: str, grid: Grid) -> Iterator[tuple[int, str, Form]]:
         letters = sorted(set("".join(line for _, line in block)) - set(". "))
         if len(letters) != 1:
             raise TableFault(first, " ".join(letters), "a piece is drawn by one letter")
-        cells = _drawn(block, ". ", grid)
+        cells = [(r, c) for r, c, _, _ in _marks(block, ". ", grid)]
+        if grid is TRIANGLE and grid.parts(_aside(cells)) < grid.parts(cells):
+            cells = _aside(cells)
         if grid.parts(cells) > 1:
             raise TableFault(first, letters[0], f"a piece whose {grid.cell}s don't hang together")
         yield first, letters[0], grid.form(cells)
 
 
-def _drawn(lines: Lines, holes: str, grid: Grid) -> list[Spot]:
-    """The cells of a picture, row by row."""
-    marks = [(r, at, number, mark) for r, (number, line) in enumerate(lines) for at, mark in enumerate(line)]
-    held = [(r, at, number, mark) for r, at, number, mark in marks if mark not in holes]
+def _drawn_region(lines: Lines, grid: Grid) -> list[Spot]:
+    """The cells of a region's picture."""
+    marks = list(_marks(lines, "# ", grid))
+    cells = [(r, c) for r, c, _, _ in marks]
     if grid is HEX:
-        for r, at, number, mark in held:
-            if (r + at - held[0][0] - held[0][1]) % 2:
+        return cells
+    # For each mark that says whether its cell points up, whether that is so if the first place of all does.
+    told = {(points_up((r, c)) == (mark == "^")): (number, mark) for r, c, number, mark in marks if mark in "^v"}
+    if len(told) == 2:
+        raise TableFault(*told[False], "^ points up and v down, and of these not all can be right")
+    is_aside = False in told if told else _touching(_aside(cells), grid) > _touching(cells, grid)
+    return _aside(cells) if is_aside else cells
+
+
+def _marks(lines: Lines, holes: str, grid: Grid) -> Iterator[tuple[int, int, int, str]]:
+    """The cells of a picture by row and column, each with the number of its line and its mark."""
+    first = -1
+    for r, (number, line) in enumerate(lines):
+        for at, mark in enumerate(line):
+            if mark in holes:
+                continue
+            if grid is TRIANGLE:
+                yield r, at, number, mark
+                continue
+            first = r + at if first < 0 else first
+            if (r + at - first) % 2:
                 told = "a hexagon that doesn't lie half of one beside those of the next row, with a blank between two"
                 raise TableFault(number, mark, told)
-        return [(r, (at - r) // 2) for r, at, _, _ in held]
-    cells = [(r, at) for r, at, _, _ in held]
-    others = [(r, at + 1) for r, at in cells]
-    return others if grid.parts(others) < grid.parts(cells) else cells
+            yield r, (at - r) // 2, number, mark
+
+
+def _aside(cells: Iterable[Spot]) -> list[Spot]:
+    """The triangles a place farther, where they point the other way."""
+    return [(r, c + 1) for r, c in cells]
+
+
+def _touching(cells: Iterable[Spot], grid: Grid) -> int:
+    """How often two of the cells have a side in common, counted for each of them."""
+    held = set(cells)
+    return sum(beside in held for cell in held for beside in grid.beside(cell))
 
 
 def _set(name: str, one_sided: bool) -> Iterator[tuple[int, str, Form]]:
