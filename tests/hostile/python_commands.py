@@ -898,8 +898,9 @@ def asked(rng: random.Random):
         request["values"] = {name: rng.choice([*some, True, 1, None, []]) for name in names}
     else:
         request["text"] = rng.choice([text(rng).decode("utf-8", "replace"), rng.choice(some)])
-        for name in ("cell", "row", "column", "label"):
+        for name in ("cell", "grid", "row", "column", "label"):
             request[name] = rng.choice(["", "", "", rng.choice(PATTERNS)])
+        request["grid"] = rng.choice(["", "hex", "triangle", request["grid"]])
     if rng.random() < 0.1:
         request[rng.choice([*request, "more"])] = rng.choice([None, -1, 1e308, 10**30, "x" * 100_000, {"a": []}, [[]], "\udcff"])
     return request
