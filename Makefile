@@ -22,7 +22,7 @@ SONAME = libhelgrothy.so.0
 
 .PHONY: help run bin all quick checked $(PROGRAMS) $(DASHED_CRATES) test test-mutants test-hostile
 .PHONY: test-hostile-python test-python test-count test-search test-page test-docs
-.PHONY: pictures completion believed names bench bench-forms test-bench test-build
+.PHONY: pictures kinds completion believed names bench bench-forms test-bench test-build
 .PHONY: lib install install-lib uninstall uninstall-lib dist deb wheel version release
 .PHONY: test-library test-bindings test-install test-dist test-deb test-wheel
 # Without a target: the list of targets.
@@ -64,6 +64,7 @@ test-page: bin ## the pages in a headless Chromium
 test-docs: bin ## the commands, pictures, tables and names of the pages
 	@sh tests/pages.sh . man/*.[15]
 	@scripts/pictures/pictures compare
+	@scripts/kinds/kinds.py --check
 	@scripts/believed --page | diff docs/BELIEVED.md -
 	@scripts/cited
 	@scripts/faults --check
@@ -71,6 +72,9 @@ test-docs: bin ## the commands, pictures, tables and names of the pages
 
 pictures: ## draw the pictures of the pages
 	@scripts/pictures/pictures
+
+kinds: bin ## write the pages of the kinds of problems
+	@scripts/kinds/kinds.py
 
 completion: ## write the completion for shells
 	@scripts/completion/completion.py

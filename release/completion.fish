@@ -49,6 +49,7 @@ set -g __helgrothy_commands \
     'helgrothy make queens' \
     'helgrothy make langford' \
     'helgrothy make polyominoes' \
+    'helgrothy make polyforms' \
     'helgrothy make polycubes' \
     'helgrothy make words' \
     'helgrothy make wordsearch' \
@@ -71,6 +72,7 @@ set -g __helgrothy_commands \
     'helgrothy hint queens' \
     'helgrothy hint langford' \
     'helgrothy hint polyominoes' \
+    'helgrothy hint polyforms' \
     'helgrothy hint polycubes' \
     'helgrothy hint words' \
     'helgrothy hint wordsearch' \
@@ -88,6 +90,7 @@ set -g __helgrothy_commands \
     'helgrothy queens' \
     'helgrothy langford' \
     'helgrothy polyominoes' \
+    'helgrothy polyforms' \
     'helgrothy polycubes' \
     'helgrothy words' \
     'helgrothy wordsearch' \
@@ -101,6 +104,8 @@ set -g __helgrothy_commands \
 set -g __helgrothy_valued \
     'helgrothy make sudoku --regions' \
     'helgrothy make sudoku --cages' \
+    'helgrothy make polyforms --grid' \
+    'helgrothy make polyforms --copies' \
     'helgrothy make wordsearch --fill' \
     'helgrothy make roster --in-a-row' \
     'helgrothy make roster --days-off' \
@@ -117,11 +122,13 @@ set -g __helgrothy_valued \
     'helgrothy solve --shuffle' \
     'helgrothy solve --cost' \
     'helgrothy solve --cell' \
+    'helgrothy solve --grid' \
     'helgrothy solve --row' \
     'helgrothy solve --column' \
     'helgrothy solve --label' \
     'helgrothy draw --number' \
     'helgrothy draw --cell' \
+    'helgrothy draw --grid' \
     'helgrothy draw --row' \
     'helgrothy draw --column' \
     'helgrothy draw --label' \
@@ -155,6 +162,11 @@ set -g __helgrothy_valued \
     'helgrothy hint polyominoes --with' \
     'helgrothy hint polyominoes --without' \
     'helgrothy hint polyominoes --seconds' \
+    'helgrothy hint polyforms --grid' \
+    'helgrothy hint polyforms --copies' \
+    'helgrothy hint polyforms --with' \
+    'helgrothy hint polyforms --without' \
+    'helgrothy hint polyforms --seconds' \
     'helgrothy hint polycubes --with' \
     'helgrothy hint polycubes --without' \
     'helgrothy hint polycubes --seconds' \
@@ -237,6 +249,16 @@ set -g __helgrothy_valued \
     'helgrothy polyominoes --without' \
     'helgrothy polyominoes --shuffle' \
     'helgrothy polyominoes --cost' \
+    'helgrothy polyforms --grid' \
+    'helgrothy polyforms --copies' \
+    'helgrothy polyforms --number' \
+    'helgrothy polyforms --limit' \
+    'helgrothy polyforms --seed' \
+    'helgrothy polyforms --seconds' \
+    'helgrothy polyforms --with' \
+    'helgrothy polyforms --without' \
+    'helgrothy polyforms --shuffle' \
+    'helgrothy polyforms --cost' \
     'helgrothy polycubes --number' \
     'helgrothy polycubes --limit' \
     'helgrothy polycubes --seed' \
@@ -345,6 +367,7 @@ complete -c helgrothy -n '__helgrothy_is \'helgrothy\' 1' -a sudoku -d 'make and
 complete -c helgrothy -n '__helgrothy_is \'helgrothy\' 1' -a queens -d 'make and solve queens on a board, or in coloured regions'
 complete -c helgrothy -n '__helgrothy_is \'helgrothy\' 1' -a langford -d 'make and solve Langford\'s pairs'
 complete -c helgrothy -n '__helgrothy_is \'helgrothy\' 1' -a polyominoes -d 'make and solve pieces of squares that fill a region'
+complete -c helgrothy -n '__helgrothy_is \'helgrothy\' 1' -a polyforms -d 'make and solve pieces of hexagons or triangles that fill a region'
 complete -c helgrothy -n '__helgrothy_is \'helgrothy\' 1' -a polycubes -d 'make and solve pieces of cubes that fill a box'
 complete -c helgrothy -n '__helgrothy_is \'helgrothy\' 1' -a words -d 'make and solve words across and down in a grid'
 complete -c helgrothy -n '__helgrothy_is \'helgrothy\' 1' -a wordsearch -d 'make and solve words of a list hidden in a grid of letters'
@@ -359,6 +382,7 @@ complete -c helgrothy -n '__helgrothy_is \'helgrothy make\' 1' -a sudoku -d 'a S
 complete -c helgrothy -n '__helgrothy_is \'helgrothy make\' 1' -a queens -d 'queens on a board, or in coloured regions'
 complete -c helgrothy -n '__helgrothy_is \'helgrothy make\' 1' -a langford -d 'Langford\'s pairs'
 complete -c helgrothy -n '__helgrothy_is \'helgrothy make\' 1' -a polyominoes -d 'pieces of squares that fill a region'
+complete -c helgrothy -n '__helgrothy_is \'helgrothy make\' 1' -a polyforms -d 'pieces of hexagons or triangles that fill a region'
 complete -c helgrothy -n '__helgrothy_is \'helgrothy make\' 1' -a polycubes -d 'pieces of cubes that fill a box'
 complete -c helgrothy -n '__helgrothy_is \'helgrothy make\' 1' -a words -d 'words across and down in a grid'
 complete -c helgrothy -n '__helgrothy_is \'helgrothy make\' 1' -a wordsearch -d 'words of a list hidden in a grid of letters'
@@ -378,6 +402,13 @@ complete -c helgrothy -n '__helgrothy_is \'helgrothy make polyominoes\'' -s h -l
 complete -c helgrothy -n '__helgrothy_is \'helgrothy make polyominoes\'' -l no-turns -d 'pieces may not be turned'
 complete -c helgrothy -n '__helgrothy_is \'helgrothy make polyominoes\'' -l no-mirrors -d 'pieces may not be mirrored'
 complete -c helgrothy -n '__helgrothy_is \'helgrothy make polyominoes\'' -l some -d 'pieces may be left over'
+complete -c helgrothy -n '__helgrothy_is \'helgrothy make polyforms\'' -s h -l help -d 'show this help message and exit'
+complete -c helgrothy -n '__helgrothy_is \'helgrothy make polyforms\'' -l grid -r -f -a 'hex triangle' -d 'what pieces of your own are drawn in'
+complete -c helgrothy -n '__helgrothy_is \'helgrothy make polyforms\'' -l one-sided -d 'of a set: no piece is turned over, and a mirror image is a piece of its own, with a small letter'
+complete -c helgrothy -n '__helgrothy_is \'helgrothy make polyforms\'' -l copies -r -f -d 'how often pieces are there, where not once: I=2,O=0'
+complete -c helgrothy -n '__helgrothy_is \'helgrothy make polyforms\'' -l no-turns -d 'pieces may not be turned'
+complete -c helgrothy -n '__helgrothy_is \'helgrothy make polyforms\'' -l no-mirrors -d 'pieces may not be mirrored'
+complete -c helgrothy -n '__helgrothy_is \'helgrothy make polyforms\'' -l some -d 'pieces may be left over'
 complete -c helgrothy -n '__helgrothy_is \'helgrothy make polycubes\'' -s h -l help -d 'show this help message and exit'
 complete -c helgrothy -n '__helgrothy_is \'helgrothy make polycubes\'' -l mirrors -d 'mirror images of pieces may be used too'
 complete -c helgrothy -n '__helgrothy_is \'helgrothy make polycubes\'' -l some -d 'pieces may be left over'
@@ -421,6 +452,7 @@ complete -c helgrothy -n '__helgrothy_is \'helgrothy solve\'' -l up-to-symmetry 
 complete -c helgrothy -n '__helgrothy_is \'helgrothy solve\'' -l cost -r -F -d 'the solution of least cost, from a file: lines of names of items (or patterns) and a number, which each option that has them costs, or a number for each option; by clasp where the path has it, else by dlx3'
 complete -c helgrothy -n '__helgrothy_is \'helgrothy solve\'' -l all-costs -d 'of --cost and wishes: each line that costs something, not only the ten that cost most'
 complete -c helgrothy -n '__helgrothy_is \'helgrothy solve\'' -l cell -r -f -d 'a regular expression that finds the cells, as whole words, in an option\'s line; its first two groups (or those named row and column) are row and column, a number or a single letter, and a third one its label'
+complete -c helgrothy -n '__helgrothy_is \'helgrothy solve\'' -l grid -r -f -a 'square hex triangle' -d 'of --cell: square (default); hex, with axial coordinates; or triangle, which point up where row and column add up to an even number, or are half 0 (u) or 1 (d) of a rhombus, by a third group'
 complete -c helgrothy -n '__helgrothy_is \'helgrothy solve\'' -l row -r -f -d 'a regular expression that finds the name of a row in the words of an option: the picture is a table of these names, in the order of the file'
 complete -c helgrothy -n '__helgrothy_is \'helgrothy solve\'' -l column -r -f -d 'a regular expression that finds the name of a column in the words of an option: the picture is a table of these names, in the order of the file'
 complete -c helgrothy -n '__helgrothy_is \'helgrothy solve\'' -l label -r -f -d 'a regular expression that finds the label in an option\'s line'
@@ -433,6 +465,7 @@ complete -c helgrothy -n '__helgrothy_is \'helgrothy draw\'' -l csv -d 'the tabl
 complete -c helgrothy -n '__helgrothy_is \'helgrothy draw\'' -l options -d 'of --json and --csv: the options, also where a table is drawn'
 complete -c helgrothy -n '__helgrothy_is \'helgrothy draw\'' -l listing -d 'an answer as a listing, for dlxcheck to judge'
 complete -c helgrothy -n '__helgrothy_is \'helgrothy draw\'' -l cell -r -f -d 'a regular expression that finds the cells, as whole words, in an option\'s line; its first two groups (or those named row and column) are row and column, a number or a single letter, and a third one its label'
+complete -c helgrothy -n '__helgrothy_is \'helgrothy draw\'' -l grid -r -f -a 'square hex triangle' -d 'of --cell: square (default); hex, with axial coordinates; or triangle, which point up where row and column add up to an even number, or are half 0 (u) or 1 (d) of a rhombus, by a third group'
 complete -c helgrothy -n '__helgrothy_is \'helgrothy draw\'' -l row -r -f -d 'a regular expression that finds the name of a row in the words of an option: the picture is a table of these names, in the order of the file'
 complete -c helgrothy -n '__helgrothy_is \'helgrothy draw\'' -l column -r -f -d 'a regular expression that finds the name of a column in the words of an option: the picture is a table of these names, in the order of the file'
 complete -c helgrothy -n '__helgrothy_is \'helgrothy draw\'' -l label -r -f -d 'a regular expression that finds the label in an option\'s line'
@@ -465,6 +498,7 @@ complete -c helgrothy -n '__helgrothy_is \'helgrothy hint\' 1' -a sudoku -d 'a S
 complete -c helgrothy -n '__helgrothy_is \'helgrothy hint\' 1' -a queens -d 'queens on a board, or in coloured regions'
 complete -c helgrothy -n '__helgrothy_is \'helgrothy hint\' 1' -a langford -d 'Langford\'s pairs'
 complete -c helgrothy -n '__helgrothy_is \'helgrothy hint\' 1' -a polyominoes -d 'pieces of squares that fill a region'
+complete -c helgrothy -n '__helgrothy_is \'helgrothy hint\' 1' -a polyforms -d 'pieces of hexagons or triangles that fill a region'
 complete -c helgrothy -n '__helgrothy_is \'helgrothy hint\' 1' -a polycubes -d 'pieces of cubes that fill a box'
 complete -c helgrothy -n '__helgrothy_is \'helgrothy hint\' 1' -a words -d 'words across and down in a grid'
 complete -c helgrothy -n '__helgrothy_is \'helgrothy hint\' 1' -a wordsearch -d 'words of a list hidden in a grid of letters'
@@ -496,6 +530,16 @@ complete -c helgrothy -n '__helgrothy_is \'helgrothy hint polyominoes\'' -l some
 complete -c helgrothy -n '__helgrothy_is \'helgrothy hint polyominoes\'' -l with -r -f -d 'only solutions with the option that has these items, as many as it takes to be clear; may be repeated'
 complete -c helgrothy -n '__helgrothy_is \'helgrothy hint polyominoes\'' -l without -r -f -d 'only solutions without the options that have all of these items, or patterns of them; may be repeated'
 complete -c helgrothy -n '__helgrothy_is \'helgrothy hint polyominoes\'' -l seconds -r -f -d 'the time (default: 5)'
+complete -c helgrothy -n '__helgrothy_is \'helgrothy hint polyforms\'' -s h -l help -d 'show this help message and exit'
+complete -c helgrothy -n '__helgrothy_is \'helgrothy hint polyforms\'' -l grid -r -f -a 'hex triangle' -d 'what pieces of your own are drawn in'
+complete -c helgrothy -n '__helgrothy_is \'helgrothy hint polyforms\'' -l one-sided -d 'of a set: no piece is turned over, and a mirror image is a piece of its own, with a small letter'
+complete -c helgrothy -n '__helgrothy_is \'helgrothy hint polyforms\'' -l copies -r -f -d 'how often pieces are there, where not once: I=2,O=0'
+complete -c helgrothy -n '__helgrothy_is \'helgrothy hint polyforms\'' -l no-turns -d 'pieces may not be turned'
+complete -c helgrothy -n '__helgrothy_is \'helgrothy hint polyforms\'' -l no-mirrors -d 'pieces may not be mirrored'
+complete -c helgrothy -n '__helgrothy_is \'helgrothy hint polyforms\'' -l some -d 'pieces may be left over'
+complete -c helgrothy -n '__helgrothy_is \'helgrothy hint polyforms\'' -l with -r -f -d 'only solutions with the option that has these items, as many as it takes to be clear; may be repeated'
+complete -c helgrothy -n '__helgrothy_is \'helgrothy hint polyforms\'' -l without -r -f -d 'only solutions without the options that have all of these items, or patterns of them; may be repeated'
+complete -c helgrothy -n '__helgrothy_is \'helgrothy hint polyforms\'' -l seconds -r -f -d 'the time (default: 5)'
 complete -c helgrothy -n '__helgrothy_is \'helgrothy hint polycubes\'' -s h -l help -d 'show this help message and exit'
 complete -c helgrothy -n '__helgrothy_is \'helgrothy hint polycubes\'' -l mirrors -d 'mirror images of pieces may be used too'
 complete -c helgrothy -n '__helgrothy_is \'helgrothy hint polycubes\'' -l some -d 'pieces may be left over'
@@ -656,6 +700,33 @@ complete -c helgrothy -n '__helgrothy_is \'helgrothy polyominoes\'' -l shuffle -
 complete -c helgrothy -n '__helgrothy_is \'helgrothy polyominoes\'' -l up-to-symmetry -d 'one solution of those that are images of each other by turns and mirrors of the board or box'
 complete -c helgrothy -n '__helgrothy_is \'helgrothy polyominoes\'' -l cost -r -F -d 'the solution of least cost, from a file: lines of names of items (or patterns) and a number, which each option that has them costs, or a number for each option; by clasp where the path has it, else by dlx3'
 complete -c helgrothy -n '__helgrothy_is \'helgrothy polyominoes\'' -l all-costs -d 'of --cost and wishes: each line that costs something, not only the ten that cost most'
+complete -c helgrothy -n '__helgrothy_is \'helgrothy polyforms\'' -s h -l help -d 'show this help message and exit'
+complete -c helgrothy -n '__helgrothy_is \'helgrothy polyforms\'' -l grid -r -f -a 'hex triangle' -d 'what pieces of your own are drawn in'
+complete -c helgrothy -n '__helgrothy_is \'helgrothy polyforms\'' -l one-sided -d 'of a set: no piece is turned over, and a mirror image is a piece of its own, with a small letter'
+complete -c helgrothy -n '__helgrothy_is \'helgrothy polyforms\'' -l copies -r -f -d 'how often pieces are there, where not once: I=2,O=0'
+complete -c helgrothy -n '__helgrothy_is \'helgrothy polyforms\'' -l no-turns -d 'pieces may not be turned'
+complete -c helgrothy -n '__helgrothy_is \'helgrothy polyforms\'' -l no-mirrors -d 'pieces may not be mirrored'
+complete -c helgrothy -n '__helgrothy_is \'helgrothy polyforms\'' -l some -d 'pieces may be left over'
+complete -c helgrothy -n '__helgrothy_is \'helgrothy polyforms\'' -l number -r -f -d 'the K-th solution instead of the first'
+complete -c helgrothy -n '__helgrothy_is \'helgrothy polyforms\'' -l random -d 'one of all solutions, each as likely as any other'
+complete -c helgrothy -n '__helgrothy_is \'helgrothy polyforms\'' -l limit -r -f -d 'the first N solutions'
+complete -c helgrothy -n '__helgrothy_is \'helgrothy polyforms\'' -l all -d 'all solutions'
+complete -c helgrothy -n '__helgrothy_is \'helgrothy polyforms\'' -l count -d 'only how many solutions there are'
+complete -c helgrothy -n '__helgrothy_is \'helgrothy polyforms\'' -l chances -d 'in how many percent of all solutions each cell has what, or, without a picture, each option is chosen'
+complete -c helgrothy -n '__helgrothy_is \'helgrothy polyforms\'' -l unique -d 'whether there is exactly one solution; if not, two'
+complete -c helgrothy -n '__helgrothy_is \'helgrothy polyforms\'' -l svg -d 'a picture as SVG, of one solution'
+complete -c helgrothy -n '__helgrothy_is \'helgrothy polyforms\'' -l html -d 'a page for a browser: the solutions, their pictures, and the search\'s way'
+complete -c helgrothy -n '__helgrothy_is \'helgrothy polyforms\'' -l json -d 'a line of JSON for each solution: its number, and the rows of the table that is drawn; where none is, the numbers of its options, their items, and the colours'
+complete -c helgrothy -n '__helgrothy_is \'helgrothy polyforms\'' -l csv -d 'the table that is drawn as CSV; where none is, a line for each choice'
+complete -c helgrothy -n '__helgrothy_is \'helgrothy polyforms\'' -l options -d 'of --json and --csv: the options, also where a table is drawn'
+complete -c helgrothy -n '__helgrothy_is \'helgrothy polyforms\'' -l seed -r -f -d 'of --random: the same solution for the same number'
+complete -c helgrothy -n '__helgrothy_is \'helgrothy polyforms\'' -l seconds -r -f -d 'give up after S seconds'
+complete -c helgrothy -n '__helgrothy_is \'helgrothy polyforms\'' -l with -r -f -d 'only solutions with the option that has these items, as many as it takes to be clear; may be repeated'
+complete -c helgrothy -n '__helgrothy_is \'helgrothy polyforms\'' -l without -r -f -d 'only solutions without the options that have all of these items, or patterns of them; may be repeated'
+complete -c helgrothy -n '__helgrothy_is \'helgrothy polyforms\'' -l shuffle -r -f -d 'solutions in a random order of the options, the same for the same number'
+complete -c helgrothy -n '__helgrothy_is \'helgrothy polyforms\'' -l up-to-symmetry -d 'one solution of those that are images of each other by turns and mirrors of the board or box'
+complete -c helgrothy -n '__helgrothy_is \'helgrothy polyforms\'' -l cost -r -F -d 'the solution of least cost, from a file: lines of names of items (or patterns) and a number, which each option that has them costs, or a number for each option; by clasp where the path has it, else by dlx3'
+complete -c helgrothy -n '__helgrothy_is \'helgrothy polyforms\'' -l all-costs -d 'of --cost and wishes: each line that costs something, not only the ten that cost most'
 complete -c helgrothy -n '__helgrothy_is \'helgrothy polycubes\'' -s h -l help -d 'show this help message and exit'
 complete -c helgrothy -n '__helgrothy_is \'helgrothy polycubes\'' -l mirrors -d 'mirror images of pieces may be used too'
 complete -c helgrothy -n '__helgrothy_is \'helgrothy polycubes\'' -l some -d 'pieces may be left over'
@@ -874,6 +945,8 @@ complete -c helgrothy -n '__helgrothy_is \'helgrothy make sudoku\' 1' -F
 complete -c helgrothy -n '__helgrothy_is \'helgrothy make queens\' 1' -F
 complete -c helgrothy -n '__helgrothy_is \'helgrothy make polyominoes\' 1' -F -a 'pentominoes tetrominoes'
 complete -c helgrothy -n '__helgrothy_is \'helgrothy make polyominoes\' 2' -F
+complete -c helgrothy -n '__helgrothy_is \'helgrothy make polyforms\' 1' -F -a 'heptiamonds hexiamonds pentahexes pentiamonds tetrahexes tetriamonds trihexes'
+complete -c helgrothy -n '__helgrothy_is \'helgrothy make polyforms\' 2' -F
 complete -c helgrothy -n '__helgrothy_is \'helgrothy make polycubes\' 1' -F -a 'pentacubes pentominoes soma tetracubes tetrominoes'
 complete -c helgrothy -n '__helgrothy_is \'helgrothy make polycubes\' 2' -F
 complete -c helgrothy -n '__helgrothy_is \'helgrothy make words\' 1' -F
@@ -898,6 +971,8 @@ complete -c helgrothy -n '__helgrothy_is \'helgrothy hint sudoku\' 1' -F
 complete -c helgrothy -n '__helgrothy_is \'helgrothy hint queens\' 1' -F
 complete -c helgrothy -n '__helgrothy_is \'helgrothy hint polyominoes\' 1' -F -a 'pentominoes tetrominoes'
 complete -c helgrothy -n '__helgrothy_is \'helgrothy hint polyominoes\' 2' -F
+complete -c helgrothy -n '__helgrothy_is \'helgrothy hint polyforms\' 1' -F -a 'heptiamonds hexiamonds pentahexes pentiamonds tetrahexes tetriamonds trihexes'
+complete -c helgrothy -n '__helgrothy_is \'helgrothy hint polyforms\' 2' -F
 complete -c helgrothy -n '__helgrothy_is \'helgrothy hint polycubes\' 1' -F -a 'pentacubes pentominoes soma tetracubes tetrominoes'
 complete -c helgrothy -n '__helgrothy_is \'helgrothy hint polycubes\' 2' -F
 complete -c helgrothy -n '__helgrothy_is \'helgrothy hint words\' 1' -F
@@ -917,6 +992,8 @@ complete -c helgrothy -n '__helgrothy_is \'helgrothy sudoku\' 1' -F
 complete -c helgrothy -n '__helgrothy_is \'helgrothy queens\' 1' -F
 complete -c helgrothy -n '__helgrothy_is \'helgrothy polyominoes\' 1' -F -a 'pentominoes tetrominoes'
 complete -c helgrothy -n '__helgrothy_is \'helgrothy polyominoes\' 2' -F
+complete -c helgrothy -n '__helgrothy_is \'helgrothy polyforms\' 1' -F -a 'heptiamonds hexiamonds pentahexes pentiamonds tetrahexes tetriamonds trihexes'
+complete -c helgrothy -n '__helgrothy_is \'helgrothy polyforms\' 2' -F
 complete -c helgrothy -n '__helgrothy_is \'helgrothy polycubes\' 1' -F -a 'pentacubes pentominoes soma tetracubes tetrominoes'
 complete -c helgrothy -n '__helgrothy_is \'helgrothy polycubes\' 2' -F
 complete -c helgrothy -n '__helgrothy_is \'helgrothy words\' 1' -F

@@ -3,7 +3,8 @@
 # page, in order, into one shell, and compares what comes, standard error included, with the block behind it, or with
 # nothing where none is. A block `sh if FILE`, with the one behind it, counts only where the folder has FILE. So too
 # each command of its two tables, with the row's message or status. Of a manual page it runs the examples, each line
-# behind `$`, with the programs in `bin` or else on the path. Prints what differs, and nothing else.
+# behind `$`. Those of manual pages and of docs/kinds are run in an empty folder, with the programs in `bin` or else on
+# the path. Prints what differs, and nothing else.
 [ $# = 1 ] && [ -r "$1" ] || { echo "Usage: sh guide.sh PAGE" >&2; exit 2; }
 folder=$(mktemp -d) || exit 2
 trap 'rm -rf "$folder"' EXIT
@@ -24,6 +25,7 @@ function code(text) {
     return substr(text, 2, length(text) - 2)
 }
 BEGIN { script = folder "/all.sh"; printf "" > script }
+FNR == 1 && FILENAME ~ /docs\/kinds\// { print "cd \"$TMPDIR\"" > script }
 FILENAME ~ /[.][15]$/ {
     if ($0 == ".nf") inside = "man"
     else if ($0 == ".fi") inside = ""
@@ -61,7 +63,7 @@ $0 == "```" { if (fresh == 0) { print "line " NR ": output of no command"; bad =
 END { close(script); if (want == "") { print "no commands"; bad = 1 }; exit bad }
 ' "$1" || exit 1
 
-case $1 in *.[15]) PATH=$PWD/bin:$PATH ;; esac
+case $1 in *.[15] | *docs/kinds/*) PATH=$PWD/bin:$PATH ;; esac
 export PYTHONDONTWRITEBYTECODE=1
 TMPDIR="$folder/tmp" sh "$folder/all.sh" || :
 differ=0

@@ -21,7 +21,7 @@ cd "$folder"
 # The page of a release is in the repository too, whose folder has all that a release has; a release has no crates.
 [ ! -e release/README.md ] || sh "$guide" release/README.md || differ=1
 [ ! -e crates.txt ] || sh "$guide" docs/CALLING.md || differ=1
-for page in README.md docs/GUIDE.md docs/MODELS.md docs/ENDLESS.md docs/LONG.md docs/COUNT.md; do
+for page in README.md docs/GUIDE.md docs/MODELS.md docs/ENDLESS.md docs/LONG.md docs/COUNT.md docs/kinds/*.md; do
     sh "$guide" "$page" || differ=1
 done
 exit "$differ"

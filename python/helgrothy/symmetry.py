@@ -15,6 +15,7 @@ from collections.abc import Generator, Hashable, Sequence
 from dataclasses import dataclass
 from typing import Any, TypeVar
 
+from ._reason import grids
 from ._reason.turns import Cell, symmetries
 from ._run.solution import Solution
 from ._run.stream import Outcome, Solutions, check_numbers, sooner
@@ -35,13 +36,16 @@ _MOST_DIGITS = 9
 _MOST_TOLD = 60
 
 
-def motions(problem: Problem[Any], cell: str) -> list[Motion]:
+def motions(problem: Problem[Any], cell: str, grid: str = "square") -> list[Motion]:
     """The symmetries of a problem, that of no change first.
 
     cell: a pattern (regular expression) for the cells of an option, as whole words of its line. Its groups `layer`,
-    `row` and `column`, or else all of its groups, are the numbers of the cell, or single letters. Raises `NoPicture`.
+    `row` and `column`, or else all of its groups, are the numbers of the cell, or single letters. grid: `square`, also
+    of boxes, `hex` or `triangle`, whose cells are those of `draw.Pattern`. Raises `NoPicture`.
     """
-    laid, words = _laid(problem, cell)
+    if grid not in grids.GRIDS:
+        raise NoPicture(f"{shown(grid)}: a grid is {', '.join(grids.GRIDS)}")
+    laid, words = _laid(problem, cell, grid)
     region = sorted({at for cells in laid for at in cells})
     if len(set(laid)) == len(laid):
         # Words of other items may say the same in another way, as the diagonals of a queen do.
@@ -54,7 +58,7 @@ def motions(problem: Problem[Any], cell: str) -> list[Motion]:
         raise NoPicture(f"two options lie in the same cells and are alike: {line[:_MOST_TOLD]}")
     holders = _holders(problem)
     found: dict[Motion, None] = {}
-    for symmetry in symmetries(region):
+    for symmetry in symmetries(region, ways=None if grid == "square" else grids.GRIDS[grid].motions):
         images = [frozenset(symmetry[at] for at in cells) for cells in laid]
         motion = [places.get(key) for key in zip(images, words)]
         taken = tuple(place for place in motion if place is not None)
@@ -63,18 +67,18 @@ def motions(problem: Problem[Any], cell: str) -> list[Motion]:
     return list(found)
 
 
-def _laid(problem: Problem[Any], cell: str) -> tuple[list[frozenset[Cell]], list[tuple[str, ...]]]:
+def _laid(problem: Problem[Any], cell: str, grid: str) -> tuple[list[frozenset[Cell]], list[tuple[str, ...]]]:
     """The cells of each option, and its other words."""
     pattern = compiled(cell, r"(?<!\S)", r"(?!\S)")
     if not pattern.groups:
         raise re.error("the pattern of a cell has no group for its row or column")
-    named = [name for name in ("layer", "row", "column") if name in pattern.groupindex]
+    named = [name for name in ("layer", "row", "column", "half") if name in pattern.groupindex]
     groups: list[Any] = list(named) or list(range(1, pattern.groups + 1))
     laid, words = [], []
     dimensions: set[int] = set()
     for option in problem.options:
         line = problem.line(option)
-        found = [tuple(map(_number, filter(None, match.group(0, *groups)[1:]))) for match in pattern.finditer(line)]
+        found = [_cell(match.group(0, *groups)[1:], grid) for match in pattern.finditer(line)]
         dimensions.update(map(len, found))
         laid.append(frozenset(found))
         words.append(tuple(pattern.sub("", line).split()))
@@ -83,6 +87,22 @@ def _laid(problem: Problem[Any], cell: str) -> tuple[list[frozenset[Cell]], list
     if len(dimensions) > 1:
         raise NoPicture(f"cells have {' and '.join(map(str, sorted(dimensions)))} numbers; all have as many")
     return laid, words
+
+
+def _cell(words: Sequence[str], grid: str) -> Cell:
+    """A cell by its numbers, or by the point that motions of its grid take for it."""
+    told = [word for word in words if word]
+    if grid == "square":
+        return tuple(map(_number, told))
+    if not 2 <= len(told) <= (3 if grid == "triangle" else 2):
+        raise NoPicture(f"a cell of the grid {grid} has a row and a column, and this one {len(told)} numbers")
+    place = _number(told[0]), _number(told[1])
+    if len(told) == 3:
+        try:
+            place = grids.of_rhombus(*place, grids.half(told[2]))
+        except ValueError as error:
+            raise NoPicture(f"{shown(told[2])}: {error}") from None
+    return grids.GRIDS[grid].point(place)
 
 
 def _number(word: str) -> int:

@@ -63,14 +63,21 @@ class Table:
 
 
 def by_patterns(
-    problem: Problem[Any], cell: str | None, row: str | None, column: str | None, label: str | None
+    problem: Problem[Any],
+    cell: str | None,
+    row: str | None,
+    column: str | None,
+    label: str | None,
+    grid: str | None = None,
 ) -> Drawing | None:
     """The drawing by patterns for a board or a table; None where there are none. Raises `ValueError`, `NoPicture`."""
     if cell is not None and (row is not None or column is not None):
         raise ValueError("--cell is for a board, --row and --column are for a table: not both")
+    if cell is None and grid is not None:
+        raise ValueError("--grid is of the cells of --cell")
     try:
         if cell is not None:
-            return Pattern(cell, label or r"(?!)").of(problem)
+            return Pattern(cell, label or r"(?!)", grid or "square").of(problem)
         return None if row is None and column is None else Table(row, column, label).of(problem)
     except (re.error, OverflowError, RecursionError) as error:
         raise ValueError(f"a pattern is wrong: {error}") from None

@@ -263,7 +263,7 @@ class Forms(unittest.TestCase):
         for example in examples():
             with self.subTest(title=example["title"]):
                 self.leave()
-                ways = {name: example[name] for name in ("kind", "values", "text", "cell", "row", "column", "label", "costs")}
+                ways = {name: example[name] for name in ("kind", "values", "text", "cell", "grid", "row", "column", "label", "costs")}
                 ways["way"] = "cheapest" if example["costs"] else ""
                 lines = list(answer.answer(answer.Request("solve", limit=1, seconds=60.0, **ways)))
                 found = json.loads(lines[1])["solution"]
@@ -358,6 +358,19 @@ class Requests(unittest.TestCase):
         self.assertEqual((told["chances"]["total"], told["chances"]["elements"][0][0]), ("4", "svg"))
         *_, told = self.told(what="chances", text="a b\na b\n", seconds=60.0)
         self.assertIn("this problem has no picture", told["error"])
+
+    def test_cells_of_a_grid(self):
+        given = {"what": "solve", "text": "r1c1 r1c2 r2c1\nr1c1 r1c2\nr2c1\n", "cell": r"r(\d)c(\d)"}
+        polygons = []
+        for grid in ("", "hex", "triangle"):
+            _, solution, _ = self.told(**given, grid=grid)
+            polygons.append(sum("fill" in it[1] and it[0] == "path" and "L" in it[1]["d"] for it in solution["solution"]["elements"]))
+        self.assertEqual([polygons[0], min(polygons[1:]) > 0], [0, True])
+        self.assertEqual(self.told(**given, grid="cubes"), [{"error": "cubes: no such grid"}])
+        del given["cell"]
+        self.assertNotIn("error", self.told(**given, grid="hex")[-1])
+        *_, told = self.told(what="solve", kind="polyforms", values={"pieces": "tetrahexes", "region": "4x7"}, way="symmetry")
+        self.assertEqual(told["end"]["total"], 9)
 
     def test_one_of_all_solutions(self):
         """Where the package has such; else it says so."""

@@ -7,7 +7,7 @@ from collections.abc import Iterator
 from dataclasses import dataclass, field
 
 from helgrothy._cli.commands import parser_of_all
-from helgrothy.make import cubes, polyominoes
+from helgrothy.make import cubes, polyforms, polyominoes
 from helgrothy._spans.commands import progress_parser
 
 # What a word may be: any of some words, a file, a folder, a problem (a file that ends with .dlx), or something that
@@ -19,6 +19,7 @@ _FILES = (
     "CLUES",
     "N|REGIONS",
     "PIECES",
+    "FORMS",
     "REGION",
     "REGIONS",
     "CAGES",
@@ -31,7 +32,7 @@ _FILES = (
     "CUBES",
     "BOX",
 )
-_WORDS = {"PIECES": sorted(polyominoes.SETS), "CUBES": sorted(cubes.SETS)}
+_WORDS = {"PIECES": sorted(polyominoes.SETS), "FORMS": sorted(polyforms.SETS), "CUBES": sorted(cubes.SETS)}
 
 
 @dataclass(frozen=True)

@@ -297,6 +297,7 @@ class File(Pages):
             ["sudoku", "53..7....6..195....98....6.8...6...34..8.3..17...2...6.6....28....419..5....8..79"],
             ["queens", "8", "--all"],
             ["langford", "4"],
+            ["polyforms", "hexiamonds", "6x6"],
             ["polycubes", "soma", "3x3x3"],
             ["kakuro", self.file("kakuro.txt", first_of("kakuro")["grid"].encode())],
             ["timetable", self.file("exams.csv", first_of("timetable")["table"].encode())],

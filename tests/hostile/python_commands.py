@@ -256,6 +256,8 @@ FACTORS = b"system linux mac\nbrowser firefox chrome\nsize 1 2 3\n"
 CUBES = b"AA .A\nA. ..\n\nBB\nB.\n\nC\n"
 BOX = b".. ..\n.. ..\n"
 LESSONS = b"day,mon,1 2\nday,tue,1\nroom,hall,,-mon-2,3\nroom,lab\nlesson,x,ann bob,lab,,2\nexam,y,cat,-tue\nperson,cat,x,,2\nbefore,y,x\nsame,y,z\nexam,z\n"
+HEXES, TRIANGLES = b"A A\n\nB\n B B\n\nC\n", b"AAA\n\nBB\n\nC\n"
+HEXAGON = b" . .\n. # .\n . .\n"
 TABLES = [ROSTER, TEAMS, GRID, LIST, PIECES, REGION, REGIONS, CLUES, JIGSAW, *CAGES, *NONOGRAM, KAKURO, FACTORS, CUBES, BOX, LESSONS]
 MADE = [
     problem.text.encode()
@@ -272,6 +274,8 @@ MADE = [
         make.words.problem(GRID.decode(), LIST.decode().split()),
         make.wordsearch.problem("tea cup", "3x4", fill=1),
         make.polyominoes.problem("LL\nL\n\nII\n\nO\n", "...\n...\n"),
+        make.polyforms.problem(HEXES.decode(), HEXAGON.decode(), grid="hex"),
+        make.polyforms.problem(TRIANGLES.decode(), "1x3", grid="triangle"),
         make.tests.problem(FACTORS.decode(), 6),
         make.polycubes.problem(CUBES.decode(), BOX.decode()),
         make.timetable.problem(LESSONS.decode(), daily=2),
@@ -318,7 +322,7 @@ class Try:
         rng = self.rng
         words = rng.choice([[], ["--svg"], ["--svg"], ["--html"], ["--json"], ["--csv"]])
         if rng.random() < 0.35:
-            words += [f"--cell={self.pattern()}"]
+            words += [f"--cell={self.pattern()}", *rng.choice([[], [], ["--grid", "hex"], ["--grid", "triangle"]])]
         elif rng.random() < 0.3:
             words += [f"--{axis}={self.pattern()}" for axis in rng.choice([["row"], ["column"], ["row", "column"]])]
         if rng.random() < 0.2:
@@ -389,13 +393,15 @@ class Try:
         if kind == "tests":
             count = rng.choice([["--tests", "6"], ["--tests", "7", "--strength", rng.choice(["1", "3", *WORDS])], ["--tests", rng.choice(WORDS)]])
             return kind, [rng.choice([self.input(changed(rng, FACTORS)), self.input(changed(rng, FACTORS)), "3,2^2", *WORDS]), *count]
-        given = {"words": [GRID, LIST], "wordsearch": [LIST, GRID], "polyominoes": [PIECES, REGION], "polycubes": [CUBES, BOX], "roster": [ROSTER],
+        given = {"words": [GRID, LIST], "wordsearch": [LIST, GRID], "polyominoes": [PIECES, REGION], "polycubes": [CUBES, BOX], "polyforms": [rng.choice([HEXES, TRIANGLES]), HEXAGON], "roster": [ROSTER],
                  "roundrobin": [TEAMS], "timetable": [LESSONS], "nonogram": [rng.choice(NONOGRAM)], "kakuro": [KAKURO]}[kind]  # fmt: skip
         tables = [self.file(changed(rng, table if rng.random() < 0.9 else rng.choice(TABLES))) for table in given]
         if rng.random() < 0.1:
             tables[-1] = rng.choice(WORDS)
-        more = {"roster": ["--rest", "--in-a-row", "1", "--days-off", rng.choice(["1", "2", *WORDS])], "roundrobin": ["--double", "--in-a-row", "2"], "polyominoes": ["--no-turns", "--some"],
+        more = {"roster": ["--rest", "--in-a-row", "1", "--days-off", rng.choice(["1", "2", *WORDS])], "roundrobin": ["--double", "--in-a-row", "2"], "polyominoes": ["--no-turns", "--some"], "polyforms": ["--some", "--copies", rng.choice(["A=2", "A=0,B=3", *WORDS])],
                 "polycubes": ["--some", "--mirrors"], "timetable": ["--daily", "2"], "wordsearch": ["--fill", rng.choice(["1", *WORDS])]}.get(kind, [])  # fmt: skip
+        if kind == "polyforms":
+            tables += ["--grid", rng.choice(["hex", "triangle"])]
         return kind, [*tables, *(more if rng.random() < 0.3 else [])]
 
     def kind(self):
@@ -784,6 +790,9 @@ class Processes:
             "roundrobin, 250": f"roundrobin {self.file('teams2', b''.join(b't%d' % n + chr(10).encode() for n in range(250)))}",
             "words": f"words {self.file('grid', (b'.' * 1000 + chr(10).encode()) * 900)} {self.file('list', b' '.join(b'%c' % (97 + n % 26) * 1000 for n in range(900)))}",
             "a box of dominoes": f"polycubes {self.file('piece5', (b'AA' + chr(10).encode() * 2) * 48_000)} 40x60x40",
+            "a row of hexagons": "polyforms tetrahexes 99999x1 --some",
+            "a board of triangles": "polyforms hexiamonds 220x220 --some",
+            "a board of triangles, more": "polyforms hexiamonds 999999999x999999999",
             "a box, more": "polycubes soma 999999999x999999999x999999999",
             "a piece of cubes": f"polycubes {self.file('piece3', (b'A' * 300 + b' ') * 3 + chr(10).encode())} {self.file('region3', (b'.' * 300 + chr(10).encode()) * 300)}",
             "a large piece of cubes": f"polycubes {self.file('piece4', (b'A' * 300 + chr(10).encode()) * 300)} {self.file('region4', (b'.' * 300 + chr(10).encode()) * 300)}",
@@ -889,8 +898,9 @@ def asked(rng: random.Random):
         request["values"] = {name: rng.choice([*some, True, 1, None, []]) for name in names}
     else:
         request["text"] = rng.choice([text(rng).decode("utf-8", "replace"), rng.choice(some)])
-        for name in ("cell", "row", "column", "label"):
+        for name in ("cell", "grid", "row", "column", "label"):
             request[name] = rng.choice(["", "", "", rng.choice(PATTERNS)])
+        request["grid"] = rng.choice(["", "hex", "triangle", request["grid"]])
     if rng.random() < 0.1:
         request[rng.choice([*request, "more"])] = rng.choice([None, -1, 1e308, 10**30, "x" * 100_000, {"a": []}, [[]], "\udcff"])
     return request

@@ -27,6 +27,8 @@ LINES = [
     ("helgrothy make polyo", "helgrothy make polyominoes "),
     ("helgrothy make roster --r", "helgrothy make roster --rest "),
     ("helgrothy make roster not", "helgrothy make roster notes.txt "),
+    ("helgrothy polyforms hexi", "helgrothy polyforms hexiamonds "),
+    ("helgrothy solve --cell r --grid tri", "helgrothy solve --cell r --grid triangle "),
     ("helgrothy polyominoes pen", "helgrothy polyominoes pentominoes "),
     ("helgrothy polyominoes pentominoes not", "helgrothy polyominoes pentominoes notes.txt "),
     ("helgrothy polyominoes --no-t", "helgrothy polyominoes --no-turns "),

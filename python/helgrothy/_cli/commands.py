@@ -193,7 +193,7 @@ def _add_kind(commands: Any, kind: Kind) -> None:
         kind.add_arguments(parser)
         kind.add_search_arguments(parser)
     _add_solving(parser)
-    patterns = {"cell": None, "row": None, "column": None, "label": None}
+    patterns = {"cell": None, "row": None, "column": None, "label": None, "cell_grid": None}
     parser.set_defaults(command=_by("make_and_solve"), kind=kind, **patterns)
 
 
@@ -315,6 +315,14 @@ def _add_patterns(parser: argparse.ArgumentParser) -> None:
         metavar="PATTERN",
         help="a regular expression that finds the cells, as whole words, in an option's line; its first two groups (or "
         "those named row and column) are row and column, a number or a single letter, and a third one its label",
+    )
+    parser.add_argument(
+        "--grid",
+        dest="cell_grid",
+        metavar="GRID",
+        choices=["square", "hex", "triangle"],
+        help="of --cell: square (default); hex, with axial coordinates; or triangle, which point up where row and "
+        "column add up to an even number, or are half 0 (u) or 1 (d) of a rhombus, by a third group",
     )
     for name in ("row", "column"):
         parser.add_argument(

@@ -91,7 +91,8 @@ def drawing(
         return otherwise
     from ..table import by_patterns
 
-    by_them = by_patterns(problem, arguments.cell, arguments.row, arguments.column, arguments.label)
+    patterns = arguments.cell, arguments.row, arguments.column, arguments.label, arguments.cell_grid
+    by_them = by_patterns(problem, *patterns)
     if by_them is not None:
         return by_them
     try:

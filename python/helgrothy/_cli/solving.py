@@ -246,8 +246,9 @@ def _up_to_symmetry(
         raise ValueError(f"--up-to-symmetry is for boards and boxes; {told}")
     from .. import symmetry
 
+    grid = arguments.cell_grid if arguments.cell else kind and kind.grid(problem)
     try:
-        plan = symmetry.plan(problem, symmetry.motions(problem, cell))
+        plan = symmetry.plan(problem, symmetry.motions(problem, cell, grid or "square"))
     except (re.error, OverflowError, RecursionError) as error:
         raise ValueError(f"a pattern is wrong: {error}") from None
     count = len(plan.motions)

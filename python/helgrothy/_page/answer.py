@@ -26,6 +26,7 @@ from typing import Any
 
 from .. import cost, engines, shuffle, symmetry, why, wishes
 from .._cli.console import limited
+from .._reason.grids import GRIDS
 from .._run.stream import Solutions
 from .._text.amounts import spelled
 from .._text.listing import untold
@@ -74,6 +75,7 @@ class Request:
     limit: int = 20
     seconds: float = 10.0
     cell: str = ""
+    grid: str = ""
     row: str = ""
     column: str = ""
     label: str = ""
@@ -180,13 +182,20 @@ class _Solving:
         cell, row, column, label = (
             getattr(self._request, name) or None for name in ("cell", "row", "column", "label")
         )
-        by_them = by_patterns(problem, cell, row, column, label)
+        by_them = by_patterns(problem, cell, row, column, label, self._grid() if cell else None)
         if by_them is not None:
             return by_them
         try:
             return drawing_of(problem)
         except NoPicture:
             return None
+
+    def _grid(self) -> str | None:
+        """The grid of the cells that a pattern finds. Raises `ValueError`."""
+        grid = self._request.grid
+        if grid and grid not in GRIDS:
+            raise ValueError(f"{shown(grid)}: no such grid")
+        return grid or None
 
     def _search(self, problem: Problem[Any], record: Record) -> Iterator[str]:
         shown, length = 0, 0
@@ -276,7 +285,8 @@ class _Solving:
             cell = self._request.cell or (kind.cell if kind else None)
             if cell is None:
                 raise ValueError("up to symmetry: that takes a board or a box, or the pattern of its cells")
-            plan = symmetry.plan(problem, symmetry.motions(problem, cell))
+            grid = kind.grid(problem) if kind and not self._request.cell else self._grid()
+            plan = symmetry.plan(problem, symmetry.motions(problem, cell, grid or "square"))
             return symmetry.solve(problem, plan, limit, seconds=seconds)
         return problem.solve(limit, seconds=seconds)
 

@@ -17,6 +17,7 @@ class Example:
     values: dict[str, str] = field(default_factory=dict)
     text: str = ""
     cell: str = ""
+    grid: str = ""
     row: str = ""
     column: str = ""
     label: str = ""
@@ -65,6 +66,17 @@ _EXAMPLES = [
         "Pentominoes round a hole",
         "polyominoes",
         {"pieces": "pentominoes", "region": "........\n" * 3 + "...##...\n" * 2 + "........\n" * 2 + "........"},
+    ),
+    Example("Tetrahexes in 4 by 7", "polyforms", {"pieces": "tetrahexes", "region": "4x7"}),
+    Example(
+        "Lozenges in a hexagon",
+        "polyforms",
+        {
+            "pieces": "DD",
+            "region": " .....\n.......\n.......\n .....",
+            "grid": "triangle",
+            "copies": "D=12",
+        },
     ),
     Example("The Soma cube", "polycubes", {"pieces": "soma", "box": "3x3x3"}),
     Example(
@@ -146,6 +158,12 @@ _EXAMPLES = [
         "Bounds: two or three people a team",
         text="ann bob cat dan eve 2:3|red 2:3|blue\nann red\nann blue\nbob red\nbob blue\ncat red\ndan blue\n"
         "eve red\neve blue\n",
+    ),
+    Example(
+        "Pairs in a ring of hexagons",
+        text="r1c2 r1c3 r2c1 r2c3 r3c1 r3c2\nr1c2 r1c3\nr1c3 r2c3\nr2c3 r3c2\nr3c1 r3c2\nr2c1 r3c1\nr1c2 r2c1\n",
+        cell=r"r(\d)c(\d)",
+        grid="hex",
     ),
     Example("Dominoes on 4 by 5", text=_dominoes(4, 5), cell=r"r(\d)c(\d)"),
 ]

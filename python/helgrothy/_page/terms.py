@@ -11,6 +11,7 @@ TITLES: dict[str, str] = {
     "queens": "Queens on a board",
     "langford": "Langford's pairs",
     "polyominoes": "Polyominoes in a region",
+    "polyforms": "Polyhexes or polyiamonds in a region",
     "polycubes": "Polycubes in a box",
     "words": "Crossword",
     "wordsearch": "Word search",
@@ -52,6 +53,23 @@ FIELDS: dict[str, dict[str, tuple[str, str]]] = {
             "pentominoes or tetrominoes. Or pictures with blank lines between them, each drawn by its letter.",
         ),
         "region": ("Region", "Rows and columns, such as 6x10. Or a picture in which # and blanks are holes."),
+        "no_turns": ("Pieces may be turned", ""),
+        "no_mirrors": ("Pieces may be mirrored", ""),
+        "some": ("Pieces may be left over", ""),
+    },
+    "polyforms": {
+        "pieces": (
+            "Pieces",
+            "tetrahexes, hexiamonds, trihexes, pentahexes, tetriamonds, pentiamonds or heptiamonds. Or pictures with "
+            "blank lines between them, each drawn by its letter.",
+        ),
+        "region": (
+            "Region",
+            "Rows and columns of a parallelogram, such as 4x7. Or a picture in which # and blanks are holes.",
+        ),
+        "grid": ("Grid of pieces of your own", "hex: a blank between two, each row half a cell aside. Or triangle."),
+        "one_sided": ("Mirror images are pieces of their own", ""),
+        "copies": ("How often pieces are there", "Where it isn't once, such as I=2,O=0."),
         "no_turns": ("Pieces may be turned", ""),
         "no_mirrors": ("Pieces may be mirrored", ""),
         "some": ("Pieces may be left over", ""),

@@ -14,6 +14,7 @@ from collections.abc import Callable, Hashable, Iterator, Sequence
 from dataclasses import dataclass, field
 from typing import TYPE_CHECKING, Any, Protocol
 
+from .._reason import grids
 from .._text.shown import escaped, shown
 from ..errors import NoPicture
 
@@ -36,7 +37,6 @@ _QUEEN = "M8 12l5 9 5-12 5 12 5-9-3 15H11zM11 29h14v2H11z"
 # A picture has so many places at most, or so many for each cell that isn't a hole: it doesn't grow with the numbers
 # that are in names.
 _MOST_PLACES, _MOST_BY_CELL = 10_000, 16
-_BESIDE = ((0, 1), (1, 0), (0, -1), (-1, 0))
 # What stands in a cell without a label.
 _STAR = "*"
 # A pattern that is found nowhere.
@@ -254,8 +254,8 @@ class _Svg:
         self.columns = columns
         labels = [cell.label for cell in picture.cells.values() if not cell.is_quiet]
         marks = [label for cell in picture.cells.values() for label, _ in cell.marks]
-        self.wide = max([SIDE, *map(_width, [*labels, *marks, *picture.columns])])
-        self.left = max((_width(name) for name in picture.rows), default=4)
+        self.wide = max([SIDE, *map(label_width, [*labels, *marks, *picture.columns])])
+        self.left = max((label_width(name) for name in picture.rows), default=4)
         self.top = SIDE if picture.columns else 4
         # Labels make room for those in the corners.
         self.down = 4 if any(cell.corner for cell in picture.cells.values()) else 0
@@ -392,7 +392,7 @@ class _Svg:
         return f'<text x="{x:g}" y="{y + SIDE / 2 + 5.5:g}"{more}>{escaped(text)}</text>'
 
 
-def _width(label: str) -> int:
+def label_width(label: str) -> int:
     """Room for a label, by the mean width of a letter."""
     return round(len(shown(label)) * _FONT * 0.62) + 18
 
@@ -419,6 +419,10 @@ class Pattern:
     label: finds the label of an option's other cells: its first group, or else all of it. Cells without any label
         are stars in the text; where options without a label fill several cells they have letters, as a map has colours:
         those that touch have different ones.
+    grid: `square`, `hex` or `triangle`. Hexagons have axial coordinates: each row begins half a hexagon farther right.
+        Of triangles those point up whose row and column add up to an even number; or the group `half`, or else the
+        third one, says which half of a rhombus a triangle is: 0 or u beside the halves 1 of the row and of the column
+        before, 1 or d beside those after.
 
     A match begins and ends where words of the line do. It may go over several words. A solution that gives a cell two
     labels has no picture.
@@ -426,32 +430,42 @@ class Pattern:
 
     cell: str
     label: str = _NOTHING
+    grid: str = "square"
 
     def of(self, problem: Problem[Any]) -> Drawing:
         """The drawing for a problem. Raises `NoPicture` where no option has a cell, or `re.error`."""
+        if self.grid not in grids.GRIDS:
+            raise NoPicture(f"{shown(self.grid)}: a grid is {', '.join(grids.GRIDS)}")
+        grid = grids.GRIDS[self.grid]
         cell = compiled(self.cell, r"(?<!\S)", r"(?::(?P<colour_>\S+))?(?!\S)")
         label = compiled(self.label, r"(?<!\S)", r"(?!\S)")
         if cell.groups < 2:
             raise re.error("the pattern of a cell has no group for its row or column")
-        board: set[Place] = {place for option in problem.options for place, _ in _cells(cell, problem.line(option))}
+        board = {place for option in problem.options for place, _ in _cells(cell, problem.line(option), grid)}
         lines = map(problem.line, problem.options)
         if not board:
             raise no_match("cell", self.cell, "whole words", lines)
         if self.label != _NOTHING and not any(map(label.search, lines)):
             raise no_match("label", self.label, "whole words", map(problem.line, problem.options))
-        return _Laid(cell, label, board, problem).draw
+        return _Laid(cell, label, grid, board, problem).draw
 
 
 class _Laid:
     """What a pattern finds of solutions on a board."""
 
     def __init__(
-        self, cell: re.Pattern[str], label: re.Pattern[str], board: set[Place], problem: Problem[Any]
+        self,
+        cell: re.Pattern[str],
+        label: re.Pattern[str],
+        grid: grids.Grid,
+        board: set[Place],
+        problem: Problem[Any],
     ) -> None:
         self._cell = cell
         self._label = label
+        self._grid = grid
         self._board = board
-        self._top, self._left = min(r for r, _ in board), min(c for _, c in board)
+        self._top, self._left = grid.corner(board)
         rows, columns = max(r for r, _ in board) - self._top + 1, max(c for _, c in board) - self._left + 1
         check_size(rows, columns, len(board))
         # Where options without a name fill several cells they are pieces, to be kept apart.
@@ -463,7 +477,7 @@ class _Laid:
         """The label of an option, and its cells with labels of their own."""
         found = self._label.search(line)
         name = "" if found is None else found.group(1 if self._label.groups else 0)
-        return name, dict(_cells(self._cell, line))
+        return name, dict(_cells(self._cell, line, self._grid))
 
     def draw(self, lines: Sequence[str]) -> Picture:
         found = list(map(self._found, lines))
@@ -479,24 +493,33 @@ class _Laid:
                     raise NoPicture(f"{both} in row {r}, column {c}: a board has one label in a cell")
                 if not own:
                     place.group, place.fill = number, fills[number]
-        return Picture("a solution", cells, has_grid=any(place.group is None for place in cells.values()))
+        return board_of(self._grid, "a solution", cells, any(place.group is None for place in cells.values()))
 
     def _looks(self, found: Sequence[tuple[str, dict[Place, str]]]) -> tuple[list[str], list[str]]:
         """What stands in the cells of each option that have no label, and their colours."""
         parts = [list(held) for _, held in found]
         is_apart = sum(map(len, parts)) == len({place for part in parts for place in part})
         if self._has_pieces and is_apart:
-            numbers = _map_colours(parts)
+            numbers = _map_colours(parts, self._grid)
             return [_letter(number) for number in numbers], [self._shades[number] for number in numbers]
         return [_STAR] * len(found), [self._shades[name or number] for number, (name, _) in enumerate(found)]
 
 
-def _map_colours(parts: Sequence[Sequence[Place]]) -> list[int]:
+def board_of(grid: grids.Grid, title: str, cells: dict[Place, Cell], has_grid: bool) -> Picture:
+    """A picture of cells of a grid."""
+    if grid is grids.SQUARE:
+        return Picture(title, cells, has_grid=has_grid)
+    from .boards import Board
+
+    return Board(grid, title, cells, has_grid)
+
+
+def _map_colours(parts: Sequence[Sequence[Place]], grid: grids.Grid) -> list[int]:
     """A number for each part, other ones for parts that touch by a side: the least that the parts before leave."""
     owner = {place: number for number, part in enumerate(parts) for place in part}
     numbers: dict[int, int] = {}
     for part in sorted(range(len(parts)), key=lambda number: min(parts[number], default=(0, 0))):
-        beside = {owner.get((r + dr, c + dc)) for r, c in parts[part] for dr, dc in _BESIDE}
+        beside = {owner.get(other) for place in parts[part] for other in grid.beside(place)}
         taken = {numbers[other] for other in beside if other in numbers}
         numbers[part] = next(number for number in itertools.count() if number not in taken)
     return [numbers[part] for part in range(len(parts))]
@@ -525,20 +548,32 @@ def no_match(what: str, pattern: str, parts: str, lines: Iterator[str]) -> NoPic
     return NoPicture(f"no {what} is found by {shown(pattern)}: {tried}")
 
 
-def _cells(cell: re.Pattern[str], line: str) -> Iterator[tuple[Place, str]]:
+def _cells(cell: re.Pattern[str], line: str, grid: grids.Grid) -> Iterator[tuple[Place, str]]:
     """The places that an option's line names, and the label of each that has one of its own."""
     named = cell.groupindex
     for found in cell.finditer(line):
         colour = found.group("colour_")
+        half = ""
         if "row" in named and "column" in named:
             row, column = found.group("row", "column")
             own = found.group("label") if "label" in named else ""
+            half = found.group("half") if "half" in named else ""
         else:
             # Groups that match nothing, as those of another branch, don't count.
             row, column, own = ([group for group in found.groups()[:-1] if group is not None] + ["", "", ""])[:3]
             if cell.groups == 2:
                 row, column = "0", row
-        yield (_number(row), _number(column)), own or colour or ""
+            elif grid is grids.TRIANGLE:
+                half, own = own, ""
+        place = _number(row), _number(column)
+        yield grids.of_rhombus(*place, _half(half)) if half else place, own or colour or ""
+
+
+def _half(word: str) -> int:
+    try:
+        return grids.half(word)
+    except ValueError as error:
+        raise NoPicture(f"{shown(word)}: {error}") from None
 
 
 def _number(word: str | None) -> int:

@@ -46,8 +46,10 @@ def percent(times: int, total: int) -> str:
 def picture(problem: Problem[Any], draw: Drawing, found: Occurrences, view: View) -> Picture:
     """The shares of what the cells of a problem's picture have. Raises `NoPicture`."""
     blank = draw([])
-    if view is None or type(blank) is not Picture:
+    if view is None:
         raise NoPicture("pictures of single options say nothing of how often a cell has what")
+    if type(blank) is not Picture:
+        raise NoPicture("chances are drawn on boards of squares alone; without --cell and --svg they are a list")
     shown = list(_shown(problem, draw, blank, found.by_option))
     options = [option for option in shown if option.times]
     joined = _joined(blank, options)

@@ -11,6 +11,7 @@ The kinds; `help(make.sudoku)` says what one takes:
     queens       queens on a board, or in coloured regions
     langford     Langford's pairs
     polyominoes  pieces of squares that fill a region
+    polyforms    pieces of hexagons or triangles that fill a region
     polycubes    pieces of cubes that fill a box
     words        words across and down in a grid
     wordsearch   words hidden in a grid of letters
@@ -34,6 +35,7 @@ if TYPE_CHECKING:
         langford,
         nonogram,
         polycubes,
+        polyforms,
         polyominoes,
         queens,
         roster,
@@ -52,6 +54,7 @@ __all__ = [
     "langford",
     "nonogram",
     "polycubes",
+    "polyforms",
     "polyominoes",
     "queens",
     "roster",
@@ -68,6 +71,7 @@ HELPS = {
     "queens": "queens on a board, or in coloured regions",
     "langford": "Langford's pairs",
     "polyominoes": "pieces of squares that fill a region",
+    "polyforms": "pieces of hexagons or triangles that fill a region",
     "polycubes": "pieces of cubes that fill a box",
     "words": "words across and down in a grid",
     "wordsearch": "words of a list hidden in a grid of letters",

@@ -41,7 +41,8 @@ class Found:
 class Kind:
     """A kind of problem: its name and help on the command line, its arguments, how it is made and drawn.
 
-    cell: of a board or a box the pattern that finds the cells of an option, as `symmetry.motions` takes it.
+    cell, grid: of a board or a box the pattern that finds the cells of an option, and the grid of a problem's cells, as
+        `symmetry.motions` takes them.
     add_search_arguments, search: of a kind that has a search of its own the arguments of that search, and what searches
     for so many seconds, or for its own time without a number; None where the arguments don't ask for it.
     wishes: of a kind whose table may have wishes those of a problem, from the table in its comments.
@@ -60,6 +61,7 @@ class Kind:
     add_search_arguments: Callable[[argparse.ArgumentParser], None] = lambda parser: None
     search: Callable[[argparse.Namespace], Callable[[float | None], Found] | None] = lambda arguments: None
     cell: str | None = None
+    grid: Callable[[Problem[Any]], str] = lambda problem: "square"
     wishes: Callable[[Problem[Any]], list[Wish]] = lambda problem: []
     clues: Callable[[argparse.Namespace], Clues] | None = None
     remarks: Callable[[Problem[Any]], list[str]] = lambda problem: []

@@ -14,9 +14,7 @@ from ..errors import TableFault
 from ..problem import Problem
 from .cubes import SETS
 from .kind import Counted, Kind, check_items, check_sizes, check_texts, is_one, numbered, read_text
-from .pieces import Form, Pieces, alike
-
-Lines = list[tuple[int, str]]
+from .pieces import Form, Lines, Pieces, alike, blocks
 
 _BOX = re.compile(r"([0-9]{1,9})x([0-9]{1,9})x([0-9]{1,9})\Z")
 _SIZES = re.compile(r"[0-9]+(x[0-9]+)*x?\Z")
@@ -108,13 +106,7 @@ def _region(box: str) -> list[Cube]:
 
 def _pieces(text: str) -> Iterator[tuple[int, str, Form]]:
     """Each piece's first line, letter and cubes."""
-    block: Lines = []
-    for number, line in [*numbered(text), (0, "")]:
-        if line.strip():
-            block.append((number, line))
-        elif block:
-            yield _piece(block)
-            block = []
+    return map(_piece, blocks(text))
 
 
 def _piece(block: Lines) -> tuple[int, str, Form]:

@@ -7,11 +7,13 @@ import re
 from collections.abc import Iterator, Sequence
 from typing import Any
 
-from ..draw import Cell, Drawing, Picture, Shades, check_size
+from .._reason.grids import SQUARE
+from ..draw import Drawing
 from ..errors import TableFault
 from ..problem import Problem
-from .kind import Counted, Kind, check_items, check_sizes, check_texts, is_one, numbered, picture, read_text
-from .pieces import Form, Pieces, Place, alike
+from .kind import Counted, Kind, check_items, check_sizes, check_texts, is_one, picture, read_text
+from .pieces import CELL, Form, Pieces, Place, alike, area, blocks
+from .pieces import drawing as pieces_drawing
 
 Square = tuple[int, int]
 
@@ -24,7 +26,6 @@ SETS = {
     ),
 }
 _BOX = re.compile(r"([0-9]{1,9})x([0-9]{1,9})\Z")
-_CELL = re.compile(r"r([0-9]+)c([0-9]+)\Z")
 
 
 def problem(
@@ -88,19 +89,14 @@ def _rows(cells: Sequence[Square]) -> Iterator[str]:
 
 def _pieces(text: str) -> Iterator[tuple[int, str, Form]]:
     """Each piece's first line, letter and squares."""
-    block: list[tuple[int, str]] = []
-    for number, line in [*numbered(text), (0, "")]:
-        if line:
-            block.append((number, line))
-        elif block:
-            squares = [(r, c) for r, (_, row) in enumerate(block) for c, mark in enumerate(row) if mark not in ". "]
-            letters = sorted({block[r][1][c] for r, c in squares})
-            if len(letters) != 1:
-                raise TableFault(block[0][0], " ".join(letters), "a piece is drawn by one letter")
-            if not is_one(squares):
-                raise TableFault(block[0][0], letters[0], "a piece whose squares don't hang together")
-            yield block[0][0], letters[0], _moved(squares)
-            block = []
+    for block in blocks(text):
+        squares = [(r, c) for r, (_, row) in enumerate(block) for c, mark in enumerate(row) if mark not in ". "]
+        letters = sorted({block[r][1][c] for r, c in squares})
+        if len(letters) != 1:
+            raise TableFault(block[0][0], " ".join(letters), "a piece is drawn by one letter")
+        if not is_one(squares):
+            raise TableFault(block[0][0], letters[0], "a piece whose squares don't hang together")
+        yield block[0][0], letters[0], _moved(squares)
 
 
 def _moved(squares: Sequence[Place]) -> Form:
@@ -121,56 +117,11 @@ def _turned(form: Form, turns: bool, mirrors: bool) -> list[Form]:
 
 def drawing(problem: Problem[Any]) -> Drawing:
     """Pieces in their colours, each with its letter."""
-    found = map(_CELL.match, problem.item_names)
-    board = [(int(cell.group(1)), int(cell.group(2))) for cell in found if cell]
-    top, left = min(r for r, _ in board), min(c for _, c in board)
-    check_size(max(r for r, _ in board) - top + 1, max(c for _, c in board) - left + 1, len(board))
-    shades = Shades()
-    for item in [*problem.item_names, *problem.secondary_names]:
-        if not _CELL.match(item):
-            shades[item]
-
-    def draw(lines: Sequence[str]) -> Picture:
-        cells = {(r - top, c - left): Cell() for r, c in board}
-        for number, line in enumerate(lines):
-            name, *words = line.split()
-            held = [
-                (int(cell.group(1)) - top, int(cell.group(2)) - left) for cell in map(_CELL.match, words) if cell
-            ]
-            middle = _middle(held)
-            for at in held:
-                cells[at] = Cell(name, number, shades[name], is_quiet=at != middle)
-        return Picture("a tiling by polyominoes", cells, has_grid=not lines)
-
-    return draw
-
-
-def _middle(held: Sequence[Square]) -> Square:
-    """The square nearest to the middle of all."""
-    r, c = sum(r for r, _ in held) / len(held), sum(c for _, c in held) / len(held)
-    return min(held, key=lambda at: ((at[0] - r) ** 2 + (at[1] - c) ** 2, at))
+    return pieces_drawing(problem, SQUARE, "a tiling by polyominoes")
 
 
 def _remarks(problem: Problem[Any]) -> list[str]:
-    return [*_area(problem), *alike(problem, _CELL)]
-
-
-def _area(problem: Problem[Any]) -> list[str]:
-    """That the pieces have too few squares for the region or, where none may be left over, too many."""
-    sizes = {option[0]: len(option) - 1 for option in map(str.split, map(problem.line, problem.options))}
-    items = dict(zip(problem.item_names, problem.items.values()))
-    pieces = {name: bounds for name, bounds in items.items() if not _CELL.match(name)}
-    # How large a piece is that fits nowhere isn't known here; that it is in no option is told.
-    if not sizes.keys() >= pieces.keys():
-        return []
-    cells = len(items) - len(pieces)
-    least = sum(sizes[name] * low for name, (low, _) in pieces.items())
-    most = sum(size * (pieces[name].high if name in pieces else 1) for name, size in sizes.items())
-    if most < cells:
-        return [f"The pieces have {most} squares, and the region has {cells}."]
-    if least > cells:
-        return [f"The pieces have {least} squares, and the region has {cells}; --some lets pieces be left over."]
-    return []
+    return [*area(problem, "squares"), *alike(problem, CELL)]
 
 
 def _add_arguments(parser: argparse.ArgumentParser) -> None:

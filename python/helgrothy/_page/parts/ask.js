@@ -2,8 +2,8 @@
 // wanted: to let it go ends the search that gives it.
 
 const GONE = "The page's server has ended: helgrothy page begins another.";
-const FIELDS = ["cell", "row", "column", "label", "limit", "order", "seconds", "costs"];
-const PATTERNS = ["cell", "row", "column", "label"];
+const FIELDS = ["cell", "grid", "row", "column", "label", "limit", "order", "seconds", "costs"];
+const PATTERNS = ["cell", "grid", "row", "column", "label"];
 
 const viewer = new Viewer("Solutions come here as they are found.");
 const start = JSON.parse(get("data").textContent)[0];
