@@ -38,6 +38,8 @@ Edge = tuple[Any, ...]
 Positions = Mapping[Any, Sequence[float]]
 
 _BLACK = "#222"
+# Pairs of larger numbers are no rows and columns.
+_MOST_ROWS = 1_000_000
 # How nodes are filled whose colour is one of these words.
 _NAMED: dict[Hashable, str] = {
     "black": "#999",
@@ -92,7 +94,7 @@ def edge_covers(
     """The sets of edges such that each node is in at least `least` of them and, where it is given, in at most `most`.
 
     So they are the edge covers; with `most=1` those that are exact, which are the perfect matchings; with `least=0,
-    most=1` all matchings; with `least=2, most=2` the sets of circles that go once through each node.
+    most=1` all matchings; with `least=2, most=2` the 2-factors, sets of circles that go once through each node.
 
     The problem with bounds whose items are the nodes, with these bounds, and whose options are the edges, each with its
     two nodes. A loop counts once for its node.
@@ -226,7 +228,11 @@ def _layout(nodes: Sequence[Any], positions: Positions | None) -> Layout:
 
 
 def _is_cell(node: Any) -> bool:
-    return isinstance(node, tuple) and len(node) == 2 and all(isinstance(one, int) for one in node)
+    return isinstance(node, tuple) and len(node) == 2 and all(_is_small(one) for one in node)
+
+
+def _is_small(number: Any) -> bool:
+    return isinstance(number, int) and abs(number) < _MOST_ROWS
 
 
 def _place(node: Any, positions: Positions) -> Point:

@@ -174,6 +174,10 @@ class Pictures(unittest.TestCase):
         self.assertEqual(len(thick), 4)
         self.assertEqual([line[-4:-1] for line in text if "--" in line], ['"1"', '"1"', '"2"', '"2"'])
 
+    def test_large_numbers_are_no_places(self):
+        far = Graph([(0, 0), (10**400, 1)], [((0, 0), (10**400, 1))])
+        self.assertIn("<svg", graphs.perfect_matchings(far).draw().svg())
+
     def test_positions(self):
         places = {0: (0, 0), 1: (1, 0), 2: (1, 5)}
         problem = graphs.colourings(ring(3), 3, positions=places)

@@ -224,6 +224,10 @@ class Makers(unittest.TestCase):
             with self.subTest(lines=lines), self.assertRaises(TableFault) as raised:
                 make.roundrobin.problem([*lines, *four[len(lines) :]])
             self.assertEqual(str(raised.exception), told)
+        told = "line 3: c: a, b, c share a place, each has 2 games there at least, and there are 5 rounds"
+        with self.assertRaises(TableFault) as raised:
+            make.roundrobin.problem(["a shares:b shares:c", "b", "c shares:b", *"def"])
+        self.assertEqual(str(raised.exception), told)
         with self.assertRaisesRegex(TableFault, "^line 1: a: at home in rounds 2 to 4, and 2 in a row are allowed$"):
             make.roundrobin.problem(["a home:2 home:3 home:4", *"bcdef"], in_a_row=2)
         with self.assertRaisesRegex(ValueError, "^at most one round in a row: then two teams are at home in the same"):

@@ -130,7 +130,7 @@ class Numbered(InFolder):
             prepare()
             self.assertEqual([run("solve", "--number", str(number), given=text) for number in (1, 92)], wanted)
             told = run("solve", "--number", "93", "--json", given=text)
-            self.assertEqual(told, (1, "", "Altogether 92 solutions.\nhelgrothy: there is no solution 93\n"))
+            self.assertEqual(told, (1, "", "Altogether 92 solutions.\nhelgrothy: there is no solution 93: --number takes 1 to 92\n"))
         status, drawn, told = run("queens", "8", "--random", "--seed", "4")
         self.assertEqual((status, drawn.count("Q"), told), (0, 8, "This is number 31 of 92 solutions.\n"))
         self.assertEqual(run("queens", "8", "--number", "31")[1], drawn)

@@ -94,6 +94,7 @@ def read(lines: Iterable[tuple[int, Sequence[str]]], double: bool, in_a_row: int
             first[name].shares.add(team.name)
     for team in teams:
         _check_team(team, season)
+        _check_place(team, first, season)
     _check_rounds(teams, first, season)
     return teams, season
 
@@ -148,6 +149,19 @@ def _check_team(team: Team, season: Season) -> None:
 
 
 _PLACES = {"home": "at home", "away": "away"}
+
+
+def _check_place(team: Team, known: dict[str, Team], season: Season) -> None:
+    """Raises `TableFault` where a team and those before it, all with one place, have more games there than rounds."""
+    group = [team]
+    for other in _before(team, known):
+        if all(other.name in one.shares for one in group):
+            group.append(other)
+    low, _ = season.at_home
+    if len(group) * low > season.rounds:
+        names = ", ".join(sorted(one.name for one in group))
+        told = f"{names} share a place, each has {low} games there at least, and there are {season.rounds} rounds"
+        raise TableFault(team.line, team.name, told)
 
 
 def _check_rounds(teams: Sequence[Team], known: dict[str, Team], season: Season) -> None:
