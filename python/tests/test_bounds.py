@@ -66,8 +66,8 @@ class Shown(unittest.TestCase):
             words = (command, "cnf") if command == "export" else (command,)
             self.assertIn(f"line 2: {name}B: unknown item", run(*words, given=text)[2])
         self.assertIn(f"{name}: No such file", run("lint", ESCAPES)[2])
-        for command, told in (("search", "No such file"), ("status", "no such folder"), ("result", "no such folder")):
-            self.assertIn(f"{name}nowhere: {told}", run(command, f"{ESCAPES}nowhere")[2])
+        for words, told in (([], "No such file"), (["--status"], "no such folder"), (["--result"], "no such folder")):
+            self.assertIn(f"{name}nowhere: {told}", run("search", *words, f"{ESCAPES}nowhere")[2])
         self.assertIn(f"{name}: one argument too many", run("lint", "-", ESCAPES)[2])
         self.assertIn(f"--{name}: no such option", run("lint", f"--{ESCAPES}")[2])
         self.assertIn(f"{name}: no such command", run(ESCAPES)[2])

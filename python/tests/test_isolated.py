@@ -71,7 +71,7 @@ class Isolated(unittest.TestCase):
     def test_run_by_m_the_package_loads_nothing_of_the_current_folder(self):
         """Python looks there first, and did so for what it loaded before the package."""
         # Some are loaded where they are needed first.
-        late = "dataclasses, difflib, helgrothy._cli.acts, helgrothy._cli.draw, helgrothy.cost, html, tempfile"
+        late = "dataclasses, difflib, helgrothy._cli.acts, helgrothy.cost, helgrothy.draw, html, tempfile"
         before, after = (self.modules_of(more) for more in ("", f"import {late}; "))
         for module in [it for it in after if it not in before and it not in sys.builtin_module_names]:
             self.file(f"{module}.py", "print('HIJACKED')\n")

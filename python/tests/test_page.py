@@ -628,7 +628,8 @@ class Served(unittest.TestCase):
         self.assertEqual(self.ask()[0], 200)
 
     def test_what_is_no_request(self):
-        for raw in (b"\x16\x03\x01\x02", b"\r\n\r\n", b"GET\r\n\r\n", b"GET / HTTP/9.9\r\n\r\n", b"GET / HTTP/1.1\r\n" + b"a: b\r\n" * 200 + b"\r\n", b"a" * 70_000):
+        long = b"a: %b\r\n" % (b"b" * 60_000)
+        for raw in (b"GET / HTTP/1.1\r\n" + long + long + b"\r\n", b"\x16\x03\x01\x02", b"\r\n\r\n", b"GET\r\n\r\n", b"GET / HTTP/9.9\r\n\r\n", b"GET / HTTP/1.1\r\n" + b"a: b\r\n" * 200 + b"\r\n", b"a" * 70_000):
             with self.subTest(raw=raw[:20]):
                 told = self.connect(raw).recv(1 << 16)
                 self.assertTrue(told.startswith(b"HTTP/1.1 400 ") and told.endswith(b"\r\n\r\n"), told)

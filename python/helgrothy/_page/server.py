@@ -18,9 +18,10 @@ import threading
 import time
 from collections.abc import Callable
 from contextlib import suppress
+from http.client import LineTooLong
 from http.server import BaseHTTPRequestHandler, ThreadingHTTPServer
 from socketserver import TCPServer
-from typing import Any
+from typing import Any, BinaryIO, cast
 
 from .._text.shown import shown
 from ..errors import reason_of
@@ -35,8 +36,9 @@ _SCRIPTS = ["viewer.js", "typed.js", "sheet.js", "kinds.js", "ask.js"]
 _REQUESTS = ("answer",)
 # Connections that the system keeps until they are let in.
 _BACKLOG = 128
-# Bytes of a request; requests at once of those who know the word, and processes that answer them.
-_MOST_BYTES = 1 << 20
+# Bytes of a head, in which a browser has what it keeps for other servers of this machine too, and of a body.
+_MOST_OF_HEAD, _MOST_BYTES = 1 << 16, 1 << 20
+# Requests at once of those who know the word, and processes that answer them.
 _MOST_AT_ONCE, _MOST_PROCESSES = 32, 6
 # Seconds for a piece of an answer to be taken.
 _PATIENCE = 20.0
@@ -173,6 +175,27 @@ class Server(ThreadingHTTPServer):
                 self._answers.discard(answer)
 
 
+class _Bounded:
+    """What is read of a request: a head, which has so many bytes, and a body."""
+
+    def __init__(self, file: BinaryIO) -> None:
+        self._file = file
+        self._left = _MOST_OF_HEAD
+
+    def readline(self, limit: int) -> bytes:
+        if self._left <= 0:
+            raise LineTooLong("head")
+        line = self._file.readline(limit)
+        self._left -= len(line)
+        return line
+
+    def read(self, count: int) -> bytes:
+        return self._file.read(count)
+
+    def close(self) -> None:
+        self._file.close()
+
+
 class _Request(BaseHTTPRequestHandler):
     """A request. Who isn't welcome learns nothing but that."""
 
@@ -180,6 +203,10 @@ class _Request(BaseHTTPRequestHandler):
     raw_requestline: bytes
     # Of a read or a write, whichever; `waiting` has that of a request as a whole.
     timeout = _PATIENCE
+
+    def setup(self) -> None:
+        super().setup()
+        self.rfile = cast(Any, _Bounded(self.rfile))
 
     def handle(self) -> None:
         first = self.connection.recv(1, socket.MSG_PEEK)
