@@ -84,6 +84,15 @@ class Drawing(InFolder):
         drawn = {grid: str(problem.draw(problem.options[:1], Pattern(CELL, "ten", grid))) for grid in ("hex", "triangle")}
         self.assertEqual(drawn, {"hex": "ten ten\n  .\n", "triangle": "ten ten\n.\n"})
 
+    def test_coordinates_from_the_middle(self):
+        """Axial coordinates of a hexagon often have its middle at 0."""
+        around = HEX.beside((0, 0))
+        lines = [" ".join(f"q{c}r{r}" for r, c in around)]
+        lines += [f"q{a[1]}r{a[0]} q{b[1]}r{b[0]}" for a, b in pairs(HEX, around)]
+        words = ("solve", "--cell", r"q(?P<column>-?\d)r(?P<row>-?\d)", "--grid", "hex", "--up-to-symmetry", "--all")
+        told = run(*words, given="".join(f"{line}\n" for line in lines))
+        self.assertEqual(told, (0, " A B\nA   B\n C C\n", "Altogether 1 solution up to 12 symmetries.\n"))
+
     def test_halves_of_a_rhombus(self):
         """By the names that people give them; the picture is the same."""
         lozenge = "r1c1u r1c1d r1c2u r1c2d\nr1c1u r1c1d\nr1c2u r1c2d\nr1c1d r1c2u\n"

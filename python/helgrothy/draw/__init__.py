@@ -42,7 +42,7 @@ _STAR = "*"
 # A pattern that is found nowhere.
 _NOTHING = r"(?!)"
 _LONGEST_SAMPLE = 60
-_DECIMAL = re.compile(r"[0-9]+\Z")
+_DECIMAL = re.compile(r"-?[0-9]+\Z")
 
 
 @dataclass

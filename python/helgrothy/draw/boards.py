@@ -11,6 +11,8 @@ from .._text.shown import escaped, shown
 from . import Cell, Picture, check_size, label_width
 
 Point = tuple[float, float]
+# The corners of each cell, in pixels.
+_Corners = dict[Place, list[Point]]
 
 # Of a cell in the SVG, in pixels; room for its label is this part of its side.
 _SIDES, _ROOMS = {"hex": 21.0, "triangle": 44.0}, {"hex": 1.7, "triangle": 0.75}
@@ -80,9 +82,9 @@ class Board(Picture):
         corners = [corner for shape in self._shapes.values() for corner in shape.corners]
         left, top = (min(axis) * side - _MARGIN for axis in zip(*corners))
         right, bottom = (max(axis) * side + _MARGIN for axis in zip(*corners))
-        self._at = {
-            place: [(x * side - left, y * side - top) for x, y in shape.corners]
-            for place, shape in self._shapes.items()
+        at = {
+            place: [(x * side - left, y * side - top) for x, y in self._shapes[place].corners]
+            for place in sorted(self.cells)
         }
         width, height = math.ceil(right - left), math.ceil(bottom - top)
         lines = [
@@ -90,26 +92,27 @@ class Board(Picture):
             f'viewBox="0 0 {width} {height}" font-family="sans-serif" font-size="16" text-anchor="middle">',
             f"<title>{escaped(self.title)}</title>",
             f'<rect width="{width}" height="{height}" fill="#fff"/>',
-            *self._fills(),
-            *self._lines(),
-            *self._labels(),
+            *self._fills(at),
+            *self._lines(at),
+            *self._labels(at),
             "</svg>",
         ]
         return "".join(f"{line}\n" for line in lines)
 
-    def _fills(self) -> Iterator[str]:
+    def _fills(self, at: _Corners) -> Iterator[str]:
         """A path for each colour, whose line closes the seams between cells."""
         paths: dict[str, str] = {}
-        for place, cell in sorted(self.cells.items(), key=lambda pair: pair[0]):
-            paths[cell.fill] = paths.get(cell.fill, "") + f"M{'L'.join(map(_told, self._at[place]))}z"
+        for place, corners in at.items():
+            fill = self.cells[place].fill
+            paths[fill] = paths.get(fill, "") + f"M{'L'.join(map(_told, corners))}z"
         for fill, path in paths.items():
             if fill != "#fff":
                 yield f'<path d="{path}" fill="{escaped(fill)}" stroke="{escaped(fill)}"/>'
 
-    def _lines(self) -> Iterator[str]:
+    def _lines(self, at: _Corners) -> Iterator[str]:
+        """Thin lines within groups, and thick ones between them."""
         thin, thick = "", ""
-        for place in sorted(self.cells):
-            corners = self._at[place]
+        for place, corners in at.items():
             for number, beside in enumerate(self._grid.beside(place)):
                 if beside in self.cells and beside < place:
                     continue
@@ -122,10 +125,11 @@ class Board(Picture):
             yield f'<path d="{thin}" stroke="#aaa" fill="none"/>'
         yield f'<path d="{thick}" stroke="#222" stroke-width="2.5" stroke-linecap="round" fill="none"/>'
 
-    def _labels(self) -> Iterator[str]:
-        for place, cell in sorted(self.cells.items(), key=lambda pair: pair[0]):
+    def _labels(self, at: _Corners) -> Iterator[str]:
+        for place, corners in at.items():
+            cell = self.cells[place]
             if cell.label and not cell.is_quiet:
-                x, y = (sum(axis) / len(axis) for axis in zip(*self._at[place]))
+                x, y = (sum(axis) / len(axis) for axis in zip(*corners))
                 yield f'<text x="{x:.4g}" y="{y + 5.5:.4g}">{escaped(cell.label)}</text>'
 
 
