@@ -120,6 +120,26 @@ class Drawing(InFolder):
             far.draw([], Pattern(CELL, grid="hex"))
 
 
+class Chances(unittest.TestCase):
+    def test_cells_in_one_piece(self):
+        ring = text(HEX, [*SEVEN[:3], *SEVEN[4:]])
+        words = ("solve", "--cell", CELL, "--chances", "--grid")
+        wanted = "    o  50   o\n 50          50\no               o\n 50          50\n    o  50   o\n"
+        self.assertEqual(run(*words, "hex", given=ring)[1], wanted)
+        self.assertEqual(run(*words, "triangle", given=text(TRIANGLE, SIX))[1], " o 50  o 50  o\n50          50\n o 50  o 50  o\n")
+        svg = run(*words, "hex", "--svg", given=ring)[1]
+        self.assertEqual((svg.count('stroke-opacity="0.50"'), svg.count(">50</text>")), (6, 6))
+        self.assertEqual(run("polyforms", "tetrahexes", "4x7", "--chances")[1].count("o"), 28)
+
+    def test_labels(self):
+        given = "r1c1 r1c2 r2c1 a b\n"
+        given += "".join(f"{cell} {name}\n" for cell in ("r1c1", "r1c2") for name in "ab") + "r2c1\n"
+        words = ("solve", "--cell", CELL, "--label", "[ab]", "--grid", "hex", "--chances")
+        status, told, _ = run(*words, given=given)
+        self.assertEqual((status, told.split()), (0, ["a", "50%", "a", "50%", "*"]))
+        self.assertEqual(run(*words, "--svg", given=given)[1].count(">a 50%</text>"), 2)
+
+
 class UpToSymmetry(unittest.TestCase):
     def test_one_of_each_set(self):
         """Against images of whole solutions, on regions with and without symmetries."""

@@ -11,7 +11,7 @@ import itertools
 import math
 import re
 from collections.abc import Callable, Hashable, Iterator, Sequence
-from dataclasses import dataclass, field
+from dataclasses import dataclass, field, replace
 from typing import TYPE_CHECKING, Any
 
 from .._reason import grids
@@ -110,6 +110,14 @@ class Picture:
     def extent(self) -> Place:
         """How many rows and columns it has."""
         return self._size
+
+    def beside(self, place: Place) -> tuple[Place, ...]:
+        """The places beside a place."""
+        return grids.SQUARE.beside(place)
+
+    def changed(self, title: str, cells: dict[Place, Cell]) -> Picture:
+        """The same picture with another title and other cells."""
+        return replace(self, title=title, cells=cells)
 
     def is_parted(self, a: Place, b: Place) -> bool:
         """Whether a thick line stands between two places."""
