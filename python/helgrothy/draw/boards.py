@@ -26,8 +26,10 @@ _HIGH = math.sqrt(3) / 2
 
 @dataclass(frozen=True)
 class _Shape:
-    """How cells lie: their corners where a side is 1, each side from a corner to the next one facing the cell beside it
-    of the same number; and how many steps from the left a cell stands in a text, of which its label takes so many."""
+    """How a cell lies: its corners where a side is 1, and how many steps from the left it stands in a text.
+
+    The side from a corner to the next one faces the cell beside it that has the same number.
+    """
 
     corners: list[Point]
     steps: int
