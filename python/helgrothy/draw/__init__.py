@@ -11,7 +11,7 @@ import itertools
 import math
 import re
 from collections.abc import Callable, Hashable, Iterator, Sequence
-from dataclasses import dataclass, field, replace
+from dataclasses import dataclass, field
 from typing import TYPE_CHECKING, Any
 
 from .._reason import grids
@@ -117,7 +117,7 @@ class Picture:
 
     def changed(self, title: str, cells: dict[Place, Cell]) -> Picture:
         """The same picture with another title and other cells."""
-        return replace(self, title=title, cells=cells)
+        return Picture(title, cells, self.rows, self.columns, self.has_grid, self.has_boxes)
 
     def is_parted(self, a: Place, b: Place) -> bool:
         """Whether a thick line stands between two places."""
