@@ -106,7 +106,8 @@ def _cell(words: Sequence[str], grid: str) -> Cell:
 
 
 def _number(word: str) -> int:
-    if word.isascii() and word.isdigit() and len(word) <= _MOST_DIGITS:
+    digits = word[1:] if word[:1] == "-" else word
+    if digits.isascii() and digits.isdigit() and len(digits) <= _MOST_DIGITS:
         return int(word)
     if len(word) == 1 and word.isascii() and word.isalpha():
         return int(word, 36)

@@ -84,6 +84,15 @@ class Drawing(InFolder):
         drawn = {grid: str(problem.draw(problem.options[:1], Pattern(CELL, "ten", grid))) for grid in ("hex", "triangle")}
         self.assertEqual(drawn, {"hex": "ten ten\n  .\n", "triangle": "ten ten\n.\n"})
 
+    def test_coordinates_from_the_middle(self):
+        """Axial coordinates of a hexagon often have its middle at 0."""
+        around = HEX.beside((0, 0))
+        lines = [" ".join(f"q{c}r{r}" for r, c in around)]
+        lines += [f"q{a[1]}r{a[0]} q{b[1]}r{b[0]}" for a, b in pairs(HEX, around)]
+        words = ("solve", "--cell", r"q(?P<column>-?\d)r(?P<row>-?\d)", "--grid", "hex", "--up-to-symmetry", "--all")
+        told = run(*words, given="".join(f"{line}\n" for line in lines))
+        self.assertEqual(told, (0, " A B\nA   B\n C C\n", "Altogether 1 solution up to 12 symmetries.\n"))
+
     def test_halves_of_a_rhombus(self):
         """By the names that people give them; the picture is the same."""
         lozenge = "r1c1u r1c1d r1c2u r1c2d\nr1c1u r1c1d\nr1c2u r1c2d\nr1c1d r1c2u\n"
@@ -109,6 +118,26 @@ class Drawing(InFolder):
         far = Problem([f"r{r}c1" for r in range(1, 2001)], options=[[f"r{r}c1"] for r in range(1, 2001)])
         with self.assertRaises(NoPicture):
             far.draw([], Pattern(CELL, grid="hex"))
+
+
+class Chances(unittest.TestCase):
+    def test_cells_in_one_piece(self):
+        ring = text(HEX, [*SEVEN[:3], *SEVEN[4:]])
+        words = ("solve", "--cell", CELL, "--chances", "--grid")
+        wanted = "    o  50   o\n 50          50\no               o\n 50          50\n    o  50   o\n"
+        self.assertEqual(run(*words, "hex", given=ring)[1], wanted)
+        self.assertEqual(run(*words, "triangle", given=text(TRIANGLE, SIX))[1], " o 50  o 50  o\n50          50\n o 50  o 50  o\n")
+        svg = run(*words, "hex", "--svg", given=ring)[1]
+        self.assertEqual((svg.count('stroke-opacity="0.50"'), svg.count(">50</text>")), (6, 6))
+        self.assertEqual(run("polyforms", "tetrahexes", "4x7", "--chances")[1].count("o"), 28)
+
+    def test_labels(self):
+        given = "r1c1 r1c2 r2c1 a b\n"
+        given += "".join(f"{cell} {name}\n" for cell in ("r1c1", "r1c2") for name in "ab") + "r2c1\n"
+        words = ("solve", "--cell", CELL, "--label", "[ab]", "--grid", "hex", "--chances")
+        status, told, _ = run(*words, given=given)
+        self.assertEqual((status, told.split()), (0, ["a", "50%", "a", "50%", "*"]))
+        self.assertEqual(run(*words, "--svg", given=given)[1].count(">a 50%</text>"), 2)
 
 
 class UpToSymmetry(unittest.TestCase):

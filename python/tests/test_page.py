@@ -369,7 +369,7 @@ class Requests(unittest.TestCase):
         self.assertEqual(self.told(**given, grid="cubes"), [{"error": "cubes: no such grid"}])
         del given["cell"]
         self.assertNotIn("error", self.told(**given, grid="hex")[-1])
-        *_, told = self.told(what="solve", kind="polyforms", values={"pieces": "tetrahexes", "region": "4x7"}, way="symmetry")
+        *_, told = self.told(what="solve", text=make.polyforms.problem("tetrahexes", "4x7").text, way="symmetry")
         self.assertEqual(told["end"]["total"], 9)
 
     def test_one_of_all_solutions(self):

@@ -42,7 +42,7 @@ _STAR = "*"
 # A pattern that is found nowhere.
 _NOTHING = r"(?!)"
 _LONGEST_SAMPLE = 60
-_DECIMAL = re.compile(r"[0-9]+\Z")
+_DECIMAL = re.compile(r"-?[0-9]+\Z")
 
 
 @dataclass
@@ -110,6 +110,14 @@ class Picture:
     def extent(self) -> Place:
         """How many rows and columns it has."""
         return self._size
+
+    def beside(self, place: Place) -> tuple[Place, ...]:
+        """The places beside a place."""
+        return grids.SQUARE.beside(place)
+
+    def changed(self, title: str, cells: dict[Place, Cell]) -> Picture:
+        """The same picture with another title and other cells."""
+        return Picture(title, cells, self.rows, self.columns, self.has_grid, self.has_boxes)
 
     def is_parted(self, a: Place, b: Place) -> bool:
         """Whether a thick line stands between two places."""

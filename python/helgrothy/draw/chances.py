@@ -9,6 +9,7 @@ from typing import TYPE_CHECKING, Any, Optional
 from .._run.occurrences import Occurrences
 from ..errors import NoPicture
 from . import SIDE, Cell, Drawing, Picture, Place
+from .boards import LEAST_LINE, Board, BoardJoins
 
 if TYPE_CHECKING:
     from ..problem import Problem
@@ -26,8 +27,6 @@ Side = tuple[Place, Place]
 _NOTHING, _QUEEN = ".", "Q"
 # What a cell has in no solution is white, what it has in all is of this colour.
 _LIGHT, _DARK = (255, 255, 255), (122, 172, 226)
-# Lines of less than this share are too pale to be seen.
-_LEAST_LINE = 0.02
 
 
 def any_side(line: str) -> str:
@@ -46,15 +45,15 @@ def percent(times: int, total: int) -> str:
 def picture(problem: Problem[Any], draw: Drawing, found: Occurrences, view: View) -> Picture:
     """The shares of what the cells of a problem's picture have. Raises `NoPicture`."""
     blank = draw([])
-    if view is None:
+    if view is None or type(blank) not in (Picture, Board):
         raise NoPicture("pictures of single options say nothing of how often a cell has what")
-    if type(blank) is not Picture:
-        raise NoPicture("chances are drawn on boards of squares alone; without --cell and --svg they are a list")
     shown = list(_shown(problem, draw, blank, found.by_option))
     options = [option for option in shown if option.times]
     joined = _joined(blank, options)
     if joined:
-        return Joins(blank, {side: times / found.total for side, times in joined.items()})
+        shares = {side: times / found.total for side, times in joined.items()}
+        title = f"{blank.title}: how often cells are in one piece"
+        return BoardJoins(blank, title, shares, _told) if isinstance(blank, Board) else Joins(blank, title, shares)
     labels = _labels(options, view, found.total)
     has_one = len({_label(cell) for option in shown for cell in option.cells.values()}) == 1
     most = max((times for own in labels.values() for times in own.values()), default=0)
@@ -62,7 +61,7 @@ def picture(problem: Problem[Any], draw: Drawing, found: Occurrences, view: View
     for place, own in labels.items():
         old = cells.get(place, Cell())
         cells[place] = _share(old, own, found.total, most) if has_one else _choice(old, own, found.total)
-    return replace(blank, title=f"{blank.title}: shares of all solutions", cells=cells)
+    return blank.changed(f"{blank.title}: shares of all solutions", cells)
 
 
 @dataclass(frozen=True)
@@ -132,10 +131,10 @@ def _heat(share: float) -> str:
 
 def _joined(blank: Picture, options: Sequence[_Shown]) -> dict[Side, int]:
     """How often cells side by side are in one piece; nothing where options are no pieces."""
-    found = dict.fromkeys(_sides(blank.cells), 0)
+    found = dict.fromkeys(_sides(blank, blank.cells), 0)
     has_pieces = False
     for option in options:
-        for a, b in _sides(option.cells):
+        for a, b in _sides(blank, option.cells):
             old, new = blank.cells.get(a), option.cells[a].group
             if new is not None and new == option.cells[b].group and (old is None or new != old.group):
                 found[a, b] += option.times
@@ -143,18 +142,22 @@ def _joined(blank: Picture, options: Sequence[_Shown]) -> dict[Side, int]:
     return found if has_pieces else {}
 
 
-def _sides(cells: Mapping[Place, Cell]) -> Iterator[Side]:
-    for r, c in sorted(cells):
-        for beside in ((r, c + 1), (r + 1, c)):
-            if beside in cells:
-                yield (r, c), beside
+def _sides(blank: Picture, cells: Mapping[Place, Cell]) -> Iterator[Side]:
+    for place in sorted(cells):
+        for beside in blank.beside(place):
+            if beside > place and beside in cells:
+                yield place, beside
+
+
+def _told(share: float) -> str:
+    return percent(round(share * 10**6), 10**6)
 
 
 class Joins(Picture):
     """Cells, and between each two side by side the share of solutions in which they are in one piece."""
 
-    def __init__(self, blank: Picture, shares: dict[Side, float]) -> None:
-        super().__init__(f"{blank.title}: how often cells are in one piece", dict(blank.cells))
+    def __init__(self, blank: Picture, title: str, shares: dict[Side, float]) -> None:
+        super().__init__(title, dict(blank.cells))
         self.shares = shares
 
     def text(self) -> str:
@@ -169,7 +172,7 @@ class Joins(Picture):
 
     def _told(self, a: Place, b: Place) -> str:
         share = self.shares.get((a, b))
-        return "" if share is None else percent(round(share * 10**6), 10**6)
+        return "" if share is None else _told(share)
 
     def svg(self) -> str:
         """The lines between cells are as dark as it is rare that these are in one piece."""
@@ -179,7 +182,7 @@ class Joins(Picture):
         for ((r, c), (below, _)), share in self.shares.items():
             x, y = 4 + c * SIDE, 4 + r * SIDE
             is_below = below > r
-            if 1 - share >= _LEAST_LINE:
+            if 1 - share >= LEAST_LINE:
                 way = f"M{x} {y + SIDE}h{SIDE}" if is_below else f"M{x + SIDE} {y}v{SIDE}"
                 yield f'<path d="{way}" stroke="#222" stroke-width="2.5" stroke-opacity="{1 - share:.2f}"/>\n'
             at = (x + SIDE / 2, y + SIDE + 3.5) if is_below else (x + SIDE, y + SIDE / 2 + 3.5)

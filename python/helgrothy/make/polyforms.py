@@ -309,5 +309,4 @@ KIND = Kind(
     cell=r"r(\d+)c(\d+)",
     grid=_grid_of,
     remarks=_remarks,
-    view=None,
 )
