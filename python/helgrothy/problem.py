@@ -31,7 +31,6 @@ if TYPE_CHECKING:
     from .cost import Cost
     from .draw import Drawing, Look, Picture
     from .given import Given, Which
-    from .table import Table
 
 _HASHABLE = "items and colours are hashable"
 # One of so many solutions is printed where they are counted for a time.
