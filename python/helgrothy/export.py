@@ -8,13 +8,15 @@ from __future__ import annotations
 
 from collections.abc import Callable, Hashable, Iterator, Sequence
 from dataclasses import dataclass
-from fractions import Fraction
 from itertools import zip_longest
-from typing import Any
+from typing import TYPE_CHECKING, Any
 
 from ._reason.counting import Clauses
 from ._text.amounts import spelled
 from .problem import Problem
+
+if TYPE_CHECKING:
+    from fractions import Fraction
 
 __all__ = ["FORMATS", "asp", "cnf", "lp", "opb"]
 
