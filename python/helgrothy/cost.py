@@ -4,7 +4,7 @@ dlx3 searches by bounds that are narrowed (`bounds`). Where that takes more than
 are asked (`optimisers`), and where it takes more than a second, prices of the items (`prices`) and a sweep over states
 (`states`) have turns: prices may show that the best solution so far is least, and the sweep finds one that is. Each way
 takes over the cheapest solution that any has found. Dominoes on 8 by 8 with random costs took dlx3 five seconds and the
-sweep a thirtieth of one; 2,000 pairings of flights took cbc less than a second, and dlx3 came to no end.
+sweep a thirtieth of one; 2,000 pairings of flights took cbc less than a second, where dlx3 alone had no solution in 20.
 
 What an engine calls a solution is one where dlxcheck judges it to be one, and what it costs is added up here. That none
 costs less is what it reports, and no proof: for a while the other ways may prove it, or find that it isn't so.
@@ -45,7 +45,7 @@ _ALONE_SECONDS, _MOST_ALONE, _TURN_SECONDS = 1.0, 10.0, 0.3
 _ENGINE_SECONDS = 0.05
 # What goes on beside dlx3 is looked at so often.
 _LOOK_SECONDS = 0.05
-# Without seconds of its own it ends after so many where a solution was found, and an engine does so in any case.
+# Without seconds of its own it ends after so many where a solution was found.
 MOST_SECONDS = sat_solver.MOST_SECONDS
 # To write the problem for an engine may take so long.
 _MOST_WRITING = 8.0
@@ -319,7 +319,7 @@ class _Engines:
         self._hint = hint
         self._begun = self._last = time.monotonic()
         self._has_deadline = deadline is not None
-        self._deadline = self._begun + MOST_SECONDS if deadline is None else deadline
+        self._deadline = self._begun + sat_solver.MOST_SECONDS if deadline is None else deadline
         self._waiting: list[Engine] | None = None
         self._at_work: list[Optimiser] = []
         self._has_any = self._is_helped = self._is_told = False
