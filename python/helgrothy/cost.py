@@ -215,9 +215,10 @@ class _Search(Generic[Option]):
         if now - self._looked < _LOOK_SECONDS:
             return
         self._hear()
-        if self._engines.claim is not None and self._engines.claim.is_over(now):
-            self._engines.claim.end(self._problem)
-        swept = self._reasoning.look(self.best, run, self._engines.claim is not None)
+        claim = self._engines.claim
+        if claim is not None and claim.left(now) <= 0:
+            claim.end(self._problem)
+        swept = self._reasoning.look(self.best, run, None if claim is None else claim.left(now))
         if swept is not None:
             self._set(swept, "states")
             raise _Over("states")
@@ -260,20 +261,22 @@ class _Reasoning:
             self._prices = Prices(self._problem, self._costs)
         return self._prices
 
-    def look(self, best: int | None, run: Run | None, is_urgent: bool) -> list[int] | None:
-        """A turn where it is time for it, or urgent; what the sweep found where it has ended. Raises `_Over`."""
+    def look(self, best: int | None, run: Run | None, left: float | None) -> list[int] | None:
+        """A turn where it is time for it; what the sweep found where it has ended. Raises `_Over`.
+
+        left: the seconds to show what an engine reports, in which prices have a turn before it is time.
+        """
         if self._sweep is None:
             worked = sum(os.times()[:4]) - self._worked + (0.0 if run is None else run.worked())
-            if not is_urgent and worked < _ALONE_SECONDS and time.monotonic() - self._begun < _MOST_ALONE:
-                return None
-            self._sweep = Sweep(self._problem, self._costs)
-        if best is not None:
-            if self.prices.show(best, _TURN_SECONDS):
+            if worked >= _ALONE_SECONDS or time.monotonic() - self._begun >= _MOST_ALONE:
+                self._sweep = Sweep(self._problem, self._costs)
+        if best is not None and (self._sweep is not None or left is not None):
+            if self.prices.show(best, _TURN_SECONDS if left is None else min(left, _TURN_SECONDS)):
                 raise _Over("prices")
             self.floor = self.prices.surpluses()[1]
-        if not self._sweep.is_over:
+        if self._sweep is not None and left is None and not self._sweep.is_over:
             self._sweep.go_on(_TURN_SECONDS)
-        return self._sweep.numbers
+        return None if self._sweep is None else self._sweep.numbers
 
 
 # ---- by engines
@@ -289,9 +292,9 @@ class _Claim:
         proof = min(max(now - begun, _LEAST_PROOF_SECONDS), _PROOF_SECONDS)
         self._until = now + (_NONE_SECONDS if self.cost is None else proof)
 
-    def is_over(self, now: float) -> bool:
-        """Whether the others have had the time to show it."""
-        return now > self._until
+    def left(self, now: float) -> float:
+        """How long the others have to show it; nothing or less where the time is over."""
+        return self._until - now
 
     def end(self, problem: Problem[Any]) -> None:
         """Raises `Claimed`, and `_Over`."""
