@@ -59,7 +59,7 @@ _dlx_options() {
             options='' ;;
         'dlx-progress' | 'helgrothy')
             options='--help --version' ;;
-        'helgrothy make' | 'helgrothy make queens' | 'helgrothy make langford' | 'helgrothy make words' | 'helgrothy make nonogram' | 'helgrothy make kakuro' | 'helgrothy export')
+        'helgrothy make' | 'helgrothy make queens' | 'helgrothy make langford' | 'helgrothy make words' | 'helgrothy make nonogram' | 'helgrothy make kakuro')
             options='--help' ;;
         'helgrothy make sudoku')
             options='--help --regions --cages --diagonals' ;;
@@ -85,6 +85,8 @@ _dlx_options() {
             options='--help --number --svg --html --json --csv --options --listing --cell --grid --row --column --label' ;;
         'helgrothy lint')
             options='--help --for' ;;
+        'helgrothy export')
+            options='--help --cost' ;;
         'helgrothy why')
             options='--help --seconds' ;;
         'helgrothy count')
@@ -145,7 +147,7 @@ _dlx_options() {
 _dlx_value() {
     value=
     case $1 in
-        'helgrothy make sudoku --regions' | 'helgrothy make sudoku --cages' | 'helgrothy solve --cost' | 'helgrothy hint sudoku --regions' | 'helgrothy hint sudoku --cages' | 'helgrothy minimal sudoku --regions' | 'helgrothy minimal sudoku --cages' | 'helgrothy sudoku --regions' | 'helgrothy sudoku --cages' | 'helgrothy sudoku --cost' | 'helgrothy queens --cost' | 'helgrothy langford --cost' | 'helgrothy polyominoes --cost' | 'helgrothy polyforms --cost' | 'helgrothy polycubes --cost' | 'helgrothy words --cost' | 'helgrothy wordsearch --cost' | 'helgrothy nonogram --cost' | 'helgrothy kakuro --cost' | 'helgrothy roster --cost' | 'helgrothy roundrobin --cost' | 'helgrothy tests --cost' | 'helgrothy timetable --cost')
+        'helgrothy make sudoku --regions' | 'helgrothy make sudoku --cages' | 'helgrothy solve --cost' | 'helgrothy export --cost' | 'helgrothy hint sudoku --regions' | 'helgrothy hint sudoku --cages' | 'helgrothy minimal sudoku --regions' | 'helgrothy minimal sudoku --cages' | 'helgrothy sudoku --regions' | 'helgrothy sudoku --cages' | 'helgrothy sudoku --cost' | 'helgrothy queens --cost' | 'helgrothy langford --cost' | 'helgrothy polyominoes --cost' | 'helgrothy polyforms --cost' | 'helgrothy polycubes --cost' | 'helgrothy words --cost' | 'helgrothy wordsearch --cost' | 'helgrothy nonogram --cost' | 'helgrothy kakuro --cost' | 'helgrothy roster --cost' | 'helgrothy roundrobin --cost' | 'helgrothy tests --cost' | 'helgrothy timetable --cost')
             value='file' ;;
         'helgrothy make polyforms --grid' | 'helgrothy hint polyforms --grid' | 'helgrothy polyforms --grid')
             value='words hex triangle' ;;
@@ -186,7 +188,7 @@ _dlx_place() {
         'helgrothy make polycubes:1' | 'helgrothy hint polycubes:1' | 'helgrothy polycubes:1')
             value='file pentacubes pentominoes soma tetracubes tetrominoes' ;;
         'helgrothy export:1')
-            value='words asp cnf opb' ;;
+            value='words asp cnf lp opb' ;;
         'helgrothy minimal:1')
             value='words sudoku nonogram kakuro' ;;
         'dlx1:'* | 'dlx2:'* | 'dlx3:'*)

@@ -29,14 +29,15 @@ def draw(problem: Problem[Any], arguments: argparse.Namespace) -> int:
     lines = console.input_lines()
     first = next(lines, b"")
     lines = chain([first] if first else [], lines)
-    if not answers.begins(first):
+    solver = answers.begins(first)
+    if solver is None:
         if arguments.listing:
             raise ValueError("--listing is of another solver's answer, which standard input hasn't")
         numbers: list[int] = []
         listed = ((found.number, found) for found in _told(problem.listed(lines), numbers))
         shown = _draw(problem, _wanted(listed, arguments), arguments)
         return 0 if shown else fail(_none_of(arguments.number, numbers), 1)
-    found = enumerate(answers.solutions(answers.ANY, problem, lines), 1)
+    found = enumerate(answers.solutions(solver, problem, lines), 1)
     wanted = _wanted(found, arguments)
     shown = _list(problem, wanted) if arguments.listing else _draw(problem, _judged(problem, wanted), arguments)
     if shown:

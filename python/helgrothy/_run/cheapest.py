@@ -34,7 +34,9 @@ class Cheapest(Solutions[Option]):
         reader = OfNumbers(asked.problem)
 
         def outer(found: Least[Any]) -> Least[Option]:
-            return Least(reader, asked.numbers(found.numbers), found.cost, found.by)
+            solution = Least(reader, asked.numbers(found.numbers), found.cost, found.by)
+            solution.is_proved = found.is_proved
+            return solution
 
         def begin(outcome: Outcome) -> Generator[Least[Option], None, None]:
             try:
