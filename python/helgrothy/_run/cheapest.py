@@ -34,7 +34,7 @@ class Cheapest(Solutions[Option]):
         reader = OfNumbers(asked.problem)
 
         def outer(found: Least[Any]) -> Least[Option]:
-            solution = Least(reader, asked.numbers(found.numbers), found.cost, found.by)
+            solution: Least[Option] = Least(reader, asked.numbers(found.numbers), found.cost, found.by)
             solution.is_proved = found.is_proved
             return solution
 
