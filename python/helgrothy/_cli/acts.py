@@ -7,6 +7,7 @@ from __future__ import annotations
 
 from typing import TYPE_CHECKING, Any
 
+from .._run.report import unheard
 from ..errors import HelgrothyError, OutOfTime
 from ..problem import Problem
 from . import console
@@ -46,7 +47,9 @@ def make_and_solve(arguments: argparse.Namespace) -> int:
     solving.check_one(arguments)
     if arguments.cost is not None or arguments.given or arguments.forbidden:
         raise ValueError("this search has a problem of its own: without --cost, --with and --without")
-    return solving.show_found(search(None if arguments.seconds is None else arguments.seconds * _SHARE), arguments)
+    found = search(None if arguments.seconds is None else arguments.seconds * _SHARE, unheard)
+    solving.show_found(found, arguments)
+    return 0 if found.is_proved else 2
 
 
 def _made(arguments: argparse.Namespace) -> Problem[Any]:

@@ -252,7 +252,8 @@ def limited(most: float | None) -> Iterator[None]:
     if most is None or not _is_main():
         yield
         return
-    clock = _Clock(most, sys.unraisablehook)
+    global _clock
+    clock = _clock = _Clock(most, sys.unraisablehook)
     before = signal.signal(signal.SIGALRM, clock.end)
     sys.unraisablehook = clock.lose
     try:
@@ -265,6 +266,12 @@ def limited(most: float | None) -> Iterator[None]:
         signal.signal(signal.SIGALRM, before)
         sys.unraisablehook = clock.tell
         end_all()
+
+
+def no_longer_limited() -> None:
+    """The time is heard no longer: what was found by then is shown."""
+    if _clock is not None:
+        _clock.is_open = False
 
 
 class _Clock:
@@ -290,6 +297,10 @@ class _Clock:
             self._raised = None
         else:
             self.tell(lost)
+
+
+# That of the command that runs.
+_clock: _Clock | None = None
 
 
 def _is_main() -> bool:
