@@ -30,9 +30,10 @@ from ._reason.prices import PARTS, Prices
 from ._reason.sat_solver import Engine, Heard, NoAnswer
 from ._reason.states import Sweep
 from ._run.programs import Run
+from ._run.report import Hear, unheard
 from ._run.solution import Solution, Source
 from ._run.wire import OfNumbers
-from ._text.amounts import A_NUMBER, is_number
+from ._text.amounts import A_NUMBER, is_number, spelled
 from ._text.shown import bytes_of
 from .errors import AnswerFault, OutOfTime, ProgramFailed, TableFault
 from .problem import Problem
@@ -123,10 +124,12 @@ def least(
     costs: Sequence[Cost],
     seconds: float | None = None,
     tell: Callable[[str], object] = lambda line: None,
+    hear: Hear = unheard,
 ) -> Least[Option] | None:
     """The solution of least cost, as dlxcheck judges it to be one; None where there is no solution.
 
-    costs: of each option in their order. tell: gets a line that says what clasp did wrong. Raises `NotLeast`, also
+    costs: of each option in their order. tell: gets a line that says what clasp did wrong. hear: is told what is at
+    work, and the least cost so far. Raises `NotLeast`, also
     without seconds where clasp has taken `MOST_SECONDS`; `ValueError` for another number of costs; and
     `engines.Claimed` where clasp reports that there is no solution, and the program doesn't show that soon.
     """
@@ -136,7 +139,7 @@ def least(
     exact = [Fraction(str(cost)) if isinstance(cost, float) else Fraction(cost) for cost in costs]
     unit = math.lcm(1, *(cost.denominator for cost in exact))
     whole = [int(cost * unit) for cost in exact]
-    search = _Search(problem, exact, whole)
+    search = _Search(problem, exact, whole, hear)
     path = sat_solver.path_of("clasp")
     if path is not None and sum(abs(cost) for cost in whole) <= _MOST_SUM and problem.options:
         try:
@@ -151,8 +154,11 @@ def least(
 class _Search(Generic[Option]):
     """The cheapest solution so far, in the end as dlxcheck judges it to be one."""
 
-    def __init__(self, problem: Problem[Option], exact: Sequence[Fraction], costs: Sequence[int]) -> None:
+    def __init__(
+        self, problem: Problem[Option], exact: Sequence[Fraction], costs: Sequence[int], hear: Hear
+    ) -> None:
         self._problem = problem
+        self._hear = hear
         self._reader = OfNumbers(problem)
         self._exact = exact
         self._costs = costs
@@ -162,6 +168,7 @@ class _Search(Generic[Option]):
     def by_clasp(self, clasp: Engine, deadline: float | None) -> None:
         """Raises `NotLeast`, `Claimed` and `NoAnswer`; of that the best solution is left, where it is one."""
         left = MOST_SECONDS if deadline is None else max(deadline - time.monotonic(), 0.0)
+        self._hear(at_work=[clasp.name])
         try:
             self._take(_by_clasp(self._problem, self._costs, clasp, left, self._beside), clasp.name)
         except OutOfTime:
@@ -178,6 +185,7 @@ class _Search(Generic[Option]):
 
     def by_bounds(self, deadline: float | None) -> None:
         """Raises `NotLeast`."""
+        self._hear(at_work=["dlx3"])
         try:
             self._take(_by_bounds(self._problem, self._costs, deadline, self._beside), "dlx3")
         except OutOfTime:
@@ -203,6 +211,7 @@ class _Search(Generic[Option]):
     def _set(self, numbers: Sequence[int], by: str) -> None:
         cost = sum((self._exact[number] for number in numbers), Fraction(0))
         self.best = Least(self._reader, numbers, cost, by)
+        self._hear(best=spelled(cost))
 
     def _check(self) -> None:
         """Raises `ProgramFailed` where the best solution is none."""

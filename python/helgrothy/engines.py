@@ -20,6 +20,7 @@ from typing import Any, TypeVar
 from ._reason import sat_solver
 from ._reason.sat_solver import Asked, NoAnswer
 from ._run.programs import Run
+from ._run.report import Hear, unheard
 from ._run.solution import Solution
 from ._run.stream import Outcome, Solutions, sooner
 from ._run.wire import OfNumbers
@@ -54,16 +55,19 @@ class Claimed(HelgrothyError):
 
 
 def solve(
-    problem: Problem[Option], seconds: float | None = None, tell: Callable[[str], object] = lambda line: None
+    problem: Problem[Option],
+    seconds: float | None = None,
+    tell: Callable[[str], object] = lambda line: None,
+    hear: Hear = unheard,
 ) -> Solutions[Option]:
     """One solution, whoever finds it.
 
-    tell: gets a line that says who found it, where that is an engine, and what an engine did wrong. Raises what
-    `Problem.solve` does, and `Claimed`.
+    tell: gets a line that says who found it, where that is an engine, and what an engine did wrong. hear: is told what
+    is at work. Raises what `Problem.solve` does, and `Claimed`.
     """
 
     def begin(outcome: Outcome) -> Generator[Solution[Option], None, None]:
-        with _Beside(problem, seconds, tell) as beside:
+        with _Beside(problem, seconds, tell, hear) as beside:
             try:
                 with problem._search(limit=1, seconds=seconds, meanwhile=beside.look) as solutions:
                     yield from solutions
@@ -89,9 +93,12 @@ class _Answered(Exception):
 class _Beside:
     """An engine beside a program's search, looked at while that finds nothing."""
 
-    def __init__(self, problem: Problem[Any], seconds: float | None, tell: Callable[[str], object]) -> None:
+    def __init__(
+        self, problem: Problem[Any], seconds: float | None, tell: Callable[[str], object], hear: Hear
+    ) -> None:
         self._problem = problem
         self._tell = tell
+        self._hear = hear
         self._program = f"dlx{problem.kind}"
         self._begun, self._used = time.monotonic(), time.process_time()
         self._seconds = float("inf") if seconds is None else seconds
@@ -123,6 +130,7 @@ class _Beside:
                 self._tell(f"no solution yet; the problem is too large for {self._engine.name} here; {_ORDER}")
             else:
                 self._asked = Asked(self._engine, self._problem, sat_solver.text(self._engine, self._problem))
+                self._hear(at_work=[self._program, self._engine.name])
                 run.pause()
 
     def help(self) -> None:
@@ -154,6 +162,7 @@ class _Beside:
         except NoAnswer as error:
             self.__exit__()
             run.go_on()
+            self._hear(at_work=[self._program])
             self._tell(f"{error}; {self._program} goes on")
 
     def _end(self, name: str, numbers: list[int] | None) -> None:

@@ -7,12 +7,12 @@ from __future__ import annotations
 
 from typing import TYPE_CHECKING, Any
 
-from .._run.report import unheard
 from ..errors import HelgrothyError, OutOfTime
 from ..problem import Problem
 from . import console
 from . import count as count_command
 from .console import fail, write
+from .line import Report
 from .showing import page_of, showing
 
 if TYPE_CHECKING:
@@ -47,7 +47,8 @@ def make_and_solve(arguments: argparse.Namespace) -> int:
     solving.check_one(arguments)
     if arguments.cost is not None or arguments.given or arguments.forbidden:
         raise ValueError("this search has a problem of its own: without --cost, --with and --without")
-    found = search(None if arguments.seconds is None else arguments.seconds * _SHARE, unheard)
+    with Report(["helgrothy"]) as report:
+        found = search(None if arguments.seconds is None else arguments.seconds * _SHARE, report)
     solving.show_found(found, arguments)
     return 0 if found.is_proved else 2
 

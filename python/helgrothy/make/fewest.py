@@ -204,6 +204,7 @@ class _Search:
 
     def _shorten(self, most_looks: int) -> None:
         """Makes the best design shorter. Raises `OutOfTime`."""
+        self._hear(at_work=["helgrothy"])
         shorter = Shorter(self._wanted, self._deadline, self._rng)
         while len(self._best.tests) > self._best.least:
             before = shorter.looks
@@ -229,6 +230,7 @@ class _Search:
         self._tried.add(count)
         text = self._lines.of(count, rng)
         self._work(steps * self._lines.items + len(text) * _LOOKS_OF_OPTION)
+        self._hear(at_work=["dlx-span"])
         tests = self._lines.search(text, steps, self._left())
         if tests is None:
             return False

@@ -130,9 +130,8 @@ class Greedy:
         total = 1
         while rest:
             factor = rest.pop()
-            gains = [
-                (missing.with_one(place, bits), self._rng.random(), place) for place in places(open & values.masks[factor])
-            ]
+            choices = places(open & values.masks[factor])
+            gains = [(missing.with_one(place, bits), self._rng.random(), place) for place in choices]
             for gain, _, place in sorted(gains, reverse=True):
                 more = bits | 1 << place
                 then = values.narrowed(open, more, place)
