@@ -4,7 +4,6 @@ from __future__ import annotations
 
 import sys
 import time
-from contextlib import suppress
 
 from .._cli.line import LINE
 from .loop import Progress
@@ -28,10 +27,12 @@ class Shown:
         self._last = now
         if self._is_terminal:
             LINE.show(str(progress))
-        else:
+            return
+        try:
+            print(progress, file=sys.stderr, flush=True)
+        except OSError:
             # The search goes on. That nobody could be shown how it ended is said by its status.
-            with suppress(OSError):
-                print(progress, file=sys.stderr, flush=True)
+            self._is_silent = True
 
     def clear(self) -> None:
         LINE.clear()
