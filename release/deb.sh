@@ -44,7 +44,8 @@ Architecture: amd64
 Maintainer: $maintainer
 Installed-Size: ${size%%[!0-9]*}
 Depends: libc6 (>= 2.34)
-Recommends: python3 (>= 3.9)
+Recommends: python3 (>= 3.9), clasp
+Suggests: cadical, coinor-cbc
 Section: math
 Priority: optional
 Description: exact cover solvers by dancing links, whose code is proved

@@ -1,17 +1,13 @@
-"""The solution whose options cost least in all: by clasp or, where the path hasn't it, by dlx3, `prices` or `states`.
+"""The solution whose options cost least in all: by all ways that there are, of which the first that proves it ends it.
 
-dlx3 has bounds and no sums. So each item gets a price such that no option costs less than the prices of its items. What
-an option costs beyond these is its surplus; a solution costs the prices and the surpluses. If it is to cost less than
-the best one so far, the surpluses leave so much room, and at most m of its options have a surplus of more than the room
-divided by m + 1. These are bounds. Each solution that costs less narrows them, and after it better prices are sought;
-when none is left the last one is least.
+dlx3 searches by bounds that are narrowed (`bounds`). Where that takes more than a moment, the engines that the path has
+are asked (`optimisers`), and where it takes more than a second, prices of the items (`prices`) and a sweep over states
+(`states`) have turns: prices may show that the best solution so far is least, and the sweep finds one that is. Each way
+takes over the cheapest solution that any has found. Dominoes on 8 by 8 with random costs took dlx3 five seconds and the
+sweep a thirtieth of one; 2,000 pairings of flights took cbc less than a second, and dlx3 came to no end.
 
-Where that takes more than a second, a sweep over states goes on beside it, and prices that may show that the best one
-so far is least, until one of them ends. Dominoes on 8 by 8 with random costs took dlx3 five seconds and the sweep a
-thirtieth of one; a roster with bounds is for the others alone. Whoever it is says by itself that no solution costs
-less; that it is a solution is judged.
-
-Where clasp fails, dlx3 goes on from the best solution of it. Where it takes too long, that solution is what there is.
+What an engine calls a solution is one where dlxcheck judges it to be one, and what it costs is added up here. That none
+costs less is what it reports, and no proof: for a while the other ways may prove it, or find that it isn't so.
 """
 
 from __future__ import annotations
@@ -19,76 +15,79 @@ from __future__ import annotations
 import math
 import os
 import time
-from collections.abc import Callable, Generator, Hashable, Iterator, Sequence
+from collections.abc import Callable, Sequence
 from contextlib import closing
 from fractions import Fraction
 from typing import Any, Generic, TypeVar, Union
 
-from . import answers, export
-from ._reason import sat_solver
-from ._reason.prices import PARTS, Prices
-from ._reason.sat_solver import Engine, Heard, NoAnswer
+from ._reason import optimisers, sat_solver
+from ._reason.bounds import Bounds
+from ._reason.optimisers import Optimiser
+from ._reason.prices import Prices
+from ._reason.sat_solver import Engine, NoAnswer
 from ._reason.states import Sweep
 from ._run.programs import Run
 from ._run.report import Hear, unheard
 from ._run.solution import Solution, Source
 from ._run.wire import OfNumbers
 from ._text.amounts import A_NUMBER, is_number, spelled
-from ._text.shown import bytes_of
-from .errors import AnswerFault, OutOfTime, ProgramFailed, TableFault
+from .errors import OutOfTime, ProgramFailed, TableFault
 from .problem import Problem
 
 __all__ = ["Cost", "Least", "NotLeast", "least", "read"]
 
 Option = TypeVar("Option", bound=Any)
 Cost = Union[int, float, Fraction]
-# Solutions that cost less and less: what each costs, and its options.
-_Cheaper = Generator[tuple[int, list[int]], None, None]
 
-# The programs are alone for so many seconds of a processor, or by the clock where they have had less; then the sweep
-# has turns of so many seconds.
+# dlx3 is alone for so many seconds of a processor, or by the clock where it has had less; then prices and the sweep
+# have turns of so many seconds.
 _ALONE_SECONDS, _MOST_ALONE, _TURN_SECONDS = 1.0, 10.0, 0.3
-# Without seconds of its own clasp may take so long, by the clock.
+# By the clock, it is alone for so long before the first engine is asked, and before each other one.
+_ENGINE_SECONDS = 0.05
+# What goes on beside dlx3 is looked at so often.
+_LOOK_SECONDS = 0.05
+# Without seconds of its own it ends after so many where a solution was found, and an engine does so in any case.
 MOST_SECONDS = sat_solver.MOST_SECONDS
-# Clasp reckons with numbers of 32 bits.
-_MOST_SUM = (1 << 31) - 1
-# What it reports at its end, without a solution and with one.
-_NONE, _LEAST = b"s UNSATISFIABLE", b"s OPTIMUM FOUND"
-# That there is no solution, where clasp reports so, is for the program to show in so many seconds.
+# To write the problem for an engine may take so long.
+_MOST_WRITING = 8.0
+# Where an engine reports that there is no solution, the program may show it for so many seconds.
 _NONE_SECONDS = 2.0
-# Costs are shared among items so often.
-_ROUNDS = 8
-# Better prices may take so many seconds, and this part of the time.
-_PRICING_SECONDS, _PRICING_SHARE = 0.1, 0.5
-# A search begins again where prices leave this part of the room that it has.
-_MUCH_LESS = 0.9
-_MOST_BOUNDS = 30
+# Where it reports that none costs less, the other ways may prove it for as long as all took so far, within these.
+_PROOF_SECONDS, _LEAST_PROOF_SECONDS = 1.0, 0.2
+# Of the time, what is spent on judging what engines call solutions.
+_JUDGING_SHARE = 0.2
+# After so many seconds without a solution a line says which engine may find one.
+_LONG_SECONDS = 2.0
 
 
 class Least(Solution[Option]):
     """The solution of least cost.
 
-    cost: that of its options together. by: what found it and, unless the time was over, that none costs less: `clasp`,
-    `dlx3` or `states`; or `prices`, which show that of one that clasp or dlx3 found. The last two are modules.
+    cost: that of its options together. is_proved: whether it was shown here that none costs less. by: what showed it,
+    `dlx3`, or the module `states` or `prices`; or the engine that reports so, `clasp`, `highs`, `cbc` or `glpsol`; or
+    what found the solution, where the time was over.
     """
 
-    __slots__ = ("by", "cost")
+    __slots__ = ("by", "cost", "is_proved")
 
     by: str
     cost: Fraction
+    is_proved: bool
 
     def __init__(self, source: Source, numbers: Sequence[int], cost: Fraction, by: str) -> None:
         super().__init__(source, numbers)
         self.cost = cost
         self.by = by
+        self.is_proved = False
 
     def __getstate__(self) -> dict[str, Any]:
-        return {**super().__getstate__(), "cost": self.cost, "by": self.by}
+        return {**super().__getstate__(), "cost": self.cost, "by": self.by, "is_proved": self.is_proved}
 
     def __setstate__(self, state: dict[str, Any]) -> None:
         super().__setstate__(state)
         self.cost = state["cost"]
         self.by = state["by"]
+        self.is_proved = state["is_proved"]
 
 
 class NotLeast(OutOfTime):
@@ -124,148 +123,135 @@ def least(
     costs: Sequence[Cost],
     seconds: float | None = None,
     tell: Callable[[str], object] = lambda line: None,
-    hear: Hear = unheard,
+    hint: Callable[[str], bool] = lambda line: False,
+    report: Hear = unheard,
 ) -> Least[Option] | None:
     """The solution of least cost, as dlxcheck judges it to be one; None where there is no solution.
 
-    costs: of each option in their order. tell: gets a line that says what clasp did wrong. hear: is told what is at
-    work, and the least cost so far. Raises `NotLeast`, also
-    without seconds where clasp has taken `MOST_SECONDS`; `ValueError` for another number of costs; and
-    `engines.Claimed` where clasp reports that there is no solution, and the program doesn't show that soon.
+    costs: of each option in their order. tell and hint: as `engines.solve` takes them. report: is told what is at work,
+    and the least cost so far. Raises `NotLeast`, also without seconds where `MOST_SECONDS` are over and a solution was
+    found; `ValueError` for another number of costs; and `engines.Claimed` where an engine reports that there is no
+    solution, and the program doesn't show that soon.
     """
     deadline = None if seconds is None else time.monotonic() + seconds
     if len(costs) != len(problem.options):
         raise ValueError(f"{len(costs)} costs, and the problem has {len(problem.options)} options")
     exact = [Fraction(str(cost)) if isinstance(cost, float) else Fraction(cost) for cost in costs]
     unit = math.lcm(1, *(cost.denominator for cost in exact))
-    whole = [int(cost * unit) for cost in exact]
-    search = _Search(problem, exact, whole, hear)
-    path = sat_solver.path_of("clasp")
-    if path is not None and sum(abs(cost) for cost in whole) <= _MOST_SUM and problem.options:
-        try:
-            search.by_clasp(Engine("clasp", path), deadline)
-            return search.best
-        except NoAnswer as error:
-            tell(f"{error}; dlx3 goes on")
-    search.by_bounds(deadline)
-    return search.best
+    with closing(_Search(problem, exact, [int(cost * unit) for cost in exact], deadline, tell, hint, report)) as search:
+        return search.least()
+
+
+class _Over(Exception):
+    """It is known which solution costs least. by: who showed or reports it. is_proved: whether it was shown."""
+
+    def __init__(self, by: str, is_proved: bool = True) -> None:
+        self.by = by
+        self.is_proved = is_proved
 
 
 class _Search(Generic[Option]):
-    """The cheapest solution so far, in the end as dlxcheck judges it to be one."""
+    """All ways, and the cheapest solution so far.
+
+    best: what that costs. floor: what each solution costs at least, in parts, by the prices so far.
+    """
 
     def __init__(
-        self, problem: Problem[Option], exact: Sequence[Fraction], costs: Sequence[int], hear: Hear
+        self,
+        problem: Problem[Option],
+        exact: Sequence[Fraction],
+        costs: Sequence[int],
+        deadline: float | None,
+        tell: Callable[[str], object],
+        hint: Callable[[str], bool],
+        report: Hear,
     ) -> None:
         self._problem = problem
-        self._hear = hear
         self._reader = OfNumbers(problem)
         self._exact = exact
         self._costs = costs
-        self._beside = _Beside(problem, costs)
-        self.best: Least[Option] | None = None
+        self._deadline = deadline
+        self._tell = tell
+        self._begun = self._looked = time.monotonic()
+        self._reasoning = _Reasoning(problem, costs)
+        self._engines = _Engines(problem, costs, deadline, tell, hint)
+        self._report = report
+        self._found: Least[Option] | None = None
+        # Whether dlxcheck has judged it to be a solution.
+        self._is_judged = False
+        self.best: int | None = None
 
-    def by_clasp(self, clasp: Engine, deadline: float | None) -> None:
-        """Raises `NotLeast`, `Claimed` and `NoAnswer`; of that the best solution is left, where it is one."""
-        left = MOST_SECONDS if deadline is None else max(deadline - time.monotonic(), 0.0)
-        self._hear(at_work=[clasp.name])
-        try:
-            self._take(_by_clasp(self._problem, self._costs, clasp, left, self._beside), clasp.name)
-        except OutOfTime:
-            self._judge()
-            if deadline is None and self.best is None:
-                raise NoAnswer.in_time(clasp.name) from None
-            raise NotLeast(self.best) from None
-        except NoAnswer:
-            self._judge()
-            raise
-        self._judge()
-        if self.best is None:
-            _check_none(self._problem, deadline)
+    @property
+    def prices(self) -> Prices:
+        return self._reasoning.prices
 
-    def by_bounds(self, deadline: float | None) -> None:
-        """Raises `NotLeast`."""
-        self._hear(at_work=["dlx3"])
+    @property
+    def floor(self) -> int | None:
+        return self._reasoning.floor
+
+    def close(self) -> None:
+        """Leaves no engine behind."""
+        self._engines.close()
+
+    def least(self) -> Least[Option] | None:
+        """Raises `NotLeast` and `Claimed`."""
         try:
-            self._take(_by_bounds(self._problem, self._costs, deadline, self._beside), "dlx3")
+            by, is_proved = "dlx3", True
+            try:
+                with closing(Bounds(self._problem, self._costs, self._deadline, self).solutions()) as solutions:
+                    for numbers in solutions:
+                        self._set(numbers, "dlx3")
+                        self.look()
+            except _Over as over:
+                by, is_proved = over.by, over.is_proved
         except OutOfTime:
+            self._hear(is_last=True)
             self._check()
-            raise NotLeast(self.best) from None
+            self._engines.help(self.best, self._tell)
+            raise NotLeast(self._found) from None
         self._check()
+        if self._found is not None:
+            self._found.by, self._found.is_proved = by, is_proved
+        return self._found
 
-    def _take(self, found: _Cheaper, by: str) -> None:
-        """Takes solutions that cost less and less, until whoever it is has said that the last one is least."""
-        try:
-            with closing(found) as solutions:
-                for self._beside.best, numbers in solutions:
-                    self._set(numbers, by)
-                    self._beside.look()
-            if self.best is not None:
-                self.best.by = by
-        except _Shown:
-            assert self.best is not None
-            self.best.by = "prices"
-        except _Swept as swept:
-            self._set(swept.numbers, "states")
+    def look(self, run: Run | None = None) -> None:
+        """The turns of all that goes on beside dlx3. Raises `_Over`, `Claimed` and `OutOfTime`."""
+        now = time.monotonic()
+        if now - self._looked < _LOOK_SECONDS:
+            return
+        self._hear()
+        self._report(at_work=["dlx3", *self._engines.names])
+        if self._engines.claim is not None and self._engines.claim.is_over(now):
+            self._engines.claim.end(self._problem)
+        swept = self._reasoning.look(self.best, run, self._engines.claim is not None)
+        if swept is not None:
+            self._set(swept, "states")
+            raise _Over("states")
+        if self._deadline is None and self.best is not None and now - self._begun > MOST_SECONDS:
+            raise OutOfTime("no proof came in time")
+        self._looked = time.monotonic()
 
-    def _set(self, numbers: Sequence[int], by: str) -> None:
+    def _hear(self, is_last: bool = False) -> None:
+        """Takes what engines have found."""
+        found = self._engines.hear(self.best, is_last)
+        if found is not None:
+            self._set(found.numbers or [], found.name, is_judged=True)
+
+    def _set(self, numbers: Sequence[int], by: str, is_judged: bool = False) -> None:
+        self.best = sum(self._costs[number] for number in numbers)
         cost = sum((self._exact[number] for number in numbers), Fraction(0))
-        self.best = Least(self._reader, numbers, cost, by)
-        self._hear(best=spelled(cost))
+        self._found, self._is_judged = Least(self._reader, numbers, cost, by), is_judged
+        self._report(best=spelled(cost))
+        self._engines.doubt(self.best)
 
     def _check(self) -> None:
         """Raises `ProgramFailed` where the best solution is none."""
-        if self.best is not None and self._problem.check([self.best]) != [True]:
-            raise ProgramFailed(self.best.by, 0, "its answer is no solution, as dlxcheck judges it")
-
-    def _judge(self) -> None:
-        """The same of what clasp called a solution, which is forgotten. Raises `NoAnswer`."""
-        try:
-            if self.best is not None:
-                sat_solver.judge("clasp" if self.best.by == "prices" else self.best.by, self._problem, self.best)
-        except NoAnswer:
-            self.best = self._beside.best = None
-            raise
+        if self._found is not None and not self._is_judged and self._problem.check([self._found]) != [True]:
+            raise ProgramFailed(self._found.by, 0, "its answer is no solution, as dlxcheck judges it")
 
 
-def _check_none(problem: Problem[Any], deadline: float | None) -> None:
-    """Has the program show that there is no solution. Raises `Claimed` and `NoAnswer`."""
-    left = _NONE_SECONDS if deadline is None else min(_NONE_SECONDS, max(deadline - time.monotonic(), 0.0))
-    try:
-        with problem._search(limit=1, seconds=left) as solutions:
-            found = next(iter(solutions), None)
-    except OutOfTime:
-        from .engines import Claimed
-
-        raise Claimed("clasp", f"dlx{problem.kind}") from None
-    if found is not None:
-        raise NoAnswer("clasp reports that there is no solution, and there is one")
-
-
-# ---- by states and prices, beside the others
-
-
-class _Swept(Exception):
-    """The sweep has ended with a solution: the numbers of its options."""
-
-    def __init__(self, numbers: list[int]) -> None:
-        self.numbers = numbers
-
-
-class _Shown(Exception):
-    """Prices show that no solution costs less than the best one."""
-
-
-class _Narrower(Exception):
-    """Prices make the bounds of a search narrower than they are."""
-
-
-class _Beside:
-    """A sweep and prices beside a search, which go on while that finds nothing and between its solutions.
-
-    best: what the cheapest solution so far costs. floor: of a search by bounds what each solution costs at least, in
-    parts, as these take it.
-    """
+class _Reasoning:
+    """Prices and a sweep, which have turns beside dlx3."""
 
     def __init__(self, problem: Problem[Any], costs: Sequence[int]) -> None:
         self._problem = problem
@@ -273,7 +259,6 @@ class _Beside:
         self._begun, self._worked = time.monotonic(), sum(os.times()[:4])
         self._sweep: Sweep | None = None
         self._prices: Prices | None = None
-        self.best: int | None = None
         self.floor: int | None = None
 
     @property
@@ -282,171 +267,168 @@ class _Beside:
             self._prices = Prices(self._problem, self._costs)
         return self._prices
 
-    def look(self, run: Run | Heard | None = None) -> None:
-        """A turn, where it is time for it. Raises `_Swept` where a sweep ends with a solution, `_Shown` and, during a
-        search, `_Narrower`."""
+    def look(self, best: int | None, run: Run | None, is_urgent: bool) -> list[int] | None:
+        """A turn where it is time for it, or urgent; what the sweep found where it has ended. Raises `_Over`."""
         if self._sweep is None:
             worked = sum(os.times()[:4]) - self._worked + (0.0 if run is None else run.worked())
-            if worked < _ALONE_SECONDS and time.monotonic() - self._begun < _MOST_ALONE:
-                return
+            if not is_urgent and worked < _ALONE_SECONDS and time.monotonic() - self._begun < _MOST_ALONE:
+                return None
             self._sweep = Sweep(self._problem, self._costs)
-        if self.best is not None and self.prices.show(self.best, _TURN_SECONDS):
-            raise _Shown
-        if run is not None and self.best is not None and self.floor is not None:
-            gap = self.best * PARTS - self.floor
-            if self.best * PARTS - self.prices.surpluses()[1] < gap * _MUCH_LESS:
-                raise _Narrower
+        if best is not None:
+            if self.prices.show(best, _TURN_SECONDS):
+                raise _Over("prices")
+            self.floor = self.prices.surpluses()[1]
         if not self._sweep.is_over:
             self._sweep.go_on(_TURN_SECONDS)
-            if self._sweep.numbers is not None:
-                raise _Swept(self._sweep.numbers)
+        return self._sweep.numbers
 
 
-# ---- by clasp
+# ---- by engines
 
 
-def _by_clasp(
-    problem: Problem[Any], costs: Sequence[int], clasp: Engine, seconds: float, beside: _Beside
-) -> _Cheaper:
-    """Solutions that cost less and less; the last one is least. Raises `OutOfTime` and `NoAnswer`."""
-    begun = time.monotonic()
-    lines = export.opb(problem)
-    text = [next(lines), next(lines), " ".join(["min:", *(f"{cost:+d} x{x}" for x, cost in enumerate(costs, 1)), ";"])]
-    text += lines
-    best: int | None = None
-    status = b""
-    with Heard(clasp, ["-q0"], problem, (bytes_of(f"{line}\n") for line in text)) as engine:
+class _Claim:
+    """What an engine reports: that none costs less than its solution, or that there is none."""
 
-        def told() -> Iterator[bytes]:
-            nonlocal status
-            for line in engine.lines(seconds - (engine.begun - begun), beside.look):
-                yield line
-                status = line if line.startswith(b"s ") else status
-                if status == (_NONE if best is None else _LEAST):
-                    return
+    def __init__(self, engine: Optimiser, begun: float) -> None:
+        self.name = engine.name
+        self.cost = None if engine.is_none else engine.cost
+        now = time.monotonic()
+        proof = min(max(now - begun, _LEAST_PROOF_SECONDS), _PROOF_SECONDS)
+        self._until = now + (_NONE_SECONDS if self.cost is None else proof)
 
-        try:
-            for solution in answers.solutions(clasp.name, problem, told()):
-                cost = sum(costs[number] for number in solution.numbers)
-                if best is None or cost < best:
-                    best = cost
-                    engine.found_better()
-                    yield cost, solution.numbers
-        except AnswerFault as fault:
-            raise NoAnswer(f"clasp gave no answer ({engine.messages() or fault})") from None
-        if status != (_NONE if best is None else _LEAST):
-            told_too = f" ({engine.messages()})" if engine.messages() else ""
-            raise NoAnswer(f"clasp ended before it knew which costs least{told_too}")
+    def is_over(self, now: float) -> bool:
+        """Whether the others have had the time to show it."""
+        return now > self._until
+
+    def end(self, problem: Problem[Any]) -> None:
+        """Raises `Claimed`, and `_Over`."""
+        if self.cost is None:
+            from .engines import Claimed
+
+            raise Claimed(self.name, f"dlx{problem.kind}")
+        raise _Over(self.name, is_proved=False)
 
 
-# ---- by dlx3
+class _Engines:
+    """The engines beside dlx3. claim: what one reports that isn't known to be wrong."""
 
+    def __init__(
+        self,
+        problem: Problem[Any],
+        costs: Sequence[int],
+        deadline: float | None,
+        tell: Callable[[str], object],
+        hint: Callable[[str], bool],
+    ) -> None:
+        self._problem = problem
+        self._costs = costs
+        self._tell = tell
+        self._hint = hint
+        self._begun = self._last = time.monotonic()
+        self._has_deadline = deadline is not None
+        self._deadline = self._begun + MOST_SECONDS if deadline is None else deadline
+        self._waiting: list[Engine] | None = None
+        self._at_work: list[Optimiser] = []
+        self._has_any = self._is_helped = self._is_told = False
+        # When a solution was judged last, and how long that took.
+        self._judged, self._judging = 0.0, 0.0
+        self.claim: _Claim | None = None
 
-def _by_bounds(
-    problem: Problem[Any], costs: Sequence[int], deadline: float | None, beside: _Beside
-) -> _Cheaper:
-    """The same, by bounds that are narrowed; each costs less than the best one so far."""
-    begun, priced = time.monotonic(), 0.0
-    surplus, least = _surpluses(problem, [cost * PARTS for cost in costs])
-    best = beside.best
-    # Options of small surplus come first, so that a cheap solution comes early. One without a primary item is in none.
-    is_used = [any(item in problem.items for item, _ in problem._pairs(option)) for option in problem.options]
-    order = sorted((place for place, used in enumerate(is_used) if used), key=lambda place: surplus[place])
-    while best is None or (best - 1) * PARTS >= least:
-        room = None if best is None else (best - 1) * PARTS - least
-        places = [place for place in order if room is None or surplus[place] <= room]
-        left = None if deadline is None else max(deadline - time.monotonic(), 0.0)
-        beside.floor = None if best is None else least
-        try:
-            with closing(_among(problem, places, surplus, room, left, beside)) as found:
-                for numbers in found:
-                    cost = sum(costs[number] for number in numbers)
-                    if best is None or cost < best:
-                        best = cost
-                        yield best, numbers
-                        break
-                else:
-                    return
-        except _Narrower:
-            # It begins again, with better prices.
-            assert best is not None
-        before = time.monotonic()
-        if beside.prices.show(best, _PRICING_SECONDS + _PRICING_SHARE * (before - begun) - priced):
+    @property
+    def names(self) -> list[str]:
+        """Those that are at work."""
+        return [engine.name for engine in self._at_work]
+
+    def close(self) -> None:
+        for engine in self._at_work:
+            engine.end()
+
+    def hear(self, best: int | None, is_last: bool) -> Optimiser | None:
+        """Begins one where it is time for it, and takes what all have said.
+
+        Gives the one with the cheapest solution, if that is cheaper than the best one and dlxcheck judges it to be one.
+        """
+        now = time.monotonic()
+        if not is_last:
+            self._begin(now)
+            self.help(best)
+        cheapest: Optimiser | None = None
+        for engine in list(self._at_work):
+            try:
+                engine.hear()
+                if best is None and not self._has_deadline and now > self._deadline and not engine.is_over:
+                    raise NoAnswer.in_time(engine.name)
+                is_cheaper = engine.cost is not None and (best is None or engine.cost < best)
+                if is_cheaper and self._may_judge(engine, is_last):
+                    self._judge(engine)
+                    cheapest, best = engine, engine.cost
+                if engine.is_over:
+                    self._end(engine, best)
+            except NoAnswer as error:
+                self._drop(engine)
+                self._tell(f"{error}; dlx3 goes on")
+        return cheapest
+
+    def doubt(self, best: int) -> None:
+        """Drops a claim that a solution of this cost shows to be wrong."""
+        claim = self.claim
+        if claim is not None and (claim.cost is None or claim.cost > best):
+            self.claim = None
+            self._tell(f"{_wrong(claim.name, claim.cost is None)}; dlx3 goes on")
+
+    def _begin(self, now: float) -> None:
+        """Begins one, where it is time for it."""
+        if now - self._last < _ENGINE_SECONDS:
             return
-        priced += time.monotonic() - before
-        found_surplus, floor = beside.prices.surpluses()
-        if floor > least:
-            surplus, least = found_surplus, floor
-            order.sort(key=lambda place: surplus[place])
+        if self._waiting is None:
+            self._waiting = optimisers.found(self._costs)
+            self._has_any = bool(self._waiting)
+        if self._waiting:
+            engine, *self._waiting = self._waiting
+            left = self._deadline - now
+            if sat_solver.writing_seconds(self._problem) > min(left / 2, _MOST_WRITING):
+                self._tell(f"the problem is too large for {engine.name} here; dlx3 goes on")
+            else:
+                self._at_work.append(Optimiser(engine, self._problem, self._costs, left))
+            self._last = time.monotonic()
+
+    def _may_judge(self, engine: Optimiser, is_last: bool) -> bool:
+        """Whether it is time to judge a solution, of which an engine may find many."""
+        return is_last or engine.is_over or time.monotonic() - self._judged > self._judging / _JUDGING_SHARE
+
+    def _judge(self, engine: Optimiser) -> None:
+        begun = time.monotonic()
+        sat_solver.judge(engine.name, self._problem, [self._problem.options[at] for at in engine.numbers or []])
+        self._judged = time.monotonic()
+        self._judging = self._judged - begun
+
+    def _end(self, engine: Optimiser, best: int | None) -> None:
+        """Ends one that has said all, and takes what it reports. Raises `NoAnswer`."""
+        if (engine.is_none and best is not None) or (engine.is_least and engine.cost != best):
+            raise NoAnswer(_wrong(engine.name, engine.is_none))
+        if engine.failure():
+            raise NoAnswer(engine.failure())
+        self._drop(engine)
+        if best is not None:
+            self.doubt(best)
+        if self.claim is None and (engine.is_least or engine.is_none):
+            self.claim = _Claim(engine, self._begun)
+
+    def _drop(self, engine: Optimiser) -> None:
+        engine.end()
+        self._at_work.remove(engine)
+
+    def help(self, best: int | None, tell: Callable[[str], object] | None = None) -> None:
+        """Says which engines may find a solution, where the path has none: once, soon, or else at the end."""
+        if best is None and not self._has_any and time.monotonic() - self._begun > _LONG_SECONDS:
+            line = sat_solver.missing("clasp", "cbc")
+            if tell is not None and not self._is_told:
+                tell(line)
+            elif not self._is_helped:
+                self._is_helped = True
+                self._is_told = self._hint(line)
 
 
-def _among(
-    problem: Problem[Any],
-    places: Sequence[int],
-    surplus: Sequence[int],
-    room: int | None,
-    seconds: float | None,
-    beside: _Beside,
-) -> Generator[list[int], None, None]:
-    """The solutions that have options of these places alone, as numbers, within the bounds where there is a room."""
-    if room is None:
-        with problem._search(places, seconds=seconds, meanwhile=beside.look) as solutions:
-            yield from (solution.numbers for solution in solutions)
-    else:
-        inner = _narrowed(problem, places, surplus, room)
-        with inner._search(seconds=seconds, meanwhile=beside.look) as narrowed:
-            yield from ([places[number] for number in solution.numbers] for solution in narrowed)
-
-
-def _surpluses(problem: Problem[Any], costs: Sequence[int]) -> tuple[list[int], int]:
-    """What each option costs beyond the prices of its items, none less than 0, and what a solution costs at least."""
-    rows = [[item for item, _ in problem._pairs(option) if item in problem.items] for option in problem.options]
-    holders: dict[Hashable, list[int]] = {item: [] for item in problem.items}
-    for place, row in enumerate(rows):
-        for item in row:
-            holders[item].append(place)
-    surplus = list(costs)
-    prices = dict.fromkeys(problem.items, 0)
-
-    def raise_price(item: Hashable, by: int) -> None:
-        prices[item] += by
-        for place in holders[item]:
-            surplus[place] -= by
-
-    for place, row in enumerate(rows):
-        if row and surplus[place] < 0:
-            raise_price(row[0], surplus[place])
-    # First all items of an option share in its surplus, then the first ones take what is left.
-    for turn in range(_ROUNDS + 1):
-        for item in sorted(problem.items, key=lambda item: len(holders[item])):
-            if holders[item]:
-                share = min(surplus[at] if turn == _ROUNDS else surplus[at] // len(rows[at]) for at in holders[item])
-                raise_price(item, share)
-    least = sum(min(price * low for low in problem.items[item]) for item, price in prices.items())
-    return surplus, least
-
-
-def _narrowed(problem: Problem[Any], places: Sequence[int], surplus: Sequence[int], room: int) -> Problem[Any]:
-    """The problem of these options, with bounds on how many of them may have a large surplus."""
-    bounds: dict[Hashable, tuple[int, int]] = dict(problem.items)
-    marks: list[tuple[int, Hashable]] = []
-    for most in range(1, min(len(places), _MOST_BOUNDS + 1)):
-        # So many and one more with a surplus of at least this are too much.
-        large = room // (most + 1) + 1
-        if sum(surplus[place] >= large for place in places) > most and (not marks or large < marks[-1][0]):
-            mark = _Mark(most)
-            bounds[mark] = (0, most)
-            marks.append((large, mark))
-    narrowed: Problem[Any] = Problem(bounds, list(problem.secondary))
-    for place in places:
-        uses: dict[Any, Any] = dict(problem._pairs(problem.options[place]))
-        uses.update((mark, None) for large, mark in marks if surplus[place] >= large)
-        narrowed.add_option(uses)
-    return narrowed
-
-
-class _Mark:
-    """An item of which so many options with a large surplus are."""
-
-    def __init__(self, most: int) -> None:
-        self.most = most
+def _wrong(name: str, is_none: bool) -> str:
+    what = "there is no solution, and there is one" if is_none else "none costs less than its solution, and one does"
+    return f"{name} reports that {what}"

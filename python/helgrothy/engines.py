@@ -1,9 +1,10 @@
-"""One solution, by the programs or by another engine beside them: cadical or clasp, where the path has one.
+"""One solution, by the programs or by other engines beside them: cadical and clasp, where the path has them.
 
-The program searches alone first. Where it has no solution soon the engine is given the problem, and has a short turn of
-its own; then both go on until one of them answers. What the engine calls a solution is written as a listing and is one
-where dlxcheck judges it to be one; that there is none is what the engine reports, and no proof. Which solution is the
-first in their order, how many there are and that these are all is for the programs alone to say.
+The program searches alone first. Where it has no solution soon the engine that is for the problem is given it, and has
+a short turn of its own, which ends where it doesn't work. Then the other engine begins, and all go on until one of them
+answers. What the engine calls a solution is written as a listing and is one where dlxcheck judges it to be one; that
+there is none is what the engine reports, and no proof. Which solution is the first in their order, how many there are
+and that these are all is for the programs alone to say.
 
 A nonogram of 25 by 25 takes cadical a second, and an exam timetable without a solution takes clasp one, where the
 programs come to no end. The command first has two seconds of CPU time, then the engine two alone, which are often
@@ -34,13 +35,13 @@ Option = TypeVar("Option", bound=Any)
 # The program is alone for so many seconds of a processor, with what this process takes beside it, or for this part of
 # its time where that is less.
 _ALONE_SECONDS, _ALONE_SHARE = 2.0, 0.25
-# Then the engine is, for so many seconds of a processor, or by the clock where it has had less; and both are.
-_TURN_SECONDS, _MOST_TURN = 2.0, 10.0
-# The engine may take so long, and the writing of the problem for it.
+# Then the first engine is, for so many seconds of a processor, or by the clock where it has had less; and one that
+# takes no time of a processor for so long hangs.
+_TURN_SECONDS, _MOST_TURN, _IDLE_SECONDS = 2.0, 10.0, 1.0
+# An engine may take so long, and the writing of the problem for it.
 _MOST_SECONDS, _MOST_WRITING = sat_solver.MOST_SECONDS, 8.0
-# After so many seconds without a solution, and without an engine, a line says what would help.
-_LONG_SECONDS = 10.0
-_HELP = "no solution yet; cadical or clasp, if it were on the path, would look for one too"
+# After so many seconds without a solution, and without an engine, a line says which one may find one.
+_LONG_SECONDS = 2.0
 _ORDER = "--shuffle tries the options in another order"
 
 
@@ -58,16 +59,19 @@ def solve(
     problem: Problem[Option],
     seconds: float | None = None,
     tell: Callable[[str], object] = lambda line: None,
-    hear: Hear = unheard,
+    hint: Callable[[str], bool] = lambda line: False,
+    report: Hear = unheard,
 ) -> Solutions[Option]:
     """One solution, whoever finds it.
 
-    tell: gets a line that says who found it, where that is an engine, and what an engine did wrong. hear: is told what
-    is at work. Raises what `Problem.solve` does, and `Claimed`.
+    tell: gets a line that says who found it, where that is an engine, and what an engine did wrong. hint: gets one,
+    once, that says which engine may find a solution, where none was found soon and the path has none, and says whether
+    it was shown; where it wasn't, `tell` gets it at the end of the time. report: is told what is at work. Raises what
+    `Problem.solve` does, and `Claimed`.
     """
 
     def begin(outcome: Outcome) -> Generator[Solution[Option], None, None]:
-        with _Beside(problem, seconds, tell, hear) as beside:
+        with _Beside(problem, seconds, tell, hint, report) as beside:
             try:
                 with problem._search(limit=1, seconds=seconds, meanwhile=beside.look) as solutions:
                     yield from solutions
@@ -77,7 +81,7 @@ def solve(
                 outcome.end(1, False)
             except OutOfTime as error:
                 beside.help()
-                error.beside = beside.name
+                error.beside = beside.names
                 raise
 
     return Solutions(begin, lambda most: solve(problem, sooner(seconds, most)))
@@ -91,78 +95,111 @@ class _Answered(Exception):
 
 
 class _Beside:
-    """An engine beside a program's search, looked at while that finds nothing."""
+    """Engines beside a program's search, looked at while that finds nothing."""
 
     def __init__(
-        self, problem: Problem[Any], seconds: float | None, tell: Callable[[str], object], hear: Hear
+        self,
+        problem: Problem[Any],
+        seconds: float | None,
+        tell: Callable[[str], object],
+        hint: Callable[[str], bool],
+        report: Hear,
     ) -> None:
         self._problem = problem
         self._tell = tell
-        self._hear = hear
+        self._hint = hint
+        self._report = report
         self._program = f"dlx{problem.kind}"
         self._begun, self._used = time.monotonic(), time.process_time()
         self._seconds = float("inf") if seconds is None else seconds
-        self._engine = sat_solver.find(problem)
-        self._asked: Asked | None = None
-        self._is_over = False
+        self._has_engines = False
+        self._waiting: list[sat_solver.Engine] | None = None
+        self._at_work: list[_Turn] = []
+        self._names: list[str] = []
+        self._is_helped = self._is_over = False
 
     def __enter__(self) -> _Beside:
         return self
 
     def __exit__(self, *_: object) -> None:
         self._is_over = True
-        if self._asked is not None:
-            self._asked.__exit__()
+        for turn in self._at_work:
+            turn.asked.__exit__()
 
     def look(self, run: Run) -> None:
-        """Begins the engine where it is time for it. Raises `_Answered` and `Claimed` where it has answered."""
+        """Begins an engine where it is time for it. Raises `_Answered` and `Claimed` where one has answered."""
         if self._is_over:
             return
-        if self._asked is not None:
-            self._look_at(self._asked, run)
-        elif self._engine is None:
-            if self._passed() > _LONG_SECONDS:
-                self.help()
-        elif self._worked(run) > _ALONE_SECONDS or self._passed() > self._seconds * _ALONE_SHARE:
-            left = self._seconds - self._passed()
-            if sat_solver.writing_seconds(self._problem) > min(left / 2, _MOST_WRITING):
-                self._is_over = True
-                self._tell(f"no solution yet; the problem is too large for {self._engine.name} here; {_ORDER}")
-            else:
-                self._asked = Asked(self._engine, self._problem, sat_solver.text(self._engine, self._problem))
-                self._hear(at_work=[self._program, self._engine.name])
-                run.pause()
+        if self._waiting is None:
+            self._waiting = sat_solver.found(self._problem)
+            self._has_engines = bool(self._waiting)
+        if not self._has_engines:
+            if not self._is_helped and self._passed() > _LONG_SECONDS:
+                self._is_helped = True
+                self._is_over = self._hint(sat_solver.missing(sat_solver.in_order(self._problem)[0]))
+            return
+        for turn in list(self._at_work):
+            self._look_at(turn, run)
+        if self._waiting and self._is_time(run):
+            self._begin(self._waiting.pop(0), run)
 
     def help(self) -> None:
-        """Says what would help, where there is no engine."""
-        if self._engine is None and not self._is_over and self._passed() > _ALONE_SECONDS:
+        """Says which engine may find a solution, where the path has none and it wasn't said."""
+        if not self._has_engines and not self._is_over and self._passed() > _ALONE_SECONDS:
             self._is_over = True
-            self._tell(_HELP)
+            self._tell(sat_solver.missing(sat_solver.in_order(self._problem)[0]))
 
     @property
-    def name(self) -> str:
-        """The engine that was asked, and nothing where none was."""
-        return "" if self._asked is None else self._asked.name
+    def names(self) -> str:
+        """The engines that were asked, and nothing where none was."""
+        return " and ".join(self._names)
 
     def _passed(self) -> float:
         return time.monotonic() - self._begun
 
-    def _worked(self, run: Run) -> float:
-        return run.worked() + time.process_time() - self._used
+    def _is_time(self, run: Run) -> bool:
+        """Whether one more engine may begin: where the program, or the engine before, has had its turn."""
+        if self._names:
+            return all(turn.is_over for turn in self._at_work)
+        worked = run.worked() + time.process_time() - self._used
+        return worked > _ALONE_SECONDS or self._passed() > self._seconds * _ALONE_SHARE
 
-    def _look_at(self, asked: Asked, run: Run) -> None:
-        passed = time.monotonic() - asked.begun
+    def _begin(self, engine: sat_solver.Engine, run: Run) -> None:
+        left = self._seconds - self._passed()
+        if sat_solver.writing_seconds(self._problem) > min(left / 2, _MOST_WRITING):
+            # It is for the others too.
+            self._is_over = not self._at_work
+            self._waiting = []
+            if self._is_over:
+                self._tell(f"no solution yet; the problem is too large for {engine.name} here; {_ORDER}")
+            return
+        turn = _Turn(Asked(engine, self._problem, sat_solver.text(engine, self._problem)))
+        self._at_work.append(turn)
+        if self._names:
+            # All go on from here.
+            turn.is_over = True
+        else:
+            run.pause()
+        self._names.append(engine.name)
+        self._tell_at_work()
+
+    def _tell_at_work(self) -> None:
+        self._report(at_work=[self._program, *(turn.asked.name for turn in self._at_work)])
+
+    def _look_at(self, turn: _Turn, run: Run) -> None:
+        asked = turn.asked
         try:
             if asked.has_ended():
                 self._end(asked.name, asked.numbers())
-            elif passed > _MOST_SECONDS:
+            elif time.monotonic() - asked.begun > _MOST_SECONDS:
                 raise NoAnswer.in_time(asked.name)
-            elif passed > _MOST_TURN or asked.worked() > _TURN_SECONDS:
+            elif turn.ends():
                 run.go_on()
         except NoAnswer as error:
-            self.__exit__()
+            asked.__exit__()
+            self._at_work.remove(turn)
+            self._tell_at_work()
             run.go_on()
-            self._hear(at_work=[self._program])
             self._tell(f"{error}; {self._program} goes on")
 
     def _end(self, name: str, numbers: list[int] | None) -> None:
@@ -172,3 +209,21 @@ class _Beside:
         found = f"{name} found a solution, and dlxcheck judges it to be one"
         self._tell(f"{found}; {self._program} had none in {self._passed():.2g} seconds")
         raise _Answered(numbers)
+
+
+class _Turn:
+    """An engine at work, and whether its turn is over, in which the program waits for it."""
+
+    def __init__(self, asked: Asked) -> None:
+        self.asked = asked
+        self.is_over = False
+        self._worked, self._at = 0.0, asked.begun
+
+    def ends(self) -> bool:
+        """Whether it has had its turn by now, or hangs."""
+        now, worked = time.monotonic(), self.asked.worked()
+        if worked > self._worked:
+            self._worked, self._at = worked, now
+        is_idle = now - self._at > _IDLE_SECONDS
+        self.is_over = self.is_over or is_idle or now - self.asked.begun > _MOST_TURN or worked > _TURN_SECONDS
+        return self.is_over

@@ -1,4 +1,4 @@
-"""Problems exported for other solvers, as answer set programs, OPB and DIMACS CNF: for costs, or a second opinion.
+"""Problems exported for other solvers, as answer set programs, OPB, DIMACS CNF and LP: for costs, or a second opinion.
 
 Each has a variable x1, x2, .. for each option in its order, and as many solutions as the problem: what other
 variables there are follows from these.
@@ -6,15 +6,22 @@ variables there are follows from these.
 
 from __future__ import annotations
 
-from collections.abc import Hashable, Iterator, Sequence
+from collections.abc import Callable, Hashable, Iterator, Sequence
 from dataclasses import dataclass
 from itertools import zip_longest
-from typing import Any
+from typing import TYPE_CHECKING, Any
 
 from ._reason.counting import Clauses
+from ._text.amounts import spelled
 from .problem import Problem
 
-__all__ = ["FORMATS", "asp", "cnf", "opb"]
+if TYPE_CHECKING:
+    from fractions import Fraction
+
+__all__ = ["FORMATS", "asp", "cnf", "lp", "opb"]
+
+# So many terms of a sum stand in a line of an LP file: readers of the format take lines of some hundred characters.
+_TERMS = 12
 
 
 @dataclass(frozen=True)
@@ -154,4 +161,55 @@ def clauses(problem: Problem[Any], let_off: Sequence[int] = ()) -> Clauses:
     return found
 
 
-FORMATS = {"asp": asp, "opb": opb, "cnf": cnf}
+def lp(problem: Problem[Any], costs: Sequence[Fraction | int] = ()) -> Iterator[str]:
+    """The lines of an integer program in the LP format of CPLEX. costs: of each option in their order; none are 0."""
+    options = len(problem.options)
+    last, rows = _rows(problem)
+    yield f"\\ x1 to x{options} take the options in their order"
+    yield "Minimize"
+    # All of them, so that the variables have the order of the options also for who goes by their first mention.
+    yield from _folded(" obj:", [_term(costs[x - 1] if costs else 0, x) for x in range(1, max(options, 1) + 1)])
+    yield "Subject To"
+    for terms, sign, bound in rows:
+        yield from _folded("", [*(_term(factor, x) for x, factor in terms), f"{sign} {bound}"])
+    yield "Binary"
+    yield from _folded("", [f"x{x}" for x in range(1, last + 1)])
+    yield "End"
+
+
+def _rows(problem: Problem[Any]) -> tuple[int, list[tuple[list[tuple[int, int]], str, int]]]:
+    """The last variable of a problem's rows, and these: variables and their factors, a sign, and a number."""
+    last = len(problem.options)
+    fresh = _counter(last)
+    rows = [([(number, 1)], "=", 0) for number in _ignored(problem)]
+    for item in _items(problem):
+        choices = _choices(item, fresh)
+        last += len(choices)
+        for variable, options in choices.items():
+            rows += [([(variable, 1), (option, -1)], ">=", 0) for option in options]
+            rows.append(([*((option, 1) for option in options), (variable, -1)], ">=", 0))
+        # The format has no empty sum.
+        held = [(variable, 1) for variable in [*item.options.get(None, []), *choices]] or [(1, 0)]
+        if item.low == item.high:
+            rows.append((held, "=", item.low))
+            continue
+        if item.low:
+            rows.append((held, ">=", item.low))
+        if len(held) > item.high:
+            rows.append((held, "<=", item.high))
+    # A problem without options has a variable too.
+    return max(last, 1), rows or [([(1, 0)], "=", 0)]
+
+
+def _term(factor: Fraction | int, variable: int) -> str:
+    size = f"{abs(factor)}" if isinstance(factor, int) else spelled(abs(factor))
+    return f"{'-' if factor < 0 else '+'} {size} x{variable}"
+
+
+def _folded(head: str, words: Sequence[str]) -> Iterator[str]:
+    """Words in lines that aren't too long, the first one after a head."""
+    for at in range(0, len(words), _TERMS):
+        yield f"{'' if at else head} {' '.join(words[at : at + _TERMS])}"
+
+
+FORMATS: dict[str, Callable[[Problem[Any]], Iterator[str]]] = {"asp": asp, "opb": opb, "cnf": cnf, "lp": lp}

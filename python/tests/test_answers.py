@@ -8,8 +8,8 @@ from folders import InFolder
 from test_commands import run
 
 from helgrothy import AnswerFault, Problem, make
-from helgrothy.answers import SOLVERS, solutions
-from helgrothy.export import FORMATS
+from helgrothy.answers import solutions
+from helgrothy.export import FORMATS, lp
 
 PAIR = Problem("abc", options=["ab", "c", "a", "bc"])
 
@@ -35,6 +35,57 @@ class Answers(InFolder):
         self.assertEqual(self.read("clasp", "Answer: 1\n\nSATISFIABLE\n", Problem({"a": (0, 1)}, options=["a"])), [[]])
         for text in ("s UNSATISFIABLE\n", "UNSATISFIABLE\n", "INCONSISTENT\n"):
             self.assertEqual(self.read("clasp", text), [])
+
+    def test_programs(self):
+        """cbc, glpsol and HiGHS, with what stands around their values."""
+        for solver, text in (
+            ("cbc", "log\nOptimal - objective value 2.00000000\n      0 x1  1  3\n      1 x2  0.9999999  0\n"),
+            ("cbc", "Stopped on time - objective value 2\n** 0 x2  1  3\n      1 x1  1  0\n      5 x9 1 0\nTotal time\n"),
+            ("glpsol", "c\ns mip 3 5 o 2\ni 1 1\nj 1 1\nj 2 1\nj 3 0\nj 4 1e-9\nj 5 1\ne o f\n"),
+            ("glpsol", "s mip 3 5 f 2\nj 1 1\nj 2 1\nj 3 0\nj 4 0\ne o f\n"),
+            (
+                "highs",
+                "Model status\nOptimal\n\n# Primal solution values\nFeasible\nObjective 2\n# Columns 5\nx1 1\nx2 1\nx3 0\nx4 -0\n"
+                "x5 1\n# Rows 1\nr1 1\n\n# Dual solution values\nNone\n# Columns 5\nx3 1\n",
+            ),
+        ):
+            with self.subTest(text=text):
+                self.assertEqual(self.read(solver, text), [[0, 1]])
+        for solver, text in (
+            ("cbc", "Infeasible - objective value 1\n 0 x1 1 0\n"),
+            ("cbc", "Integer infeasible - objective value 1\n** 0 x1 0.5 0\n"),
+            ("glpsol", "s mip 3 4 n 0\nj 1 0\ne o f\n"),
+            ("highs", "Model status\nInfeasible\n\n# Primal solution values\nNone\n"),
+        ):
+            with self.subTest(text=text):
+                self.assertEqual(self.read(solver, text), [])
+        for solver, text, wanted in (
+            ("cbc", "hello\n", "line 2: there is no answer of cbc"),
+            ("cbc", "Stopped on time (no integer solution - continuous used) - objective value 1\n", "it found none in its time"),
+            ("cbc", "Optimal - objective value 1\n 0 x1 0.5 0\n", "line 2: 0.5: a variable is 0 or 1"),
+            ("glpsol", "s mip 3 4 u 0\nj 1 0\ne o f\n", "it found none in its time"),
+            ("glpsol", "s mip 3 4 o 0\nj 1 x\ne o f\n", "line 2: x: a variable is 0 or 1"),
+            ("highs", "Model status\nTime limit reached\n\n# Primal solution values\nNone\n", "it found none in its time"),
+        ):
+            with self.subTest(text=text), self.assertRaises(AnswerFault) as raised:
+                self.read(solver, text)
+            self.assertIn(wanted, str(raised.exception))
+
+    @unittest.skipUnless(shutil.which("cbc") or shutil.which("glpsol"), "needs cbc or glpsol")
+    def test_real_programs(self):
+        """What they print for `export lp`, by their options for that."""
+        problem = make.queens.problem(6)
+        costs = [number % 5 for number in range(36)]
+        wanted = min(sum(costs[number] for number in one.numbers) for one in problem.solve())
+        path = self.file("exported.lp", "".join(f"{line}\n" for line in lp(problem, costs)))
+        out = path.replace("exported.lp", "answer")
+        for solver, words in (("cbc", [path, "solve", "solution", out]), ("glpsol", ["--lp", path, "-w", out])):
+            if shutil.which(solver):
+                subprocess.run([solver, *words], capture_output=True)
+                with open(out, "rb") as file:
+                    (found,) = solutions(solver, problem, file)
+                self.assertEqual(problem.check([found]), [True])
+                self.assertEqual(sum(costs[number] for number in found.numbers), wanted)
 
     def test_faults(self):
         for solver, text, wanted in (
@@ -73,7 +124,7 @@ class Answers(InFolder):
         self.assertEqual(run("import", "clasp", path, given="UNSATISFIABLE\n"), told)
         self.assertEqual(run("import", "clasp", "-", given="UNSATISFIABLE\n")[0], 2)
 
-    @unittest.skipUnless(all(map(shutil.which, SOLVERS)), "no other solvers")
+    @unittest.skipUnless(all(map(shutil.which, ("cadical", "clasp"))), "no other solvers")
     def test_solvers(self):
         problem = make.queens.problem(6)
         for solver, form, words in (

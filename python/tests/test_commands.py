@@ -39,7 +39,7 @@ MISTAKES = (
     (["search", "x.dlx", "--lis"], "helgrothy search: --lis: no such option (is it --list?); see helgrothy search --help"),
     (["rows", "--fr", "dlx1"], "helgrothy rows: --fr: no such option (is it --for?); see helgrothy rows --help"),
     (["export", "cmf"], "helgrothy export: cmf: no such format (is it cnf?); see helgrothy export --help"),
-    (["export", "xml"], "helgrothy export: xml: no such format (there are asp, cnf and opb); see helgrothy export --help"),
+    (["export", "xml"], "helgrothy export: xml: no such format (there are asp, cnf, lp and opb); see helgrothy export --help"),
     (["queens", "abc"], "helgrothy: abc: neither a number nor a file"),
     (["tests", "3,3,x", "--least"], "helgrothy: 3,3,x: neither numbers of values nor a file"),
     (["sudoku", f"{'1' * 299}!"], f"helgrothy: {'1' * 60} ..: neither clues nor a file"),
@@ -115,6 +115,13 @@ class Commands(InFolder):
         self.assertEqual(run("why", given="A\nA\n"), (1, "", "helgrothy: there is a solution\n"))
         self.assertEqual(run("why", given="A B\nA\n")[1].splitlines()[0], "can't all be held: B")
         self.assertEqual(run("export", "cnf", given="A\nA\n")[1].splitlines()[1:], ["p cnf 1 1", "1 0"])
+        path = self.file("costs", "A 2.5\nB -1\n")
+        status, text, told = run("export", "lp", "--cost", path, given="A B\nA\nB\nA B\n")
+        self.assertEqual((status, text.splitlines()[2], told), (0, " obj: + 2.5 x1 - 1 x2 + 1.5 x3", ""))
+        self.assertEqual(run("export", "cnf", "--cost", path, given="A\nA\n")[2], "helgrothy: --cost is of lp\n")
+        self.assertEqual(run("export", "lp", "--cost", "-")[0], 2)
+        wishes = run("make", "roster", self.file("roster", "- mon\nearly 1\n\nann 0:1 early=3\nbob 0:1\n"))[1]
+        self.assertIn("+ 3 x", run("export", "lp", given=wishes)[1])
 
     # A machine that does other things too finds none in a second or two.
     @mock.patch.object(solving, "_REASON_SECONDS", 99.0)

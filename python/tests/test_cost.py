@@ -1,10 +1,12 @@
-"""The solution of least cost is the least of all, with clasp and without it."""
+"""The solution of least cost is the least of all, by each of the engines and without them."""
 
 import os
 import random
 import shutil
 import tempfile
+import time
 import unittest
+from contextlib import ExitStack
 from decimal import Decimal
 from fractions import Fraction
 from unittest import mock
@@ -12,16 +14,42 @@ from unittest import mock
 from problems import problem_of
 from test_commands import run
 
-from helgrothy import Problem, TableFault, cost, make
-from helgrothy._reason import sat_solver
+from helgrothy import Problem, TableFault, cost, engines, make
+from helgrothy._reason import optimisers, sat_solver
 
-SOLVERS = ["clasp", "dlx3"] if shutil.which("clasp") else ["dlx3"]
+ENGINES = [name for name in optimisers.NAMES if shutil.which(name)]
+SOLVERS = ["dlx3", *ENGINES]
+
+
+class Hanging:
+    """A search of dlx3 that comes to no end."""
+
+    def __init__(self, problem, costs, deadline, beside) -> None:
+        self.look = beside.look
+
+    def solutions(self):
+        while True:
+            self.look()
+            time.sleep(0.01)
+            yield from ()
 
 
 def least(problem, costs, by, seconds=None):
     """The least by one of the ways."""
-    with mock.patch.object(sat_solver, "path_of", lambda name: shutil.which(name) if by == "clasp" else None):
-        return cost.least(problem, costs, seconds)
+    # Engines aren't asked where there is nothing to choose.
+    if by == "dlx3" or not problem.options:
+        with mock.patch.object(sat_solver, "path_of", lambda name: None):
+            return cost.least(problem, costs, seconds)
+    with ExitStack() as stack:
+        stack.enter_context(mock.patch.object(sat_solver, "path_of", lambda name: shutil.which(name) if name == by else None))
+        stack.enter_context(mock.patch.object(cost, "Bounds", Hanging))
+        stack.enter_context(mock.patch.object(cost._Reasoning, "look", lambda *words: None))
+        stack.enter_context(mock.patch.multiple(cost, _ENGINE_SECONDS=-1.0, _PROOF_SECONDS=0.0, _NONE_SECONDS=0.0))
+        try:
+            return cost.least(problem, costs, seconds, print)
+        except engines.Claimed as claim:
+            assert claim.by == by
+            return None
 
 
 class Cost(unittest.TestCase):
@@ -36,11 +64,13 @@ class Cost(unittest.TestCase):
             costs = [rng.choice(kinds)() for _ in problem.options]
             wanted = min((sum(costs[place] for place in one.numbers) for one in problem.solve()), default=None)
             solved += wanted is not None
-            for by in SOLVERS:
+            for by in SOLVERS if number % 4 == 0 else ["dlx3"]:
                 found = least(problem, costs, by)
                 self.assertEqual(None if found is None else found.cost, wanted, (by, problem.text, costs))
-                if found is not None and problem.options:
-                    self.assertEqual(found.by, by)
+                if found is not None:
+                    # What is known from the beginning is by prices.
+                    by = by if problem.options else "dlx3"
+                    self.assertIn((found.by, found.is_proved), [(by, by == "dlx3"), ("prices", True)])
                     self.assertEqual(found.cost, sum(costs[place] for place in found.numbers))
                     self.assertEqual(found, [problem.options[place] for place in found.numbers])
 
@@ -59,7 +89,9 @@ class Cost(unittest.TestCase):
                 ([0.1, 0.2, 0.4], Fraction(3, 10)), ([Decimal("1e-9"), 0, 1], Fraction(1, 10**9)), ([-1, -1, -3], -3),
                 ([10**30, 10**30, 10**31], 2 * 10**30), ([0, 0, 0], 0),
             ):  # fmt: skip
-                self.assertEqual(least(problem, costs, by).cost, wanted)
+                # Engines don't take numbers that are too large.
+                if by == "dlx3" or max(costs) < 10**30:
+                    self.assertEqual(least(problem, costs, by).cost, wanted)
         for costs in ([1, 2], [1, 2, 3, 4], [1, 2, float("nan")]):
             with self.assertRaises(ValueError):
                 cost.least(problem, costs)
@@ -75,12 +107,12 @@ class Cost(unittest.TestCase):
         rng = random.Random(8)
         problem = make.queens.problem(20)
         costs = [rng.randint(1, 10**5) for _ in problem.options]
-        for by in SOLVERS:
+        with mock.patch.object(sat_solver, "path_of", lambda name: shutil.which(name) if name == "clasp" else None):
             with self.assertRaises(cost.NotLeast) as raised:
-                least(problem, costs, by, 1.0)
-            best = raised.exception.best
-            if best is not None:
-                self.assertEqual(problem.check([best]), [True])
+                cost.least(problem, costs, 1.0)
+        best = raised.exception.best
+        if best is not None:
+            self.assertEqual(problem.check([best]), [True])
 
     def test_costs(self):
         self.assertEqual(cost.read("| a comment\n1 -2.5\n\t+0.25 .5 7.\n", 5), [1, Fraction(-5, 2), Fraction(1, 4), Fraction(1, 2), 7])
@@ -125,6 +157,30 @@ class Cost(unittest.TestCase):
             status, text, told = solve(costs, "--seconds", "2", given=make.queens.problem(20).text)
             self.assertEqual((status, text.count("Q") in (0, 20)), (2, True))
             self.assertRegex(told, "is the least cost that was found; in 2 seconds it wasn't proved that there is no less|no solution|done")
+
+    def test_a_solution_of_an_engine_narrows_the_bounds(self):
+        """dlx3 proves what another way found, and prices begin before their time where it is urgent."""
+        rng = random.Random(11)
+        problem = make.queens.problem(9)
+        costs = [rng.randint(1, 64) for _ in problem.options]
+        wanted = min((sum(costs[at] for at in one.numbers), one.numbers) for one in problem.solve())
+
+        class Finds:
+            """Of an engine that finds it, and says no more."""
+
+            name, numbers, cost = "clasp", wanted[1], wanted[0]
+            is_over = is_least = is_none = False
+
+            def hear(self):
+                pass
+
+            def end(self):
+                pass
+
+        with mock.patch.object(cost, "Optimiser", lambda *words: Finds()), mock.patch.object(cost, "_ENGINE_SECONDS", -1.0):
+            with mock.patch.object(optimisers, "found", lambda costs: [sat_solver.Engine("clasp", "clasp")]):
+                found = cost.least(problem, costs)
+        self.assertEqual((found.cost, found.is_proved), (wanted[0], True))
 
 
 if __name__ == "__main__":

@@ -12,11 +12,11 @@ from contextlib import ExitStack
 from unittest import mock
 
 from folders import InFolder
-from test_commands import run, run_until
+from test_commands import Pipe, run, run_until
 
-from helgrothy import Problem, cost, engines, make
+from helgrothy import OutOfTime, Problem, cost, engines, make
 from helgrothy._cli import acts, console
-from helgrothy._reason import sat_solver
+from helgrothy._reason import optimisers, sat_solver
 from helgrothy._run import programs
 
 # A problem with one solution, options 1, 4 and 5; and one without, of which no sum says so.
@@ -26,6 +26,7 @@ NUMBERS, FOUND = [0, 3, 4], "A C x:1\nB\nD\n"
 NONE = make.queens.problem(3).text
 PATH = os.environ.get("PATH", os.defpath)
 REAL = [name for name in sat_solver.SOLVERS if shutil.which(name)]
+REAL_FOR_COSTS = [name for name in optimisers.NAMES if shutil.which(name)]
 
 # What an engine does in place of an answer, and what is told of it.
 FALSE = {
@@ -82,8 +83,8 @@ class WithEngines(InFolder):
         """The programs do something first, such as to sleep."""
         bin = os.path.join(self.folder, "bin")
         os.mkdir(bin)
-        for name in programs.PROGRAMS:
-            real = programs.find(name)
+        self.real = {name: programs.find(name) for name in programs.PROGRAMS}
+        for name, real in self.real.items():
             if name in ("dlx1", "dlx2", "dlx3"):
                 self.script(f"bin/{name}", f'{before}\nexec "{real}" "$@"')
             else:
@@ -175,7 +176,7 @@ class Solving(WithEngines):
         for name, (script, wanted) in FALSE.items():
             with self.subTest(name):
                 forget()
-                self.engine(script)
+                self.engine(script, "cadical")
                 status, out, told = run("solve", self.problem, "--seconds", "600")
                 self.assertEqual((status, out), (0, FOUND), told)
                 first, *rest = told.splitlines()
@@ -190,8 +191,34 @@ class Solving(WithEngines):
         self.program("/bin/sleep 1")
         self.assertEqual(run("solve", self.problem), (0, FOUND, "Altogether 1 solution (limit).\n"))
 
-    def test_one_that_hangs_until_its_time_is_over(self):
+    def test_one_that_hangs_lets_the_others_go_on(self):
+        """Its turn ends where it takes no time of a processor."""
+        self.program("exec /bin/sleep 1000")
+        self.engine(HANG, "cadical")
+        self.engine("echo s SATISFIABLE; echo v 1 -2 -3 4 5 6 7 0; exit 10", "clasp")
+        with mock.patch.multiple(engines, _MOST_TURN=600.0, _IDLE_SECONDS=0.2):
+            status, out, told = run("solve", self.problem, "--seconds", "600")
+        self.assertEqual((status, out), (0, FOUND))
+        self.assertIn("clasp found a solution", told)
         self.engine(HANG)
+        for name in ("dlx1", "dlx2", "dlx3"):
+            os.remove(os.path.join(self.folder, "bin", name))
+            os.symlink(self.real[name], os.path.join(self.folder, "bin", name))
+        with mock.patch.multiple(engines, _MOST_TURN=600.0, _IDLE_SECONDS=0.2):
+            self.assertEqual(run("solve", self.problem, "--seconds", "600")[:2], (0, FOUND))
+
+    def test_the_other_one_where_the_first_fails(self):
+        self.program("exec /bin/sleep 1000")
+        self.engine("echo hello", "cadical")
+        self.engine("echo s UNSATISFIABLE; exit 20", "clasp")
+        status, _, told = run("solve", self.problem, "--seconds", "600")
+        self.assertEqual(status, 1)
+        first, second = told.splitlines()
+        self.assertIn("cadical gave no answer", first)
+        self.assertIn("clasp reports that there is no solution; dlx2 hasn't proved it", second)
+
+    def test_one_that_hangs_until_its_time_is_over(self):
+        self.engine(HANG, "cadical")
         self.after_the_engine()
         with mock.patch.object(engines, "_MOST_SECONDS", 0.5):
             told = run("solve", self.problem)[2]
@@ -202,7 +229,7 @@ class Solving(WithEngines):
         self.program("exec /bin/sleep 1000")
         status, out, told = run("solve", self.problem, "--seconds", "1")
         self.assertEqual((status, out), (2, ""))
-        self.assertIn("0 solutions till then, and cadical had none either\n", told)
+        self.assertRegex(told, "0 solutions till then, and cadical(?: and clasp)? had none either\n")
 
     def test_one_that_would_take_too_long_to_write_to(self):
         self.program("/bin/sleep 1")
@@ -214,7 +241,7 @@ class Solving(WithEngines):
     def test_kinds(self):
         self.after_the_engine()
         clues = self.file("clues.txt", "1\n1\n\n1\n1\n")
-        self.engine("echo hello")
+        self.engine("echo hello", "cadical")
         status, out, told = run("nonogram", clues)
         self.assertEqual((status, out.count("#")), (0, 2))
         self.assertIn("cadical gave no answer (line 1: hello: no line of an answer of cadical); dlx2 goes on\n", told)
@@ -231,12 +258,23 @@ class Solving(WithEngines):
             self.assertIsNone(sat_solver.find(Problem.parse(TEXT)))
 
     def test_no_engine(self):
+        """The line comes once, soon where there is a terminal, and else at the end of the time."""
         self.program("/bin/sleep 1")
+        line = "no solution yet; cadical, which isn't on the path, may find one"
+        self.assertEqual(sat_solver.missing("cadical"), line)
         with mock.patch.object(engines, "_LONG_SECONDS", 0.0), mock.patch.object(engines, "_ALONE_SECONDS", 0.0):
-            status, out, told = run("solve", self.problem)
-            self.assertEqual((status, out), (0, FOUND))
-            self.assertEqual(told, f"{engines._HELP}\nAltogether 1 solution (limit).\n")
+            for is_terminal, told in ((True, f"{line}\n"), (False, "")):
+                with mock.patch.object(Pipe, "isatty", lambda pipe: is_terminal):
+                    self.assertEqual(run("solve", self.problem)[2], f"{told}Altogether 1 solution (limit).\n")
+                    told = run("solve", self.problem, "--seconds", "0.4")[2]
+                    self.assertEqual((told.count(line), told.splitlines()[0]), (1, line))
         self.assertEqual(run("solve", self.problem)[2], "Altogether 1 solution (limit).\n")
+
+    def test_no_engine_for_a_kind(self):
+        self.program("/bin/sleep 0.5")
+        with mock.patch.object(engines, "_LONG_SECONDS", 0.0), mock.patch.object(Pipe, "isatty", lambda pipe: True):
+            told = run("queens", "6")[2]
+        self.assertEqual(told.splitlines()[0], "no solution yet; clasp, which isn't on the path, may find one")
 
     def test_where_the_command_is_killed(self):
         """The guard ends the engine, and what it has begun."""
@@ -264,7 +302,7 @@ class Solving(WithEngines):
             os.remove(os.path.join(self.folder, "path", name))
 
 
-# An answer that is right, one that costs more, and what clasp does in place of a search, with what is told of it.
+# An answer that is right, one that is none, and what clasp does in place of a search, with what is told of it.
 GOOD, WORSE = "echo v x1 -x2 -x3 x4 x5; echo o 2", "echo v x1 x2 -x3 -x4 x5; echo o 5"
 FALSE_COSTS = {
     "nonsense": ("echo hello", "gave no answer (line 1: hello: no line of an answer"),
@@ -291,84 +329,265 @@ FALSE_COSTS = {
     "leaves a child of a deaf one": (f"(trap '' TERM; echo $$ >> PIDS; /bin/sleep 1000) & {GOOD}; exit 3", "costs least"),
 }
 LEAST = "The least cost is 2."
+HINT = "`helgrothy why` may say which items conflict"
+
+
+def lines(*texts: str, to: str = "") -> str:
+    return "; ".join(f"echo '{text}' {to}" for text in texts)
+
+
+def of_highs(status: str, *more: str) -> str:
+    return lines("Model status", status, "", "# Primal solution values", *more, to=">&3")
+
+
+# What the engines say of a right answer, that there is none, that they found one, and that they found none in time.
+RIGHT = {
+    "clasp": f"{GOOD}; echo s OPTIMUM FOUND; exit 30",
+    "highs": "echo log; "
+    + of_highs("Optimal", "Feasible", "Objective 2", "# Columns 7", "x1 1", "x2 0", "x3 -0", "x4 1", "x5 1", "x6 1", "x7 0", "# Rows 9", "r1 1"),
+    "cbc": lines("log", "Optimal - objective value 2", "  0 x1  1  3", "  3 x4  0.99999999  -1", "  4 x5 1 0", "  5 x6 1 0", ""),
+    "glpsol": lines("c log", "s mip 9 7 o 2", "i 1 1", "j 1 1", "j 2 0", "j 3 0", "j 4 1", "j 5 1", "j 6 1", "j 7 0", "e o f", to=">&3"),
+}
+NO_SOLUTION = {
+    "clasp": "echo s UNSATISFIABLE; exit 20",
+    "highs": of_highs("Infeasible", "None", "# Dual solution values", "None"),
+    "cbc": lines("Problem is infeasible", "Integer infeasible - objective value 1.5", "** 0 x1 0.5 0"),
+    "glpsol": lines("s mip 9 7 n 0", "j 1 0", "j 2 0", "j 3 0", "j 4 0", "j 5 0", "e o f", to=">&3"),
+}
+FOUND_ONLY = {
+    "clasp": f"{GOOD}; {HANG}",
+    "highs": RIGHT["highs"].replace("Optimal", "Time limit reached"),
+    "cbc": RIGHT["cbc"].replace("Optimal", "Stopped on time"),
+    "glpsol": RIGHT["glpsol"].replace(" o 2", " f 2"),
+}
+IN_VAIN = {
+    "clasp": "echo s UNKNOWN; exit 0",
+    "highs": of_highs("Time limit reached", "None"),
+    "cbc": lines("Stopped on time (no integer solution - continuous used) - objective value 1.5", "  0 x1  0.5  3"),
+    "glpsol": lines("s mip 9 7 u 0", "j 1 0", "e o f", to=">&3"),
+}
+# What else they do wrong, with what is told of it.
+FALSE_PROGRAMS = (
+    ("highs", of_highs("Optimal", "Feasible", "# Columns 7", "x1 1", "x2 1", "# Rows 9"), "is none, as dlxcheck judges it"),
+    ("highs", "echo hello; exit 3", "gave no answer (line 1: there is no answer of highs)"),
+    ("cbc", lines("Optimal - objective value 2", "  0 x1  1  3"), "is none, as dlxcheck judges it"),
+    ("cbc", lines("Optimal - objective value 2", "  0 x1  0.5  3"), "0.5: a variable is 0 or 1"),
+    ("cbc", "/usr/bin/yes hello", "writes on and on, and no better answer"),
+    ("glpsol", lines("s mip 9 7 o 2", "j 1 nan", to=">&3"), "nan: a variable is 0 or 1"),
+    ("glpsol", lines("s mip 9 7 o 2", "j 1 1", "j 2 1", "e o f", to=">&3"), "is none, as dlxcheck judges it"),
+    ("glpsol", "echo 'no such format' >&2; exit 1", "gave no answer (no such format)"),
+)
+# Of six options 1 and 2 cost least, 2 in all. An engine that says that 3 and 6, which cost 14, do.
+SMALL, SMALL_COSTS = "a b c\na b\nc\na\nb\nc\nb c\n", "1 1 5 5 5 9"
+LIES = "echo v -x1 -x2 x3 -x4 -x5 x6; echo s OPTIMUM FOUND; exit 30"
+
+
+class Hanging:
+    """A search of dlx3 that comes to no end."""
+
+    def __init__(self, problem, costs, deadline, beside) -> None:
+        self.look = beside.look
+        self.deadline = deadline
+
+    def solutions(self):
+        while self.deadline is None or time.monotonic() < self.deadline:
+            self.look()
+            time.sleep(0.01)
+        raise OutOfTime("the time is over")
+        yield
 
 
 class Costs(WithEngines):
-    """The same for the solution of least cost, which is asked of clasp from the beginning."""
+    """The same for the solution of least cost, which dlx3 looks for beside all engines."""
 
     def setUp(self) -> None:
         super().setUp()
         self.costs = self.file("costs", "A 3\nB -1\n")
+        stack = ExitStack()
+        self.addCleanup(stack.close)
+        stack.enter_context(mock.patch.multiple(cost, _ENGINE_SECONDS=-1.0, _PROOF_SECONDS=0.0, _NONE_SECONDS=0.2))
+        # What shows it beside dlx3 would be the first, in the end.
+        stack.enter_context(mock.patch.object(cost._Reasoning, "look", lambda *words: None))
 
-    def test_a_right_one(self):
-        for end in ("exit 30", "exec /bin/sleep 1000", "while :; do echo; done", "/bin/sleep 1000 & echo $! >> PIDS"):
+    def solve(self, *words: str):
+        return run("solve", self.problem, "--cost", self.costs, *words)
+
+    def dlx3_hangs(self) -> None:
+        """Nor do bounds alone show anything."""
+        patch = mock.patch.object(cost, "Bounds", Hanging)
+        patch.start()
+        self.addCleanup(patch.stop)
+
+    def test_right_ones(self):
+        """What they report is told as theirs."""
+        self.dlx3_hangs()
+        for name, script in RIGHT.items():
+            with self.subTest(name):
+                self.engine(script, name)
+                status, out, told = self.solve()
+                told = told.splitlines()[0]
+                self.assertEqual((status, out), (0, FOUND))
+                self.assertEqual(told, f"2 is the least cost that was found; {name} reports that none is cheaper.")
+                found = cost.least(Problem.parse(TEXT), [3, 2, 0, -1, 0])
+                self.assertEqual((found.by, found.is_proved, found.cost), (name, False, 2))
+                self.nothing_is_left()
+                os.remove(os.path.join(self.folder, "path", name))
+        for end in ("exec /bin/sleep 1000", "while :; do echo; done", "/bin/sleep 1000 & echo $! >> PIDS"):
             self.engine(f"{GOOD}; echo s OPTIMUM FOUND; {end}", "clasp")
-            status, out, told = run("solve", self.problem, "--cost", self.costs)
+            status, out, told = self.solve()
+            self.assertEqual((status, out), (0, FOUND))
+            self.nothing_is_left()
+
+    def test_all_at_once(self):
+        """One that hangs stops no other."""
+        self.dlx3_hangs()
+        for name in RIGHT:
+            with self.subTest(name):
+                self.engine(HANG, *RIGHT)
+                self.engine(RIGHT[name], name)
+                status, out, told = self.solve("--seconds", "600")
+                self.assertEqual((status, out), (0, FOUND))
+                self.assertIn(f"; {name} reports that none is cheaper.", told)
+                self.nothing_is_left()
+
+    def test_what_dlx3_shows_is_no_report(self):
+        """In the time that it has after a report, and where it is the first."""
+        for script in (RIGHT["clasp"], HANG):
+            self.engine(script, "clasp")
+            with mock.patch.multiple(cost, _PROOF_SECONDS=600.0, _LEAST_PROOF_SECONDS=600.0):
+                status, out, told = self.solve("--seconds", "600")
             self.assertEqual((status, out, told.splitlines()[0]), (0, FOUND, LEAST))
             self.nothing_is_left()
 
+    def test_a_wrong_report(self):
+        """dlx3 shows it to be wrong, before it is told and after."""
+        small, costs = self.file("small.dlx", SMALL), self.file("small.cost", SMALL_COSTS)
+        self.engine(LIES, "clasp")
+        status, _, told = run("solve", small, "--cost", costs)
+        self.assertEqual((status, told.splitlines()[0]), (0, LEAST))
+        self.after_the_engine()
+        self.engine(LIES.replace("echo s", "echo c; echo s"), "clasp")
+        self.engine("/bin/sleep 1; " + lines("Optimal - objective value 2", " 0 x1 1 1", " 1 x2 1 1"), "cbc")
+        with mock.patch.multiple(cost, _PROOF_SECONDS=600.0, _LEAST_PROOF_SECONDS=600.0):
+            status, _, told = run("solve", small, "--cost", costs, "--seconds", "600")
+        first, second, *_ = told.splitlines()
+        wanted = "clasp reports that none costs less than its solution, and one does; dlx3 goes on"
+        self.assertEqual((status, first, second), (0, wanted, LEAST))
+
+    def test_none_is_a_claim(self):
+        for name, script in NO_SOLUTION.items():
+            with self.subTest(name):
+                self.engine(script, name)
+                none = self.file("none.costs", "r1 1\n")
+                status, out, told = run("solve", self.none, "--cost", none)
+                self.assertEqual((status, out, told.splitlines()[0]), (1, "", "Altogether 0 solutions."))
+                os.remove(os.path.join(self.folder, "path", name))
+        self.dlx3_hangs()
+        for name, script in NO_SOLUTION.items():
+            with self.subTest(name):
+                self.engine(script, name)
+                told = f"{name} reports that there is no solution; dlx1 hasn't proved it; {HINT}\n"
+                self.assertEqual(run("solve", self.none, "--cost", none), (1, "", told))
+                os.remove(os.path.join(self.folder, "path", name))
+
+    def test_none_where_there_is_one(self):
+        self.dlx3_hangs()
+        self.engine("/bin/sleep 1; " + RIGHT["cbc"], "cbc")
+        for name in ("clasp", "glpsol"):
+            self.engine(NO_SOLUTION[name], name)
+            with mock.patch.object(cost, "_NONE_SECONDS", 600.0):
+                status, out, told = self.solve("--seconds", "600")
+            first, second, *_ = told.splitlines()
+            self.assertEqual((status, out), (0, FOUND))
+            self.assertEqual(first, f"{name} reports that there is no solution, and there is one; dlx3 goes on")
+            self.assertEqual(second, "2 is the least cost that was found; cbc reports that none is cheaper.")
+            os.remove(os.path.join(self.folder, "path", name))
+
+    def test_no_proof(self):
+        """What was found is shown, if it is a solution."""
+        self.dlx3_hangs()
+        wanted = "helgrothy: 2 is the least cost that was found; in 0.5 seconds it wasn't proved that there is no less; --seconds gives more"
+        for name, script in FOUND_ONLY.items():
+            with self.subTest(name), mock.patch.object(cost, "MOST_SECONDS", 0.5):
+                self.engine(script, name)
+                status, out, told = self.solve()
+                self.assertEqual((status, out, told.splitlines()[0]), (2, FOUND, wanted))
+                os.remove(os.path.join(self.folder, "path", name))
+        for name, script in IN_VAIN.items():
+            with self.subTest(name):
+                self.engine(script, name)
+                status, out, told = self.solve("--seconds", "1")
+                self.assertEqual((status, out), (2, ""))
+                self.assertIn("it found none in its time); dlx3 goes on\n", told)
+                self.assertTrue(told.endswith("helgrothy: no solution was found in 1 seconds\n"), told)
+                os.remove(os.path.join(self.folder, "path", name))
+
     def test_false_ones(self):
-        for name, (script, wanted) in FALSE_COSTS.items():
-            # On a slow machine the search that has turns while an engine is heard would end before the flood is noticed.
-            turns = sat_solver._HEAR_SECONDS if "flood" not in name else 60
-            with self.subTest(name), mock.patch.object(sat_solver, "_HEAR_SECONDS", turns):
-                self.engine(script, "clasp")
-                for words in ([], ["--seconds", "600"]):
-                    status, out, told = run("solve", self.problem, "--cost", self.costs, *words)
-                    first, *rest = told.splitlines()
-                    self.assertEqual((status, out, rest[:1]), (0, FOUND, [LEAST]), told)
-                    self.assertIn(wanted, first)
-                    self.assertTrue(first.endswith("; dlx3 goes on"), told)
-                    self.assertLess(len(first), 400)
-                    self.nothing_is_left()
+        forget = self.after_the_engine()
+        cases = [("clasp", script, wanted) for name, (script, wanted) in FALSE_COSTS.items() if not name.startswith("none")]
+        for name, script, wanted in [*cases, *FALSE_PROGRAMS]:
+            with self.subTest(name=name, script=script):
+                forget()
+                self.engine(script, name)
+                status, out, told = self.solve("--seconds", "600")
+                first, *rest = told.splitlines()
+                self.assertEqual((status, out, rest[:1]), (0, FOUND, [LEAST]), told)
+                self.assertIn(wanted, first)
+                self.assertTrue(first.endswith("; dlx3 goes on"), told)
+                self.assertLess(len(first), 400)
+                self.nothing_is_left()
+                os.remove(os.path.join(self.folder, "path", name))
 
     def test_one_that_leaves_a_child_out_of_reach(self):
         """It isn't waited for, though it holds the output."""
+        self.after_the_engine()
         other = os.path.join(self.folder, "other")
         self.engine(f"setsid /bin/sleep 1000 & echo $! > {other}; {GOOD}; exit 3", "clasp")
         with mock.patch.dict(os.environ, PATH=f"{os.environ['PATH']}:/usr/bin:/bin"):
-            status, out, told = run("solve", self.problem, "--cost", self.costs)
+            path = [name for name in RIGHT if name != "clasp" and shutil.which(name)]
+            with mock.patch.object(sat_solver, "path_of", lambda name: None if name in path else shutil.which(name)):
+                status, out, told = self.solve()
         with open(other) as file:
             os.kill(int(file.read()), signal.SIGKILL)
         self.assertEqual((status, out, told.splitlines()[1]), (0, FOUND, LEAST))
 
     def test_one_that_hangs(self):
-        """Without seconds it has a time of its own."""
+        """dlx3 answers beside it, and without seconds an engine has a time of its own."""
         deaf = "trap '' XFSZ; while :; do echo $$ $$ $$ $$ $$ $$ $$ $$ $$ $$ >&2; done 2> /dev/null"
-        for script in (HANG, f"/bin/sleep 1000 & echo $! >> PIDS; {HANG}", deaf):
-            self.engine(script, "clasp")
-            with mock.patch.object(cost, "MOST_SECONDS", 0.5):
-                status, out, told = run("solve", self.problem, "--cost", self.costs)
-            self.assertEqual((status, out), (0, FOUND))
-            self.assertEqual(told.splitlines()[:2], ["clasp gave no answer in its time; dlx3 goes on", LEAST])
-            status, out, told = run("solve", self.problem, "--cost", self.costs, "--seconds", "1")
-            self.assertEqual((status, out, told), (2, "", "helgrothy: no solution was found in 1 seconds\n"))
+        hanging = (HANG, f"/bin/sleep 1000 & echo $! >> PIDS; {HANG}", deaf)
+        for script in hanging:
+            self.engine(script, *RIGHT)
+            status, out, told = self.solve("--seconds", "600")
+            self.assertEqual((status, out, told.splitlines()[0]), (0, FOUND, LEAST))
             self.nothing_is_left()
-
-    def test_one_that_hangs_after_an_answer(self):
-        """What was found is shown, if it is a solution."""
-        with mock.patch.object(cost, "MOST_SECONDS", 0.5):
-            for hang in (HANG, "while :; do echo c; /bin/sleep 0.1; done"):
-                self.engine(f"{GOOD}; {hang}", "clasp")
-                status, out, told = run("solve", self.problem, "--cost", self.costs)
-                self.assertEqual((status, out), (2, FOUND))
-                self.assertEqual(
-                    told.splitlines()[0],
-                    "helgrothy: 2 is the least cost that was found; in 0.5 seconds it wasn't proved that there is no less; "
-                    "--seconds gives more",
-                )
-            self.engine(f"{WORSE}; {HANG}", "clasp")
-            status, out, told = run("solve", self.problem, "--cost", self.costs)
-            self.assertEqual((status, out, told.splitlines()[1]), (0, FOUND, LEAST))
-            self.assertEqual(told.splitlines()[0], "what clasp calls a solution is none, as dlxcheck judges it; dlx3 goes on")
-
-    def test_one_that_hangs_beside_a_sweep(self):
-        """The sweep begins by the clock, where clasp takes no time of a processor."""
+        self.after_the_engine()
+        for name in list(RIGHT)[1:]:
+            os.remove(os.path.join(self.folder, "path", name))
         self.engine(HANG, "clasp")
-        with mock.patch.object(cost, "_MOST_ALONE", 0.2):
-            status, out, told = run("solve", self.problem, "--cost", self.costs)
-        self.assertEqual((status, sorted(out.splitlines())), (0, FOUND.splitlines()))
-        self.assertEqual(told.splitlines()[0], LEAST)
+        with mock.patch.object(cost, "MOST_SECONDS", 0.5):
+            told = self.solve()[2]
+        self.assertEqual(told.splitlines()[:2], ["clasp gave no answer in its time; dlx3 goes on", LEAST])
+
+    def test_where_all_hang(self):
+        self.dlx3_hangs()
+        self.engine(HANG, *RIGHT)
+        self.assertEqual(self.solve("--seconds", "1"), (2, "", "helgrothy: no solution was found in 1 seconds\n"))
+
+    def test_one_that_would_take_too_long_to_write_to(self):
+        self.after_the_engine()
+        self.engine(HANG, "cbc")
+        with mock.patch.object(cost, "_MOST_WRITING", 0.0):
+            told = self.solve()[2]
+        self.assertEqual(told.splitlines()[:2], ["the problem is too large for cbc here; dlx3 goes on", LEAST])
+
+    def test_no_engine(self):
+        """The line comes once, soon where there is a terminal, and else at the end."""
+        self.dlx3_hangs()
+        line = "no solution yet; clasp or cbc, which aren't on the path, may find one"
+        for is_terminal in (True, False):
+            with mock.patch.object(cost, "_LONG_SECONDS", 0.0), mock.patch.object(Pipe, "isatty", lambda pipe: is_terminal):
+                told = self.solve("--seconds", "1")[2]
+            self.assertEqual(told, f"{line}\nhelgrothy: no solution was found in 1 seconds\n")
 
     def test_memory(self):
         """A flood takes no more than an answer does, and a little."""
@@ -376,6 +595,7 @@ class Costs(WithEngines):
         where = {**os.environ, "PYTHONPATH": os.path.dirname(os.path.dirname(engines.__file__))}
         words = [sys.executable, "-c", code, "solve", self.problem, "--cost", self.costs]
         used = {}
+        self.program("/bin/sleep 1")
         for name in ("nothing", *(name for name in FALSE_COSTS if "flood" in name or name.endswith("without an end"))):
             self.engine(FALSE_COSTS[name][0], "clasp")
             command = subprocess.Popen(words, env=where, stdout=subprocess.DEVNULL, stderr=subprocess.DEVNULL)
@@ -384,16 +604,26 @@ class Costs(WithEngines):
             used[name] = used_by.ru_maxrss >> 10
         self.assertLess(max(used.values()), used["nothing"] + 60, used)
 
-    def test_none_is_a_claim_where_the_program_does_not_show_it(self):
-        self.engine("echo s UNSATISFIABLE; exit 20", "clasp")
-        none = self.file("costs", "r1 1\n")
-        status, out, told = run("solve", self.none, "--cost", none)
-        self.assertEqual((status, out, told.splitlines()[0]), (1, "", "Altogether 0 solutions."))
-        self.program("exec /bin/sleep 1000")
-        with mock.patch.object(cost, "_NONE_SECONDS", 0.5):
-            status, out, told = run("solve", self.none, "--cost", none)
-        hint = "`helgrothy why` may say which items conflict"
-        self.assertEqual((status, out, told), (1, "", f"clasp reports that there is no solution; dlx1 hasn't proved it; {hint}\n"))
+    def test_no_folder_is_left(self):
+        self.dlx3_hangs()
+        folder = os.path.join(self.folder, "temporary")
+        os.mkdir(folder)
+        with mock.patch("tempfile.tempdir", folder):
+            for name, script in RIGHT.items():
+                self.engine(f"echo > left; {script}", name)
+            self.solve()
+        self.assertEqual(os.listdir(folder), [])
+
+    @unittest.skipUnless(REAL_FOR_COSTS, "needs clasp, cbc, glpsol or highs")
+    def test_real_ones(self):
+        self.dlx3_hangs()
+        for name in REAL_FOR_COSTS:
+            os.symlink(shutil.which(name, path=PATH), os.path.join(self.folder, "path", name))
+            with self.subTest(name):
+                self.assertIn(f"; {name} reports that none is cheaper.", self.solve("--seconds", "600")[2])
+                told = run("solve", self.none, "--cost", self.file("none.costs", "r1 1\n"))[2]
+                self.assertIn(f"{name} reports that there is no solution", told)
+            os.remove(os.path.join(self.folder, "path", name))
 
 
 class Whys(WithEngines):
@@ -416,7 +646,7 @@ class Whys(WithEngines):
             script, wanted = FALSE[name]
             with self.subTest(name):
                 forget()
-                self.engine(script)
+                self.engine(script, "cadical")
                 status, out, told = run("why", self.problem, "--seconds", "600")
                 self.assertEqual((status, out), (1, ""), told)
                 self.assertIn(wanted, told)
@@ -434,19 +664,19 @@ class Whys(WithEngines):
     def test_why_without_one(self):
         self.program("exec /bin/sleep 1000")
         told = run_until("isn't known", "why", self.problem)[2]
-        self.assertIn(f"{engines._HELP}\nhelgrothy: in ", told)
+        self.assertIn(f"{sat_solver.missing('cadical')}\nhelgrothy: in ", told)
 
     @mock.patch.object(acts, "_SEARCH_SECONDS", 60.0)
     def test_lint(self):
         self.assertEqual(run("lint", self.none)[:2], (1, "line 3: dlx1 finds that there is no solution\n"))
         forget = self.after_the_engine()
-        self.engine("echo s UNSATISFIABLE; exit 20")
+        self.engine("echo s UNSATISFIABLE; exit 20", "cadical")
         told = "line 1: cadical reports that there is no solution; dlx2 hasn't proved it\n"
         self.assertEqual(run("lint", self.problem), (1, told, ""))
         for name in ("nonsense", "a wrong solution", "dies", "floods"):
             with self.subTest(name):
                 forget()
-                self.engine(FALSE[name][0])
+                self.engine(FALSE[name][0], "cadical")
                 status, out, told = run("lint", self.problem)
                 self.assertEqual((status, out), (0, ""))
                 self.assertIn(FALSE[name][1], told)

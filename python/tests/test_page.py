@@ -384,12 +384,17 @@ class Requests(unittest.TestCase):
 
         def least(problem, costs, seconds, tell):
             tell("clasp gave no answer in its time; dlx3 goes on")
-            return cost.Least(OfNumbers(problem), [2], 4, "states")
+            found = cost.Least(OfNumbers(problem), [2], 4, by)
+            found.is_proved = by == "states"
+            return found
 
-        with mock.patch.object(answer.cost, "least", least):
-            first, second, *_ = self.told(**given, costs="A 4")[-1]["end"]["notes"]
-        self.assertEqual(first, "clasp gave no answer in its time; dlx3 goes on")
-        self.assertEqual(second, "the least cost is 4, as a sweep over states found")
+        for by, wanted in (
+            ("states", "the least cost is 4, as a sweep over states found"),
+            ("cbc", "4 is the least cost that was found; cbc reports that none is cheaper"),
+        ):
+            with mock.patch.object(answer.cost, "least", least):
+                first, second, *_ = self.told(**given, costs="A 4")[-1]["end"]["notes"]
+            self.assertEqual((first, second), ("clasp gave no answer in its time; dlx3 goes on", wanted))
         # Negative numbers, colours, patterns, and a number for each option.
         for text, costs, wanted in (
             ("A B\nA\nB\nA B\n", "A B 9\nB -1\n", "-1"), ("A B\nA\nB\nA B\n", "1 2 4\n", "3"),

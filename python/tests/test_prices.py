@@ -8,7 +8,7 @@ from unittest import mock
 from problems import problem_of
 
 from helgrothy import Problem, cost, make, wishes
-from helgrothy._reason import prices, sat_solver
+from helgrothy._reason import bounds, prices, sat_solver
 from helgrothy._reason.prices import Prices
 
 # All have as many shifts as they must, and fay likes nights.
@@ -75,8 +75,9 @@ class Shown(unittest.TestCase):
     def test_beside_clasp(self):
         problem = make.roster.problem(ROSTER, rest=True)
         costs = wishes.of_table(problem).numbers
-        with mock.patch.object(cost, "_ALONE_SECONDS", 0.1):
-            found = cost.least(problem, costs)
+        with mock.patch.object(sat_solver, "path_of", lambda name: shutil.which(name) if name == "clasp" else None):
+            with mock.patch.object(cost, "_ALONE_SECONDS", 0.1):
+                found = cost.least(problem, costs)
         self.assertEqual((found.by, found.cost), ("prices", -4))
         self.assertEqual(found.cost, sum(costs[place] for place in found.numbers))
 
@@ -89,7 +90,7 @@ class Shown(unittest.TestCase):
         self.assertEqual((found.cost, sum(costs[place] for place in found.numbers)), (-4, -4))
 
     @mock.patch.object(sat_solver, "path_of", lambda name: None)
-    @mock.patch.object(cost, "_MUCH_LESS", 1.0)
+    @mock.patch.object(bounds, "_MUCH_LESS", 1.0)
     @mock.patch.object(cost, "_ALONE_SECONDS", 0.0)
     def test_beside_dlx3(self):
         """As without them, whoever ends first."""

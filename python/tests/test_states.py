@@ -8,6 +8,7 @@ from problems import problem_of
 
 from helgrothy import Problem, cost
 from helgrothy._reason import sat_solver, states
+from helgrothy._reason.prices import Prices
 from helgrothy._reason.states import Sweep
 
 
@@ -62,8 +63,9 @@ class States(unittest.TestCase):
         problem = dominoes(8, 8)
         costs = [rng.randint(1, 100) for _ in problem.options]
         with mock.patch.object(sat_solver, "path_of", lambda name: None), mock.patch.object(cost, "_ALONE_SECONDS", 0.0):
-            found = cost.least(problem, costs)
-            self.assertEqual((found.by, len(found)), ("states", 32))
+            with mock.patch.object(Prices, "show", lambda *words: False):
+                found = cost.least(problem, costs)
+            self.assertEqual((found.by, found.is_proved, len(found)), ("states", True, 32))
             self.assertEqual(found.cost, sum(costs[place] for place in found.numbers))
             # Bounds are for the others.
             bounded = Problem({"a": (1, 2), "b": (0, 2)}, options=["a", "ab", "b"])

@@ -3,6 +3,7 @@
 import shutil
 import subprocess
 import unittest
+from fractions import Fraction
 
 from helgrothy import Problem, ProblemFault, export, make
 from helgrothy._reason.sums import search
@@ -65,8 +66,41 @@ class Exports(unittest.TestCase):
         coloured = [{"a": None, "x": 1}, {"b": None, "x": 1, "y": 2}, {"b": None, "x": None}, {"a": None, "y": 2}]
         for problem in (bounded, Problem("ab", "xy", coloured), make.queens.problem(6), Problem({"a": 3}, options="a")):
             for name, write in export.FORMATS.items():
+                if name == "lp":
+                    continue
                 with self.subTest(format=name, problem=problem.text):
                     self.assertEqual(count("".join(f"{line}\n" for line in write(problem)), name), problem.count())
+
+
+class Programs(unittest.TestCase):
+    """The LP format, whose rows are what an option may and has to do."""
+
+    def test_rows(self):
+        with self.assertWarns(UserWarning):
+            bounded = Problem({"a": (0, 2), "b": (1, 2), "c": 2}, "x", ["ab", "bc", "c", "bcx", "a", "ac", "x"])
+        self.assertEqual(
+            list(export.lp(bounded, [3, Fraction(-5, 2), 0, 0, 0, 0, 1])),
+            [
+                "\\ x1 to x7 take the options in their order", "Minimize",
+                " obj: + 3 x1 - 2.5 x2 + 0 x3 + 0 x4 + 0 x5 + 0 x6 + 1 x7", "Subject To", " + 1 x7 = 0",
+                " + 1 x1 + 1 x5 + 1 x6 <= 2", " + 1 x1 + 1 x2 + 1 x4 >= 1", " + 1 x1 + 1 x2 + 1 x4 <= 2",
+                " + 1 x2 + 1 x3 + 1 x4 + 1 x6 = 2", " + 1 x4 + 1 x7 <= 1", "Binary", " x1 x2 x3 x4 x5 x6 x7", "End",
+            ],
+        )  # fmt: skip
+        coloured = Problem("a", "x", [{"a": None, "x": 1}, {"a": None, "x": 2}, {"a": None, "x": None}])
+        self.assertEqual(
+            list(export.lp(coloured))[4:-3],
+            [
+                " + 1 x1 + 1 x2 + 1 x3 = 1", " + 1 x4 - 1 x1 >= 0", " + 1 x1 - 1 x4 >= 0", " + 1 x5 - 1 x2 >= 0",
+                " + 1 x2 - 1 x5 >= 0", " + 1 x3 + 1 x4 + 1 x5 <= 1",
+            ],
+        )  # fmt: skip
+
+    def test_lines(self):
+        """Readers of the format take lines of some hundred characters."""
+        problem = make.queens.problem(12)
+        self.assertLess(max(map(len, export.lp(problem, [10**12] * len(problem.options)))), 500)
+        self.assertEqual(list(export.lp(Problem("ab")))[2:5], [" obj: + 0 x1", "Subject To", " + 0 x1 = 1"])
 
 
 def count(text, name):

@@ -96,9 +96,18 @@ def lint(arguments: argparse.Namespace) -> int:
 
 
 def export(arguments: argparse.Namespace) -> int:
-    from ..export import FORMATS
+    from .. import export as forms
 
-    write(f"{line}\n" for line in FORMATS[arguments.format](_problem(arguments.problem)))
+    problem = _problem(arguments.problem)
+    if arguments.format == "lp":
+        from .solving import costs_of
+
+        costs = costs_of(problem, arguments)
+        write(f"{line}\n" for line in forms.lp(problem, () if costs is None else costs.numbers))
+        return 0
+    if arguments.cost is not None:
+        raise ValueError("--cost is of lp")
+    write(f"{line}\n" for line in forms.FORMATS[arguments.format](problem))
     return 0
 
 

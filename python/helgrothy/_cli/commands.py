@@ -240,7 +240,8 @@ def _add_ways(parser: argparse.ArgumentParser) -> None:
         "--cost",
         metavar="COSTS",
         help="the solution of least cost, from a file: lines of names of items (or patterns) and a number, which each "
-        "option that has them costs, or a number for each option; by clasp where the path has it, else by dlx3",
+        "option that has them costs, or a number for each option; clasp, highs, cbc and glpsol are asked too, where "
+        "they are on the path",
     )
 
 
@@ -331,10 +332,12 @@ def _add_export(commands: Any) -> None:
         "export",
         help="write a problem for another solver",
         description="Writes a problem for other solvers: asp for gringo and clasp, opb for pseudo-Boolean solvers, cnf "
-        "for SAT solvers. Variable N takes option N; there are as many solutions.",
+        "for SAT solvers, lp for cbc, glpsol, HiGHS and other solvers of integer programs. Variable N takes option N; "
+        "there are as many solutions.",
     )
     parser.add_argument("format", choices=sorted(FORMATS), help="the format")
     console.add_problem(parser)
+    parser.add_argument("--cost", metavar="COSTS", help="of lp: what options cost, from a file as `solve --cost` takes")
     parser.set_defaults(command=_by("export"))
 
 

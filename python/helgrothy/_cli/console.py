@@ -158,6 +158,14 @@ def say(line: str) -> None:
         print(shown(line), file=sys.stderr, flush=True)
 
 
+def hint(line: str) -> bool:
+    """Writes a line to standard error where that is a terminal, and says whether it is. Raises `OSError`."""
+    is_terminal = sys.stderr is not None and sys.stderr.isatty()
+    if is_terminal:
+        say(line)
+    return is_terminal
+
+
 def fail(message: str, status: int = 2) -> int:
     """Says why `helgrothy` can't do what is asked, and gives the status. Raises `OSError`."""
     say(f"helgrothy: {message}")

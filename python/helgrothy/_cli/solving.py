@@ -242,7 +242,7 @@ def _search(
 
         return numbered.solve(problem, number, seconds, total), ""
     if limit == 1:
-        return engines.solve(problem, seconds, console.say, report), ""
+        return engines.solve(problem, seconds, console.say, console.hint, report), ""
     return problem.solve(limit, seconds=seconds), ""
 
 
@@ -302,6 +302,16 @@ def _costs(problem: Problem[Any], arguments: argparse.Namespace) -> Costs | None
         console.say("The wishes of the table don't count here: only where the cheapest solution is asked for.")
         return None
     check_one(arguments)
+    return costs_of(problem, arguments)
+
+
+def costs_of(problem: Problem[Any], arguments: argparse.Namespace) -> Costs | None:
+    """What the options cost, by the file of --cost and the wishes of a table; None without either."""
+    from .. import wishes
+
+    of_table = wishes.of_table(problem)
+    if arguments.cost is None:
+        return of_table
     if getattr(arguments, "problem", "") == arguments.cost == "-":
         raise ValueError("the problem and the costs can't both come from standard input")
     try:
@@ -324,9 +334,9 @@ def _show_least(asked: Given[Any], costs: Costs, arguments: argparse.Namespace) 
     deadline = None if arguments.seconds is None else time.monotonic() + arguments.seconds
     seconds = None if arguments.seconds is None else arguments.seconds * SHARE
     try:
-        with Report([f"dlx{asked.inner.kind}"]) as report:
-            wanted = [costs.numbers[place] for place in asked.places]
-            least = cost.least(asked.inner, wanted, seconds, console.say, report)
+        numbers_of = [costs.numbers[place] for place in asked.places]
+        with Report(["dlx3"]) as report:
+            least = cost.least(asked.inner, numbers_of, seconds, console.say, console.hint, report)
     except cost.NotLeast as error:
         most = cost.MOST_SECONDS if arguments.seconds is None else arguments.seconds
         if error.best is None:
@@ -347,7 +357,10 @@ def _show_least(asked: Given[Any], costs: Costs, arguments: argparse.Namespace) 
             console.say(line)
         return 1
     numbers = asked.numbers(least.numbers)
-    found = Found(asked.problem, numbers, f"The least cost is {spelled(least.cost)}.")
+    told = f"The least cost is {spelled(least.cost)}."
+    if not least.is_proved:
+        told = f"{spelled(least.cost)} is the least cost that was found; {least.by} reports that none is cheaper."
+    found = Found(asked.problem, numbers, told)
     return show_found(found, arguments, list(costs.told(numbers)))
 
 

@@ -237,7 +237,7 @@ class _Solving:
         notes: list[str] = []
         try:
             found = cost.least(problem, costs.numbers, self._left() * 0.9, notes.append)
-            told = "" if found is None else f"the least cost is {spelled(found.cost)}, as {_finder(found.by)}"
+            told = "" if found is None else _told(found)
         except cost.NotLeast as error:
             found = error.best
             over = f"{self._request.seconds:g} seconds are over"
@@ -292,8 +292,12 @@ class _Solving:
         return []
 
 
-def _finder(by: str) -> str:
-    return {"states": "a sweep over states found", "prices": "prices of the items show"}.get(by, f"{by} found")
+def _told(found: cost.Least[Any]) -> str:
+    """What the cheapest solution costs, and who says that none costs less."""
+    if not found.is_proved:
+        return f"{spelled(found.cost)} is the least cost that was found; {found.by} reports that none is cheaper"
+    others = {"states": "a sweep over states found", "prices": "prices of the items show"}
+    return f"the least cost is {spelled(found.cost)}, as {others.get(found.by, f'{found.by} found')}"
 
 
 _ANSWERS: dict[str, Callable[[Request], Iterator[str]]] = {

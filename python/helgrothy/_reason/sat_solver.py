@@ -4,8 +4,8 @@ What an engine says is a claim. A solution of it is one where dlxcheck judges it
 what the engine reports. It runs with limits of memory and output, in a session of its own that is killed as a whole.
 
 Its output is a file, so that nothing waits for it. That there is no solution needs its last line and its status. One
-that finds ever better solutions is heard: its lines are read as they come. It may write only so much without a better
-one, and is heard no longer than it runs, whatever it has begun.
+that is asked what costs least is heard: the lines that it has written by then are read some times a second. It may
+write only so much without a better solution, and is heard no longer than it runs, whatever it has begun.
 
 Clasp gets what has no colours, as sums, and cadical the rest, as clauses: that form is the shorter one. An item that
 many options hold is one sum, but a chain of clauses; if there are bounds, sums are shorter too.
@@ -19,7 +19,7 @@ import shutil
 import signal
 import subprocess
 import time
-from collections.abc import Callable, Hashable, Iterable, Iterator
+from collections.abc import Hashable, Iterable, Iterator
 from contextlib import suppress
 from typing import IO, Any, NamedTuple
 
@@ -40,16 +40,16 @@ _LIMITED = 'ulimit -c 0; ulimit -v "$1"; ulimit -f "$2"; shift 2; exec "$@"'
 _BLOCK = 512
 # Where no time is given it may take so long, by the clock.
 MOST_SECONDS = 600.0
-# One that is heard may write so many times as much as an answer may take, without a better one. A line of it has a word
-# for each option, and others are short.
-_MOST_WASTE, _MOST_LINE, _MOST_WORD = 8, 1 << 16, 16
+# One that is heard may write so many times as much as an answer may take, without a better one, and so much of it is
+# read at a time. A line of it has a word for each option, and others are short.
+_MOST_WASTE, _MOST_LINE, _MOST_WORD, _MOST_HEARD = 8, 1 << 16, 16, 1 << 22
 # Of what it says on standard error so many bytes are told.
 _MOST_TOLD = 200
 _CHUNK = 1 << 18
 # To write the clauses of 600,000 uses took 8 seconds.
 _WRITING_SECONDS = 1.3e-5
-# An engine that is waited for is looked at so often, and one that is heard.
-_LOOK_SECONDS, _HEAR_SECONDS = 0.01, 0.1
+# An engine that is waited for is looked at so often.
+_LOOK_SECONDS = 0.01
 
 
 class NoAnswer(HelgrothyError):
@@ -69,17 +69,31 @@ class Engine(NamedTuple):
 
 
 def find(problem: Problem[Any]) -> Engine | None:
-    """The engine for a problem: clasp for one of sums alone, cadical for colours, or that one which the path has.
+    """The engine for a problem: the first of `found`, if the path has one."""
+    return next(iter(found(problem)), None)
 
-    There is none where there is no dlxcheck that could judge what it says.
+
+def found(problem: Problem[Any]) -> list[Engine]:
+    """The engines that the path has, in their order for a problem.
+
+    There is none where there is no dlxcheck that could judge what they say.
     """
-    if programs.has("dlxcheck"):
-        # Sums take several times as long a text as clauses as they do for clasp; colours take a shorter one.
-        for name in sorted(SOLVERS, reverse=problem.kind != 2):
-            path = path_of(name)
-            if path is not None:
-                return Engine(name, path)
-    return None
+    if not programs.has("dlxcheck"):
+        return []
+    paths = [(name, path_of(name)) for name in in_order(problem)]
+    return [Engine(name, path) for name, path in paths if path is not None]
+
+
+def in_order(problem: Problem[Any]) -> list[str]:
+    """The engines, with that one first which is for the problem: clasp for one of sums alone, cadical for colours."""
+    # Sums take several times as long a text as clauses as they do for clasp; colours take a shorter one.
+    return sorted(SOLVERS, reverse=problem.kind != 2)
+
+
+def missing(*names: str) -> str:
+    """That engines which the path hasn't may find a solution."""
+    who = "which isn't on the path" if len(names) == 1 else "which aren't on the path"
+    return f"no solution yet; {' or '.join(names)}, {who}, may find one"
 
 
 def path_of(name: str) -> str | None:
@@ -116,8 +130,10 @@ class _Work:
     _process: subprocess.Popen[bytes]
     _told: IO[bytes]
 
-    def _begin(self, command: list[str], text: Iterable[bytes], is_heard: bool = False) -> None:
-        """What it says goes to a file, or what it says on standard error where it is heard.
+    def _begin(
+        self, command: list[str], text: Iterable[bytes], is_heard: bool = False, folder: str | None = None
+    ) -> None:
+        """What it says goes to a file, or what it says on standard error where it is heard. It begins in a folder.
 
         Where it can't be begun, or a clock has run down meanwhile, nothing of it is left.
         """
@@ -135,7 +151,7 @@ class _Work:
             try:
                 with programs.undisturbed():
                     self._process = guard.start(
-                        limited, stdin=given, stdout=out, stderr=error, bufsize=0, start_new_session=True
+                        limited, stdin=given, stdout=out, stderr=error, bufsize=0, start_new_session=True, cwd=folder
                     )
                     programs._running.add(self)
             except BaseException:
@@ -219,15 +235,22 @@ class Asked(_Work):
 
 
 class Heard(_Work):
-    """An engine that finds ever better solutions, and is heard as it does."""
+    """An engine that is heard while it works."""
 
-    def __init__(self, engine: Engine, words: list[str], problem: Problem[Any], text: Iterable[bytes]) -> None:
-        """words: its arguments. text: as `Asked` takes it."""
-        self.name = engine.name
+    def __init__(
+        self, name: str, command: list[str], problem: Problem[Any], text: Iterable[bytes], folder: str
+    ) -> None:
+        """command: the engine and its arguments. text: as `Asked` takes it. folder: the one that it begins in."""
+        self.name = name
         self._problem = problem
         self._most_line = _MOST_LINE + _MOST_WORD * len(problem.options)
+        self._rest = b""
+        # Whether it has written all that it does.
+        self.is_over = False
         self.found_better()
-        self._begin([engine.path, *words], text, is_heard=True)
+        self._begin(command, text, is_heard=True, folder=folder)
+        assert self._process.stdout is not None
+        programs.widen(self._process.stdout.fileno())
 
     def __enter__(self) -> Heard:
         return self
@@ -236,45 +259,34 @@ class Heard(_Work):
         """An answer was better than all before, so that it may write as much again."""
         self._left = _MOST_WASTE * self._most_line
 
-    def lines(self, seconds: float, meanwhile: Callable[[Heard], object]) -> Iterator[bytes]:
-        """Its lines without their ends, as they come. Raises `NoAnswer`, and `OutOfTime` where it takes longer.
-
-        meanwhile: is called some times a second.
-        """
-        rest = b""
-        for chunk in self._chunks(self.begun + seconds, meanwhile):
-            *whole, rest = (rest + chunk).split(b"\n")
+    def lines(self) -> Iterator[bytes]:
+        """The lines that have come by now, without their ends. Raises `NoAnswer`."""
+        for chunk in self._chunks():
+            *whole, self._rest = (self._rest + chunk).split(b"\n")
             for line in whole:
                 self._left -= len(line) + 1
                 if self._left < 0:
                     raise NoAnswer(f"{self.name} writes on and on, and no better answer")
                 yield line
-            if len(rest) > self._most_line:
+            if len(self._rest) > self._most_line:
                 raise NoAnswer(f"{self.name} gave no answer (a line of it has no end)")
 
-    def _chunks(self, deadline: float, meanwhile: Callable[[Heard], object]) -> Iterator[bytes]:
-        """What it writes until it ends, or closes its output. What it has begun may hold that open for longer."""
+    def _chunks(self) -> Iterator[bytes]:
+        """What it has written by now. What it has begun may hold its output open for longer than it runs."""
         out = self._process.stdout
         assert out is not None
-        programs.widen(out.fileno())
-        looked = time.monotonic()
-        while True:
+        heard = 0
+        while not self.is_over and heard < _MOST_HEARD:
             has_ended = self.has_ended()
-            left = deadline - time.monotonic()
             if has_ended:
                 self.kill()
-            elif left <= 0:
-                raise OutOfTime(f"{self.name} took longer than it was given")
-            if select.select([out], [], [], 0.0 if has_ended else min(left, _HEAR_SECONDS))[0]:
-                chunk = os.read(out.fileno(), _CHUNK)
-                if not chunk:
-                    return
-                yield chunk
-            elif has_ended:
+            if not select.select([out], [], [], 0.0)[0]:
+                self.is_over = has_ended
                 return
-            if time.monotonic() - looked > _HEAR_SECONDS:
-                meanwhile(self)
-                looked = time.monotonic()
+            chunk = os.read(out.fileno(), _CHUNK)
+            heard += len(chunk)
+            self.is_over = not chunk
+            yield chunk
 
     def messages(self) -> str:
         """What it said on standard error as one line, as far as that is told."""
