@@ -70,9 +70,9 @@ class Lines(InFolder):
         queens = self.file("queens.dlx", make.queens.problem(20).text)
         costs = self.file("costs", "".join(f"{(37 * place) % 101}\n" for place in range(24 * 24)))
         pairs = self.file("pairs.dlx", make.langford.problem(18).text)
-        share = r"[0-9,]+ solutions?, (less than 0.1|[0-9.]+) % of the tree"
+        share = r"[0-9,]+ found, (less than 0.1|[0-9.]+) % of the tree"
         commands = {
-            r"dlx-count and dlx1 count; fewer than 100 solutions so far": ["count", pairs],
+            r"dlx-count and dlx1 count; fewer than 100 found": ["count", pairs],
             rf"dlx-count and dlx1 count; {share}": ["queens", "17", "--random"],
             r"dlx1 (and \w+ search|searches)": ["langford", "18"],
             rf"dlx1 searches; {share}": ["solve", queens, "--all"],
@@ -136,8 +136,8 @@ class Lines(InFolder):
             self.assertEqual((reached.number, reached.share()), (4, 0.875))
         self.assertEqual(progress.Reached().number, 0)
         self.assertEqual(progress.share_before([Step("a", 1, 2, 2), Step("c", 1, 4, 4)]), 0.875)
-        self.assertEqual(progress.told(1234, 0.875, 8.0), "1,234 solutions, 87.5 % of the tree, about 0:01 left")
-        self.assertEqual(progress.told(1, 0.0, 7.0), "1 solution, less than 0.1 % of the tree")
+        self.assertEqual(progress.told(1234, 0.875, 8.0), "1,234 found, 87.5 % of the tree, ~0:01 left")
+        self.assertEqual(progress.told(1, 0.0, 7.0), "1 found, less than 0.1 % of the tree")
 
     def test_the_old_command_is_gone(self):
         self.assertNotIn("dlx-progress", run("--help")[1])

@@ -94,7 +94,7 @@ def counted_with_line(problem: Problem[Any], seconds: float | None, **memory: in
             if reached.number and report.is_due():
                 report(far=told(reached.number, reached.share(), report.seconds))
 
-        report(far=f"fewer than {_SPACING} solutions so far")
+        report(far=f"fewer than {_SPACING} found")
         return problem._count(seconds, _SPACING, gives_up=give_up, printed=printed, **memory)
 
 

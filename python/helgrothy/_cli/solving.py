@@ -166,7 +166,7 @@ class _Listing:
 
     def _tell_how_far(self, searched: Solution[Any], report: Report) -> None:
         if self._arguments.shuffle is not None:
-            report(far=f"{_counted(self._shown + 1)} so far")
+            report(far=f"{self._shown + 1:,} found")
             return
         from .._spans.progress import share_before, told
 

@@ -55,7 +55,6 @@ def _share(choices: Sequence[tuple[int, int]]) -> float:
 
 def told(number: int, share: float, seconds: float) -> str:
     """How far a search is that took so long to the solution of a number, where so much of the tree is before it."""
-    solutions = f"{number:,} solution{'' if number == 1 else 's'}"
     if share < _LEAST_SHARE:
-        return f"{solutions}, less than {percent(_LEAST_SHARE)} of the tree"
-    return f"{solutions}, {percent(share)} of the tree, about {clock(seconds * (1 / share - 1))} left"
+        return f"{number:,} found, less than {percent(_LEAST_SHARE)} of the tree"
+    return f"{number:,} found, {percent(share)} of the tree, ~{clock(seconds * (1 / share - 1))} left"
