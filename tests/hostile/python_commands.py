@@ -675,7 +675,8 @@ class Processes:
     def strangers(self) -> None:
         """A folder of another user's: Python files and programs that the commands must not run."""
         folder = os.path.join(self.top, "strangers")
-        os.makedirs(os.path.join(folder, "helgrothy", "spans"))
+        for room in ("_cli", "_spans"):
+            os.makedirs(os.path.join(folder, "helgrothy", room))
         modules = [one for one in sorted(sys.stdlib_module_names) if not one.startswith("_")] if hasattr(sys, "stdlib_module_names") else ["re", "random", "difflib", "colorsys", "argparse"]
         for module in modules:
             self.file(f"strangers/{module}.py", b"import os; os.write(2, b'HIJACKED')\n")
