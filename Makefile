@@ -118,7 +118,7 @@ bin: ## copy the programs and scripts to bin
 	}; \
 	for program in $(PROGRAMS); do copy crates/$$program/out/$$program $$program || exit 1; done; \
 	for name in $(DASHED); do copy crates/dlx_$$name/out/dlx_$$name dlx-$$name || exit 1; done; \
-	for script in dlx-progress helgrothy; do copy scripts/helgrothy $$script || exit 1; done
+	copy scripts/helgrothy helgrothy
 
 # The library for C is the crate with the toolchain's three calls of malloc, in one object that tells no other names, as
 # an archive and as a shared library.
@@ -131,7 +131,7 @@ lib: ## build the library for C
 	    gcc -shared -Wl,-soname,$(SONAME),-z,defs,-z,text,-z,relro,-z,now helgrothy.o -o libhelgrothy.so && rm *.o
 
 # What follows takes the programs as `make all` built them, and needs no toolchain.
-COMMANDS = $(PROGRAMS) $(DASHED:%=dlx-%) dlx-progress helgrothy
+COMMANDS = $(PROGRAMS) $(DASHED:%=dlx-%) helgrothy
 # The files of a folder or two into another, whatever the umask.
 copy = find -L $(1) -type f ! -name '*.pyc' -exec sh -c \
     'for file; do install -D -m 644 "$$file" "$(2)/$$file" || exit 1; done' copy {} +
@@ -146,7 +146,6 @@ install: checked install-lib ## install under PREFIX, in DESTDIR
 	    to="$(DESTDIR)$(mandir)/man$${page##*.}/$${page##*/}"; \
 	    sed '1s/ Helgrothy / "Helgrothy $(VERSION)" /' $$page > "$$to" && chmod 644 "$$to" || exit 1; \
 	done
-	ln -sfn helgrothy.1 "$(DESTDIR)$(mandir)/man1/dlx-progress.1"
 	install -m 644 release/completion.bash "$(DESTDIR)$(completiondir)/dlx1"
 	for command in $(COMMANDS:dlx1=); do ln -sfn dlx1 "$(DESTDIR)$(completiondir)/$$command" || exit 1; done
 	install -D -m 644 release/completion.zsh "$(DESTDIR)$(zshdir)/_helgrothy"

@@ -57,7 +57,7 @@ _dlx_options() {
     case $1 in
         'dlx1' | 'dlx2' | 'dlx3' | 'dlxcheck' | 'dlx-span' | 'dlx-join' | 'dlx-count')
             options='' ;;
-        'dlx-progress' | 'helgrothy')
+        'helgrothy')
             options='--help --version' ;;
         'helgrothy make' | 'helgrothy make queens' | 'helgrothy make langford' | 'helgrothy make words' | 'helgrothy make nonogram' | 'helgrothy make kakuro')
             options='--help' ;;
@@ -198,4 +198,4 @@ _dlx_place() {
     esac
 }
 
-complete -F _dlx dlx1 dlx2 dlx3 dlxcheck dlx-span dlx-join dlx-count dlx-progress helgrothy
+complete -F _dlx dlx1 dlx2 dlx3 dlxcheck dlx-span dlx-join dlx-count helgrothy

@@ -42,7 +42,6 @@ set -g __helgrothy_commands \
     'dlx-span' \
     'dlx-join' \
     'dlx-count' \
-    'dlx-progress' \
     'helgrothy' \
     'helgrothy make' \
     'helgrothy make sudoku' \
@@ -347,10 +346,7 @@ complete -c dlxcheck -f
 complete -c dlx-span -f
 complete -c dlx-join -f
 complete -c dlx-count -f
-complete -c dlx-progress -f
 complete -c helgrothy -f
-complete -c dlx-progress -n '__helgrothy_is \'dlx-progress\'' -s h -l help -d 'show this help message and exit'
-complete -c dlx-progress -n '__helgrothy_is \'dlx-progress\'' -l version -d 'show program\'s version number and exit'
 complete -c helgrothy -n '__helgrothy_is \'helgrothy\'' -s h -l help -d 'show this help message and exit'
 complete -c helgrothy -n '__helgrothy_is \'helgrothy\'' -l version -d 'show program\'s version number and exit'
 complete -c helgrothy -n '__helgrothy_is \'helgrothy\' 1' -a make -d 'write a problem'

@@ -1,4 +1,4 @@
-#compdef dlx1 dlx2 dlx3 dlxcheck dlx-span dlx-join dlx-count dlx-progress helgrothy
+#compdef dlx1 dlx2 dlx3 dlxcheck dlx-span dlx-join dlx-count helgrothy
 # Completion of the words of programs and commands in zsh. Made by scripts/completion: changes belong there.
 
 # Completes a word as what it may be: words, behind `file` those or a file, `problem` or `folder`.
@@ -70,9 +70,6 @@ _helgrothy_options() {
             commands=() ;;
         'dlx-count')
             options=()
-            commands=() ;;
-        'dlx-progress')
-            options=('--help:show this help message and exit' '--version:show program'\''s version number and exit')
             commands=() ;;
         'helgrothy')
             options=('--help:show this help message and exit' '--version:show program'\''s version number and exit')

@@ -16,8 +16,6 @@ chmod 755 "$root"
 MAKEFLAGS= make -s install LIBRARY= VERSION="$version" DESTDIR="$root" PREFIX=/usr pythondir=/usr/lib/python3/dist-packages \
     zshdir=/usr/share/zsh/vendor-completions
 find "$root/usr/share/man" -type f -exec gzip -9n {} +
-rm "$root/usr/share/man/man1/dlx-progress.1"
-ln -s helgrothy.1.gz "$root/usr/share/man/man1/dlx-progress.1.gz"
 # The symbols of a program say nothing to its users.
 for program in dlx1 dlx2 dlx3 dlxcheck dlx-span dlx-join dlx-count; do strip --strip-unneeded "$root/usr/bin/$program"; done
 doc=$root/usr/share/doc/helgrothy

@@ -15,9 +15,8 @@ import time
 import zipfile
 
 PROGRAMS = ("dlx1", "dlx2", "dlx3", "dlxcheck", "dlx-span", "dlx-join", "dlx-count")
-# What pip writes for an entry point can't keep Python from the current folder and PYTHONPATH, so the commands are the
-# repository's script under each name.
-COMMANDS = ("helgrothy", "dlx-progress")
+# What pip writes for an entry point can't keep Python from the current folder and PYTHONPATH, so the command is the
+# repository's script.
 # The programs need glibc 2.34.
 TAG = "py3-none-manylinux_2_34_x86_64"
 
@@ -61,14 +60,13 @@ def package():
 
 
 def programs(version):
-    """The programs beside the package, which looks for them there, and, with the commands, on an environment's path."""
+    """The programs beside the package, which looks for them there, and, with the command, on an environment's path."""
     files = {}
     for name in PROGRAMS:
         program = read(f"bin/{name}")
         files[f"helgrothy/bin/{name}"] = program
         files[f"helgrothy-{version}.data/scripts/{name}"] = program
-    for name in COMMANDS:
-        files[f"helgrothy-{version}.data/scripts/{name}"] = read("scripts/helgrothy")
+    files[f"helgrothy-{version}.data/scripts/helgrothy"] = read("scripts/helgrothy")
     return files
 
 

@@ -27,9 +27,10 @@ from ._reason.prices import Prices
 from ._reason.sat_solver import Engine, NoAnswer
 from ._reason.states import Sweep
 from ._run.programs import Run
+from ._run.report import Hear, unheard
 from ._run.solution import Solution, Source
 from ._run.wire import OfNumbers
-from ._text.amounts import A_NUMBER, is_number
+from ._text.amounts import A_NUMBER, is_number, spelled
 from .errors import OutOfTime, ProgramFailed, TableFault
 from .problem import Problem
 
@@ -123,19 +124,21 @@ def least(
     seconds: float | None = None,
     tell: Callable[[str], object] = lambda line: None,
     hint: Callable[[str], bool] = lambda line: False,
+    report: Hear = unheard,
 ) -> Least[Option] | None:
     """The solution of least cost, as dlxcheck judges it to be one; None where there is no solution.
 
-    costs: of each option in their order. tell and hint: as `engines.solve` takes them. Raises `NotLeast`, also without
-    seconds where `MOST_SECONDS` are over and a solution was found; `ValueError` for another number of costs; and
-    `engines.Claimed` where an engine reports that there is no solution, and the program doesn't show that soon.
+    costs: of each option in their order. tell and hint: as `engines.solve` takes them. report: is told what is at work,
+    and the least cost so far. Raises `NotLeast`, also without seconds where `MOST_SECONDS` are over and a solution was
+    found; `ValueError` for another number of costs; and `engines.Claimed` where an engine reports that there is no
+    solution, and the program doesn't show that soon.
     """
     deadline = None if seconds is None else time.monotonic() + seconds
     if len(costs) != len(problem.options):
         raise ValueError(f"{len(costs)} costs, and the problem has {len(problem.options)} options")
     exact = [Fraction(str(cost)) if isinstance(cost, float) else Fraction(cost) for cost in costs]
     unit = math.lcm(1, *(cost.denominator for cost in exact))
-    with closing(_Search(problem, exact, [int(cost * unit) for cost in exact], deadline, tell, hint)) as search:
+    with closing(_Search(problem, exact, [int(cost * unit) for cost in exact], deadline, tell, hint, report)) as search:
         return search.least()
 
 
@@ -161,6 +164,7 @@ class _Search(Generic[Option]):
         deadline: float | None,
         tell: Callable[[str], object],
         hint: Callable[[str], bool],
+        report: Hear,
     ) -> None:
         self._problem = problem
         self._reader = OfNumbers(problem)
@@ -171,6 +175,7 @@ class _Search(Generic[Option]):
         self._begun = self._looked = time.monotonic()
         self._reasoning = _Reasoning(problem, costs)
         self._engines = _Engines(problem, costs, deadline, tell, hint)
+        self._report = report
         self._found: Least[Option] | None = None
         # Whether dlxcheck has judged it to be a solution.
         self._is_judged = False
@@ -215,6 +220,7 @@ class _Search(Generic[Option]):
         if now - self._looked < _LOOK_SECONDS:
             return
         self._hear()
+        self._report(at_work=["dlx3", *self._engines.names])
         claim = self._engines.claim
         if claim is not None and claim.left(now) <= 0:
             claim.end(self._problem)
@@ -236,6 +242,7 @@ class _Search(Generic[Option]):
         self.best = sum(self._costs[number] for number in numbers)
         cost = sum((self._exact[number] for number in numbers), Fraction(0))
         self._found, self._is_judged = Least(self._reader, numbers, cost, by), is_judged
+        self._report(best=spelled(cost))
         self._engines.doubt(self.best)
 
     def _check(self) -> None:
@@ -329,6 +336,11 @@ class _Engines:
         # When a solution was judged last, and how long that took.
         self._judged, self._judging = 0.0, 0.0
         self.claim: _Claim | None = None
+
+    @property
+    def names(self) -> list[str]:
+        """Those that are at work."""
+        return [engine.name for engine in self._at_work]
 
     def close(self) -> None:
         for engine in self._at_work:

@@ -21,6 +21,7 @@ from typing import Any, TypeVar
 from ._reason import sat_solver
 from ._reason.sat_solver import Asked, NoAnswer
 from ._run.programs import Run
+from ._run.report import Hear, unheard
 from ._run.solution import Solution
 from ._run.stream import Outcome, Solutions, sooner
 from ._run.wire import OfNumbers
@@ -59,17 +60,18 @@ def solve(
     seconds: float | None = None,
     tell: Callable[[str], object] = lambda line: None,
     hint: Callable[[str], bool] = lambda line: False,
+    report: Hear = unheard,
 ) -> Solutions[Option]:
     """One solution, whoever finds it.
 
     tell: gets a line that says who found it, where that is an engine, and what an engine did wrong. hint: gets one,
     once, that says which engine may find a solution, where none was found soon and the path has none, and says whether
-    it was shown; where it wasn't, `tell` gets it at the end of the time. Raises what `Problem.solve` does, and
-    `Claimed`.
+    it was shown; where it wasn't, `tell` gets it at the end of the time. report: is told what is at work. Raises what
+    `Problem.solve` does, and `Claimed`.
     """
 
     def begin(outcome: Outcome) -> Generator[Solution[Option], None, None]:
-        with _Beside(problem, seconds, tell, hint) as beside:
+        with _Beside(problem, seconds, tell, hint, report) as beside:
             try:
                 with problem._search(limit=1, seconds=seconds, meanwhile=beside.look) as solutions:
                     yield from solutions
@@ -101,10 +103,12 @@ class _Beside:
         seconds: float | None,
         tell: Callable[[str], object],
         hint: Callable[[str], bool],
+        report: Hear,
     ) -> None:
         self._problem = problem
         self._tell = tell
         self._hint = hint
+        self._report = report
         self._program = f"dlx{problem.kind}"
         self._begun, self._used = time.monotonic(), time.process_time()
         self._seconds = float("inf") if seconds is None else seconds
@@ -177,6 +181,10 @@ class _Beside:
         else:
             run.pause()
         self._names.append(engine.name)
+        self._tell_at_work()
+
+    def _tell_at_work(self) -> None:
+        self._report(at_work=[self._program, *(turn.asked.name for turn in self._at_work)])
 
     def _look_at(self, turn: _Turn, run: Run) -> None:
         asked = turn.asked
@@ -190,6 +198,7 @@ class _Beside:
         except NoAnswer as error:
             asked.__exit__()
             self._at_work.remove(turn)
+            self._tell_at_work()
             run.go_on()
             self._tell(f"{error}; {self._program} goes on")
 

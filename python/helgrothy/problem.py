@@ -518,9 +518,12 @@ class Problem(Generic[Option]):
 
         return occurrences.find(self, seconds, jobs).by_option
 
-    def _count(self, seconds: float | None, **how: Any) -> counter.Count:
-        """How many solutions there are, and which program counted them; `how` is for `counter.count`."""
-        words = _words(None, 0 if seconds is None else _NUMBERED)
+    def _count(self, seconds: float | None, spacing: int | None = None, **how: Any) -> counter.Count:
+        """How many solutions there are, and which program counted them; `how` is for `counter.count`.
+
+        spacing: the search prints each solution whose number is a multiple of it.
+        """
+        words = _words(None, spacing or (0 if seconds is None else _NUMBERED))
         return counter.count(b"".join(_ended(self._lines())), self.kind, words, seconds, **how)
 
     def _count_spans(

@@ -12,7 +12,8 @@ from test_commands import run, run_until
 from helgrothy import OutOfTime, Problem, make
 from helgrothy._run import programs
 from helgrothy.make import fewest, quick
-from helgrothy.make.designs import read_factors
+from helgrothy.make.bits import Values
+from helgrothy.make.designs import Design, read_factors
 
 FACTORS = """\
 # what is to be tested
@@ -121,20 +122,24 @@ class Designs(InFolder):
             few, again = make.tests.few("4^7"), make.tests.few("4^7")
             told = run("tests", "4^7", "--least")[2]
         self.assertEqual((few.tests, few.numbers, few.reason), (again.tests, again.numbers, ""))
-        self.assertEqual(told, f"{few.tests} tests; {few.least} to {few.tests - 1} weren't found; --seconds S looks longer.\n")
-        told = r"\A[0-9]+ tests; [0-9]+ to [0-9]+ weren't found in the time\.\n\Z"
+        known = f"helgrothy: {few.tests} tests, the fewest that were found; whether {few.least} to {few.tests - 1} are enough isn't known"
+        self.assertEqual(told, f"{known}; --seconds S looks longer\n")
+        told = r"\Ahelgrothy: [0-9]+ tests, the fewest that were found in [0-9.]+ seconds; whether [0-9]+ to [0-9]+ are enough isn't known\n\Z"
         self.assertRegex(run_until(told, "tests", "3^7", "--least")[2], told)
         one_less = fewest.Few(few.problem, few.numbers, few.tests, few.tests - 1, "")
-        self.assertEqual(one_less.found("").remark, f"{few.tests} tests; {few.tests - 1} weren't found.")
+        wanted = f"helgrothy: {few.tests} tests, the fewest that were found in 3 seconds; whether {few.tests - 1} are enough isn't known"
+        self.assertEqual((one_less.found(3).remark, one_less.found(3).is_proved), (wanted, False))
 
     def test_a_quick_design(self):
         for levels, strength, most in (("2^10", 2, 10), ("3^13", 2, 24), ("4^10", 2, 34), ("2^11", 3, 24)):
             with self.subTest(levels=levels):
                 factors = read_factors(levels)
-                tests = quick.quick(factors, strength, None, random.Random(1))
+                values = Values(factors)
+                wanted = quick.Wanted(values, strength, Design(factors, None, strength).meetings)
+                tests = map(values.test, quick.Greedy(wanted, None, random.Random(1)).design())
                 rows = [[test[factor] for factor in range(len(factors))] for test in tests]
                 self.assertTrue(is_design(rows, [range(len(factor.values)) for factor in factors], strength))
-                self.assertLessEqual(len(tests), most)
+                self.assertLessEqual(len(rows), most)
 
     def test_tries_of_all_lengths(self):
         self.assertEqual([fewest._length(n) for n in range(1, 16)], [1, 1, 2, 1, 1, 2, 4, 1, 1, 2, 1, 1, 2, 4, 8])
@@ -151,7 +156,7 @@ class Designs(InFolder):
 
     def test_commands(self):
         path = self.file("factors.txt", FACTORS)
-        table = "  system browser database   network\n1 linux  firefox postgresql v4\n"
+        table = "  system browser database   network\n1 linux  firefox mysql      v4\n"
         status, out, told = run("tests", path, "--least")
         self.assertEqual((status, out[: len(table)]), (0, table))
         self.assertEqual(told, "5 tests; no fewer are enough: there is no design of 4.\n")

@@ -66,7 +66,6 @@ class Isolated(unittest.TestCase):
             searched = command("helgrothy", "search", "p.dlx", "--list", **how)
             self.assertNotIn("HIJACKED", searched.stdout)
             self.assertEqual((searched.returncode, searched.stderr), (0, "Altogether 2 solutions.\n"))
-            self.assertNotIn("HIJACKED", command("dlx-progress", stdin=subprocess.DEVNULL, **how).stdout)
 
     def test_run_by_m_the_package_loads_nothing_of_the_current_folder(self):
         """Python looks there first, and did so for what it loaded before the package."""
@@ -196,7 +195,6 @@ class ClosedStreams(unittest.TestCase):
             ("helgrothy", ["make", "langford", "1"], False, None, ""),
             ("helgrothy", ["--help"], False, None, ""),
             ("helgrothy", ["search", "--status", "folder"], False, None, ""),
-            ("dlx-progress", [], True, "", "0.0 seconds: solution 2, 50.00% of the tree, about 0.0 seconds left\n"),
         ):
             has_all = words == ["solve", "-", "--all"]
             for closed in itertools.product((False, True), repeat=3) if has_all else one:
@@ -204,11 +202,7 @@ class ClosedStreams(unittest.TestCase):
                     self.try_one(name, words, given, printed, message, closed)
 
     def try_one(self, name, words, given, printed, message, closed):
-        told = os.path.join(self.folder, "listing.txt")
-        with open(told, "w") as file:
-            file.write("1:\n A x (1 of 2)\n2:\n A (2 of 2)\n")
-        start = f"<{'p.dlx' if name == 'helgrothy' else told}"
-        redirected = " ".join(["<&-" if closed[0] else start, *([">&-"] if closed[1] else []), *(["2>&-"] if closed[2] else [])])
+        redirected = " ".join(["<&-" if closed[0] else "<p.dlx", *([">&-"] if closed[1] else []), *(["2>&-"] if closed[2] else [])])
         done = command(name, *words, redirected=redirected, cwd=self.folder)
         is_well = not (closed[0] and given or closed[1] and printed != "" or closed[2] and message)
         self.assertEqual(done.returncode == (1 if words == ["lint"] else 0), is_well, done)

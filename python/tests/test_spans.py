@@ -17,13 +17,13 @@ import unittest
 from concurrent.futures import Executor, Future, ProcessPoolExecutor, ThreadPoolExecutor
 from unittest import mock
 
-from helgrothy import ListingFault, OutOfTime, Problem, ProgramFailed, ProgramNotFound, SearchFault, make
+from helgrothy import OutOfTime, Problem, ProgramFailed, ProgramNotFound, SearchFault, make
 from helgrothy.__main__ import main
 from helgrothy._run import guard, programs
 from helgrothy._spans import about, cuts
 from helgrothy._spans import folder as folders
-from helgrothy._spans import held, join, loop, progress, record, rows, show, span, text, workers
-from helgrothy._spans.commands import NOT_DONE, progress_main
+from helgrothy._spans import held, join, loop, record, rows, show, span, text, workers
+from helgrothy._spans.commands import NOT_DONE
 from helgrothy._spans.folder import Folder
 from helgrothy._spans.loop import Job, Kept, Loop
 from helgrothy._spans.pace import Pace
@@ -1202,29 +1202,6 @@ class Commands(unittest.TestCase):
         edges = [read(word) for word in out.buffer.getvalue().decode().split()]
         self.assertEqual(len(edges), 5)
         self.assertEqual(texts(1, QUEENS, True, edges), whole(1, QUEENS, "m1"))
-
-
-class Progress(unittest.TestCase):
-    def test_progress(self):
-        choices = [b" %s (2 of 2)\n" % name for name in (b"a", b"b", b"c")]
-        listing = [b"2:\n", b" a (1 of 2)\n", b" b (2 of 2)\n", b"4:\n", *choices]
-        self.assertEqual(list(progress.shares(listing)), [(2, 0.25), (4, 0.875)])
-        told = []
-        progress.follow(listing, told.append, 0)
-        self.assertEqual(len(told), 2)
-        progress.follow([b"1:\n", b" a (99999 of 99999)\n"], told.append, 0)
-        self.assertRegex(told[-1], "solution 1, 99.99% of the tree")
-        digits = [line % (b"9" * 400) for line in (b" a (1 of %s)\n", b" a (%s of 1)\n", b"%s:\n")]
-        for line in (b"x\n", b" a (0 of 2)\n", b" a (3 of 2)\n", b"0:\n", b" a (1 of 0)\n", *digits):
-            with self.assertRaises(ListingFault):
-                list(progress.shares([b"1:\n", line]))
-
-    def test_command(self):
-        error = io.StringIO()
-        given = io.TextIOWrapper(io.BytesIO(b"3:\n a (2 of 2)\n"))
-        with mock.patch.object(sys, "stdin", given), contextlib.redirect_stderr(error):
-            self.assertEqual(progress_main([]), 0)
-        self.assertRegex(error.getvalue(), r"\A[0-9.]+ seconds: solution 3, 50.00% of the tree")
 
 
 if __name__ == "__main__":

@@ -8,7 +8,6 @@ from dataclasses import dataclass, field
 
 from helgrothy._cli.commands import parser_of_all
 from helgrothy.make import cubes, polyforms, polyominoes
-from helgrothy._spans.commands import progress_parser
 
 # What a word may be: any of some words, a file, a folder, a problem (a file that ends with .dlx), or something that
 # nobody can guess.
@@ -79,7 +78,6 @@ def all_commands() -> Iterator[Command]:
     yield Command("dlx-span", places=[kinds, words])
     yield Command("dlx-join", places=[words, Value(files=FILE)], goes_on=True)
     yield Command("dlx-count", places=[kinds, Value(("b512", "n1", "o")), Value(("n1", "o"))])
-    yield from _of("dlx-progress", progress_parser())
     yield from _of("helgrothy", parser_of_all())
 
 

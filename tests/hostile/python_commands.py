@@ -39,7 +39,6 @@ sys.path.insert(0, os.path.join(TOP, "python"))
 from helgrothy import __main__ as commands  # noqa: E402
 from helgrothy import make  # noqa: E402
 from helgrothy._page.document import document  # noqa: E402
-from helgrothy._spans import commands as span_commands  # noqa: E402
 
 SCRIPT = os.path.join(TOP, "scripts", "helgrothy")
 # A try may take so many seconds of a processor, and one that searches by all of them five seconds of each more. What waits
@@ -296,8 +295,8 @@ class Try:
         self.given = b""
         self.is_terminal = rng.random() < 0.5
         make_words = rng.choices(
-            [self.solve, self.draw, self.lint, self.export, self.answer, self.why, self.kind, self.make, self.odd, self.search, self.progress],
-            [20, 16, 12, 6, 6, 6, 14, 8, 6, 10, 6],
+            [self.solve, self.draw, self.lint, self.export, self.answer, self.why, self.kind, self.make, self.odd, self.search],
+            [20, 16, 12, 6, 6, 6, 14, 8, 6, 10],
         )[0]
         self.name, self.words = make_words()
 
@@ -421,13 +420,8 @@ class Try:
         rng = self.rng
         known = ["solve", "make", "draw", "lint", "why", "export", "queens", "--svg", "--seconds", "--help", "--version", "--number"]
         self.given = text(rng)
-        name = rng.choice(["helgrothy", "helgrothy", "helgrothy", "dlx-progress"])
         # No run of a search without an end.
-        return name, [rng.choice([*known, *WORDS]) for _ in range(rng.randint(0, 4))]
-
-    def progress(self):
-        self.given = listing(self.rng, self.rng.choice(MADE))
-        return "dlx-progress", []
+        return "helgrothy", [rng.choice([*known, *WORDS]) for _ in range(rng.randint(0, 4))]
 
     def search(self):
         """A folder of a search, damaged, and a command for it."""
@@ -480,10 +474,7 @@ class Try:
         with mock.patch.object(sys, "stdin", Stream(self.given)), mock.patch.object(sys, "stdout", out):
             with mock.patch.object(sys, "stderr", error):
                 try:
-                    if self.name == "helgrothy":
-                        status = commands.main(self.words)
-                    else:
-                        status = span_commands.progress_main(self.words)
+                    status = commands.main(self.words)
                 except SystemExit as ended:
                     status = ended.code
                 except BaseException:
@@ -497,7 +488,7 @@ class Try:
             return f"traceback: {error!r}"
         if b"out of memory" in error:
             return "out of memory"
-        if steers(error.replace(REWRITTEN, b"") if self.words[:1] == ["search"] else error):
+        if steers(error.replace(REWRITTEN, b"")):
             return f"bytes that steer a terminal in {error!r}"
         if self.is_terminal and steers(out):
             return f"bytes that steer a terminal in {out[:300]!r}"
@@ -634,8 +625,7 @@ class Processes:
         self.top = top
         self.bin = os.path.join(top, "bin")
         os.mkdir(self.bin)
-        for one in ("helgrothy", "dlx-progress"):
-            os.symlink(SCRIPT, os.path.join(self.bin, one))
+        os.symlink(SCRIPT, os.path.join(self.bin, "helgrothy"))
         self.passed = self.failed = 0
         # The Python that runs this file.
         self.environment = {**os.environ, "PATH": f"{os.path.dirname(sys.executable)}:/usr/bin:/bin"}
@@ -676,7 +666,6 @@ class Processes:
             ("helgrothy why p.dlx", b""),
             ("helgrothy make langford 1", None),
             ("helgrothy search --status f", None),
-            ("dlx-progress", b""),
         ):
             for streams in itertools.product(("<p.dlx", "<&-"), (">listing", ">&-", ">/dev/full"), ("2>told", "2>&-", "2>/dev/full")):
                 self.shell("rm -f listing told")
@@ -754,7 +743,7 @@ class Processes:
         problem = self.file("queens.dlx", make.queens.problem(8).text.encode())
         one = b"1:\n" + b" r1 c1 b8 (1 of 1)\n" * 8
         ordinary = self.file("listing", one * (1_000_000 // len(one)))
-        for command in (f"helgrothy draw {problem}", f"helgrothy draw {problem} --json", "dlx-progress"):
+        for command in (f"helgrothy draw {problem}", f"helgrothy draw {problem} --json"):
             for what, content in {
                 "no choices": b"".join(b"%d:\n" % number for number in range(1, 130_000)),
                 "one solution": b"1:\n" + b" r1 c1 b8 (1 of 1)\n" * 50_000,

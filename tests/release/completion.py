@@ -22,7 +22,7 @@ LINES = [
     ("dlx-join m1 notes.txt not", "dlx-join m1 notes.txt notes.txt "),
     ("dlx-count 1 b", "dlx-count 1 b512 "),
     ("dlx-count 1 b512 o", "dlx-count 1 b512 o "),
-    ("dlx-progress --ver", "dlx-progress --version "),
+    ("helgrothy --ver", "helgrothy --version "),
     ("helgrothy su", "helgrothy sudoku "),
     ("helgrothy make polyo", "helgrothy make polyominoes "),
     ("helgrothy make roster --r", "helgrothy make roster --rest "),

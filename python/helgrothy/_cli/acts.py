@@ -12,6 +12,7 @@ from ..problem import Problem
 from . import console
 from . import count as count_command
 from .console import fail, write
+from .line import Report
 
 if TYPE_CHECKING:
     import argparse
@@ -45,7 +46,10 @@ def make_and_solve(arguments: argparse.Namespace) -> int:
     solving.check_one(arguments)
     if arguments.cost is not None or arguments.given or arguments.forbidden:
         raise ValueError("this search has a problem of its own: without --cost, --with and --without")
-    return solving.show_found(search(None if arguments.seconds is None else arguments.seconds * _SHARE), arguments)
+    with Report(["helgrothy"]) as report:
+        found = search(None if arguments.seconds is None else arguments.seconds * _SHARE, report)
+    solving.show_found(found, arguments)
+    return 0 if found.is_proved else 2
 
 
 def _made(arguments: argparse.Namespace) -> Problem[Any]:

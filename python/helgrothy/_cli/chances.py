@@ -14,6 +14,7 @@ from ..make import KINDS
 from ..make.kind import kind_of
 from . import console
 from .console import fail, write
+from .line import Report
 from .showing import drawing
 
 if TYPE_CHECKING:
@@ -33,7 +34,8 @@ def show(asked: Given[Any], arguments: argparse.Namespace) -> int:
         raise ValueError("--chances has no page: --svg is its picture")
     seconds = _SECONDS if arguments.seconds is None else arguments.seconds * _SHARE
     try:
-        found = occurrences.find(asked.inner, seconds)
+        with Report(["dlx-count", f"dlx{asked.inner.kind}"], "count"):
+            found = occurrences.find(asked.inner, seconds)
     except OutOfTime as error:
         return fail(f"{error}; --seconds S gives it more than {seconds:g} seconds")
     except ProgramFailed as error:

@@ -11,12 +11,13 @@ import sys
 import threading
 import time
 from collections.abc import Callable, Iterable, Iterator, Sequence
-from contextlib import contextmanager, suppress
+from contextlib import contextmanager, nullcontext, suppress
 from typing import Any, NoReturn
 
 from .._run.programs import end_all
 from .._text.shown import bytes_of, shown
 from ..errors import HelgrothyError, OutOfTime, reason_of
+from .line import LINE
 
 # No legal problem that names each item as short as it can is longer, and more isn't read.
 _MOST_TEXT = 1 << 30
@@ -166,7 +167,7 @@ def _end(number: int, _: object) -> NoReturn:
 
 def say(line: str) -> None:
     """Writes a line to standard error. Raises `OSError`."""
-    with _naming(_ERROR):
+    with LINE.hidden(), _naming(_ERROR):
         print(shown(line), file=sys.stderr, flush=True)
 
 
@@ -195,9 +196,12 @@ def write(texts: Iterable[str]) -> None:
 def write_bytes(pieces: Iterable[bytes]) -> None:
     """Writes to standard output, to a terminal only what it prints. Raises `OSError`."""
     out = sys.stdout.buffer
-    for piece in _printed(pieces) if sys.stdout.isatty() else pieces:
-        with _naming(_OUTPUT):
+    is_terminal = sys.stdout.isatty()
+    for piece in _printed(pieces) if is_terminal else pieces:
+        with LINE.hidden() if is_terminal else nullcontext(), _naming(_OUTPUT):
             out.write(piece)
+            if is_terminal:
+                out.flush()
     with _naming(_OUTPUT):
         out.flush()
 
@@ -273,7 +277,8 @@ def limited(most: float | None) -> Iterator[None]:
     if most is None or not _is_main():
         yield
         return
-    clock = _Clock(most, sys.unraisablehook)
+    global _clock
+    clock = _clock = _Clock(most, sys.unraisablehook)
     before = signal.signal(signal.SIGALRM, clock.end)
     sys.unraisablehook = clock.lose
     try:
@@ -286,6 +291,12 @@ def limited(most: float | None) -> Iterator[None]:
         signal.signal(signal.SIGALRM, before)
         sys.unraisablehook = clock.tell
         end_all()
+
+
+def no_longer_limited() -> None:
+    """The time is heard no longer: what was found by then is shown."""
+    if _clock is not None:
+        _clock.is_open = False
 
 
 class _Clock:
@@ -311,6 +322,10 @@ class _Clock:
             self._raised = None
         else:
             self.tell(lost)
+
+
+# That of the command that runs.
+_clock: _Clock | None = None
 
 
 def _is_main() -> bool:

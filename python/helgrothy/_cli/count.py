@@ -5,14 +5,20 @@ from __future__ import annotations
 from collections.abc import Callable
 from typing import TYPE_CHECKING, Any
 
+from .._run.programs import has
 from ..errors import OutOfTime
 from . import console
 from .console import number, seconds, write
+from .line import Report
 
 if TYPE_CHECKING:
     import argparse
 
+    from .._run.counter import Count
     from ..problem import Problem
+
+# On a terminal the search prints one of so many solutions, which says how far it is.
+_SPACING = 100
 
 
 def add(commands: Any, act: Callable[[argparse.Namespace], int]) -> None:
@@ -54,7 +60,7 @@ def show(problem: Problem[Any], arguments: argparse.Namespace) -> int:
     """Prints how many solutions a problem has."""
     memory = {"megabytes": arguments.megabytes} if "megabytes" in arguments else {}
     try:
-        counted = problem._count(arguments.seconds, gives_up=_tell_search, **memory)
+        counted = counted_with_line(problem, arguments.seconds, **memory)
     except OutOfTime as error:
         console.say(f"helgrothy: {error}; {error.found} solution{'' if error.found == 1 else 's'} till then")
         return 2
@@ -68,13 +74,33 @@ def show(problem: Problem[Any], arguments: argparse.Namespace) -> int:
     return 0 if counted.total else 1
 
 
+def counted_with_line(problem: Problem[Any], seconds: float | None, **memory: int) -> Count:
+    """How many solutions a problem has, with a line on a terminal meanwhile."""
+    program = f"dlx{problem.kind}"
+    with Report([*(["dlx-count"] if has("dlx-count") else []), program], "count") as report:
+
+        def give_up(told: str) -> None:
+            report(at_work=[program])
+            console.say(f"helgrothy: {told.splitlines()[-1] if told else 'dlx-count failed'} The search goes on.")
+
+        if not report.is_shown:
+            return problem._count(seconds, gives_up=give_up, **memory)
+        from .._spans.progress import Reached, told
+
+        reached = Reached()
+
+        def printed(chunk: bytes) -> None:
+            reached.read(chunk)
+            if reached.number and report.is_due():
+                report(far=told(reached.number, reached.share(), report.seconds))
+
+        report(far=f"fewer than {_SPACING} found")
+        return problem._count(seconds, _SPACING, gives_up=give_up, printed=printed, **memory)
+
+
 def check(arguments: argparse.Namespace) -> None:
     """Raises `ValueError` where a count can't be shown in the form that is asked for."""
     if arguments.shuffle is not None or arguments.up_to_symmetry:
         raise ValueError("all solutions are counted: without --shuffle and --up-to-symmetry")
     if arguments.svg or arguments.html or arguments.data == "csv":
         raise ValueError("a number is printed as it is or by --json")
-
-
-def _tell_search(told: str) -> None:
-    console.say(f"helgrothy: {told.splitlines()[-1] if told else 'dlx-count failed'} The search goes on.")

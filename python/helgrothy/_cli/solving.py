@@ -20,6 +20,7 @@ from ..problem import Problem
 from . import console
 from . import count as count_command
 from .console import fail, write
+from .line import Report
 from .puzzle_acts import choices, uniqueness
 from .showing import check as check_forms
 from .showing import listed_options, page_of, showing
@@ -118,11 +119,12 @@ class _Listing:
                     self._draw_lot(inner)
                 if self._of == 0:
                     return self._end(0, True, "", watch)
-                solutions, among = _search(
-                    inner, self._arguments, self._limit, self._number, self._left(), self._of
-                )
-                with solutions:
-                    self._show_all(_counted_beside(solutions, watch), watch)
+                with Report(_at_work(inner, self._arguments, self._number)) as report:
+                    solutions, among = _search(
+                        inner, self._arguments, self._limit, self._number, self._left(), self._of, report
+                    )
+                    with solutions:
+                        self._show_all(_counted_beside(solutions, watch), watch, report)
         except OutOfTime as error:
             return self._give_up(error)
         except engines.Claimed as claim:
@@ -137,7 +139,7 @@ class _Listing:
     def _draw_lot(self, problem: Problem[Any]) -> None:
         from .._run.numbered import lot
 
-        self._of = problem._count(self._left()).total
+        self._of = count_command.counted_with_line(problem, self._left()).total
         self._limit = self._number = lot(self._of, self._arguments.seed) if self._of else None
 
     def _left(self) -> float | None:
@@ -148,9 +150,11 @@ class _Listing:
         share = _SHARE_OF_PAGE if self._page is not None else 1.0
         return max(0.0, float(most) * share - (time.monotonic() - self._begun))
 
-    def _show_all(self, solutions: Iterator[Solution[Any]], watch: Watch) -> None:
+    def _show_all(self, solutions: Iterator[Solution[Any]], watch: Watch, report: Report) -> None:
         for searched in solutions:
             watch.end()
+            if report.is_due() and self._number is None:
+                self._tell_how_far(searched, report)
             found = self._asked.outer(searched)
             self._show(self._number or self._shown + 1, found, lambda _: found.numbers, lambda: found.steps)
             self._shown += 1
@@ -161,6 +165,14 @@ class _Listing:
                     return
                 if self._left() == 0.0:
                     raise OutOfTime(f"it wasn't done in {self._arguments.seconds:g} seconds")
+
+    def _tell_how_far(self, searched: Solution[Any], report: Report) -> None:
+        if self._arguments.shuffle is not None:
+            report(far=f"{self._shown + 1:,} found")
+            return
+        from .._spans.progress import share_before, told
+
+        report(far=told(self._shown + 1, share_before(searched.steps), report.seconds))
 
     def _give_up(self, error: OutOfTime) -> int:
         reached = max(error.found, self._shown)
@@ -219,6 +231,7 @@ def _search(
     number: int | None,
     seconds: float | None,
     total: int | None,
+    report: Report,
 ) -> tuple[Solutions[Any], str]:
     """The solutions that are asked for, and among what they are counted; total: of all, where that is known."""
     if arguments.shuffle is not None:
@@ -232,8 +245,16 @@ def _search(
 
         return numbered.solve(problem, number, seconds, total), ""
     if limit == 1:
-        return engines.solve(problem, seconds, console.say, console.hint), ""
+        return engines.solve(problem, seconds, console.say, console.hint, report), ""
     return problem.solve(limit, seconds=seconds), ""
+
+
+def _at_work(problem: Problem[Any], arguments: argparse.Namespace, number: int | None) -> list[str]:
+    """The programs that `_search` begins."""
+    program = f"dlx{problem.kind}"
+    if arguments.shuffle is not None:
+        return ["dlx-span"]
+    return [program] if number is None or arguments.up_to_symmetry else ["dlx-count", program]
 
 
 def _up_to_symmetry(
@@ -318,7 +339,8 @@ def _show_least(asked: Given[Any], costs: Costs, arguments: argparse.Namespace) 
     seconds = None if arguments.seconds is None else arguments.seconds * SHARE
     try:
         numbers_of = [costs.numbers[place] for place in asked.places]
-        least = cost.least(asked.inner, numbers_of, seconds, console.say, console.hint)
+        with Report(["dlx3"]) as report:
+            least = cost.least(asked.inner, numbers_of, seconds, console.say, console.hint, report)
     except cost.NotLeast as error:
         most = cost.MOST_SECONDS if arguments.seconds is None else arguments.seconds
         if error.best is None:

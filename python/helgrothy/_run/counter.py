@@ -40,10 +40,12 @@ def count(
     *,
     megabytes: int = MOST_MEGABYTES,
     gives_up: Callable[[str], object] = lambda told: None,
+    printed: Callable[[bytes], object] = lambda chunk: None,
 ) -> Count:
     """How many solutions the problem of a text has.
 
     words: arguments of the search. gives_up: gets what dlx-count said where it has no number; the search goes on.
+    printed: gets what the search prints.
 
     Raises `ProgramNotFound`, `ProgramFailed` and `OutOfTime`, whose `found` is the last number that the search printed.
     """
@@ -56,6 +58,7 @@ def count(
                 for chunk in search.chunks(until=counter):
                     found = last_number(line + chunk) or found
                     line = (line + chunk).rpartition(b"\n")[2]
+                    printed(chunk)
                 if counter is not None and not search.has_ended:
                     told = counter.messages().rpartition("\n")[2] if counter.status() == 0 else ""
                     if last := LAST_LINE.match(told):

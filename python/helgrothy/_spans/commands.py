@@ -1,4 +1,4 @@
-"""The commands `helgrothy search` and `dlx-progress`.
+"""The command `helgrothy search`.
 
 Status 0 says that all is done, 2 that the command could not be done, 3 that a read or write failed, 6 that a search
 isn't done and goes on with the same command.
@@ -12,10 +12,10 @@ import subprocess
 import sys
 import time
 from collections.abc import Sequence
-from typing import Any, NoReturn
+from typing import Any
 
-from .. import __version__
 from .._cli import console
+from .._text.clock import duration, percent
 from ..errors import OutOfTime, ProgramFailed, SearchFault
 from . import record as records
 from .cuts import rows
@@ -24,8 +24,7 @@ from .held import is_at_work
 from .join import PROGRAM as JOIN
 from .join import Ending, Join
 from .join import count as joined
-from .loop import Job, Kept, Loop, percent
-from .progress import duration, follow
+from .loop import Job, Kept, Loop
 from .rows import WHOLE, Span, share_of, word_of
 from .show import Shown
 from .span import Task, run
@@ -329,38 +328,6 @@ def _rows(arguments: argparse.Namespace) -> int:
         return _failed(error)
     console.write(f"{word_of(row)}\n" for row in found)
     return 0
-
-
-# ---- dlx-progress
-
-
-def progress_parser() -> argparse.ArgumentParser:
-    """The parser of `dlx-progress`."""
-    parser = console.Parser(
-        prog="dlx-progress",
-        description="Reads a listing as a search prints it, and reports on standard error how far the search is, once "
-        "a second.",
-        epilog="example:\n  dlx1 m1000 < queens.dlx | dlx-progress",
-        formatter_class=argparse.RawDescriptionHelpFormatter,
-    )
-    parser.add_argument("--version", action="version", version=f"dlx-progress {__version__}")
-    return parser
-
-
-def _progress(words: Sequence[str] | None) -> int:
-    progress_parser().parse_args(words)
-    follow(console.input_lines(), console.say)
-    return 0
-
-
-def progress_main(words: Sequence[str] | None = None) -> int:
-    """Does what the arguments of `dlx-progress` say; returns its status."""
-    return console.run("dlx-progress", lambda: _progress(words))
-
-
-def run_progress() -> NoReturn:
-    """The command `dlx-progress` of an installed package."""
-    sys.exit(progress_main())
 
 
 # ---- what commands have in common

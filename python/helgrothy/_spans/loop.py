@@ -20,6 +20,7 @@ from functools import partial
 from typing import TYPE_CHECKING, NamedTuple, Union
 
 from .. import __version__
+from .._text.clock import clock, percent
 from ..errors import HelgrothyError, ProgramFailed, ProgramNotFound, SearchFault, reason_of
 from . import record as records
 from .pace import LONGEST, SHORTEST, Pace
@@ -305,20 +306,6 @@ def _once_more(todo: _Todo, error: BaseException) -> _Todo:
     if isinstance(error, ProgramFailed) and error.status in (1, 2) or todo.failed + 1 == _TRIES:
         raise error if isinstance(error, HelgrothyError) else _fault(error) from None
     return todo._replace(failed=todo.failed + 1)
-
-
-def percent(share: float) -> str:
-    """A share, rounded down: what isn't done isn't 100 %."""
-    return f"{int(share * 1000) / 10:g} %"
-
-
-def clock(seconds: float) -> str:
-    """A time as 0:05, 1:02:03 or 3 days 4 h."""
-    whole = int(seconds)
-    if whole >= 86_400:
-        return f"{whole // 86_400} days {whole % 86_400 // 3600} h"
-    hours, minutes = whole // 3600, whole % 3600 // 60
-    return f"{hours}:{minutes:02d}:{whole % 60:02d}" if hours else f"{minutes}:{whole % 60:02d}"
 
 
 def _fault(error: BaseException) -> SearchFault:

@@ -1,65 +1,60 @@
-"""How far a search is, from the rows of the solutions that pass."""
+"""How far a search is, from the row of the last solution that it printed."""
 
 from __future__ import annotations
 
 import re
-import time
-from collections.abc import Callable, Iterable, Iterator
+from collections.abc import Iterable, Sequence
 
-from .._text.shown import text_of
-from ..errors import ListingFault
+from .._text.clock import clock, percent
+from .._text.listing import Step
 from .rows import place, share_of
 
-_HEADER = re.compile(rb"([0-9]{1,20}):\n?\Z")
-_CHOICE = re.compile(rb"\A .* \(([0-9]{1,10}) of ([0-9]{1,10})\)\n?\Z")
-# So much of a line is shown.
-_LONGEST = 40
+_CHOICE = re.compile(rb"^ .* \(([0-9]{1,10}) of ([0-9]{1,10})\)$", re.MULTILINE)
+
+# Before so much of a search is done nobody knows how long it takes.
+_LEAST_SHARE = 0.001
 
 
-def shares(listing: Iterable[bytes]) -> Iterator[tuple[int, float]]:
-    """Of each solution of a listing its number, and the share of the tree before its row. Raises `ListingFault`."""
-    number = 0
-    row: list[int] = []
-    branches: list[int] = []
-    for at, line in enumerate(listing, 1):
-        choice = _CHOICE.search(line)
-        header = None if choice else _HEADER.match(line)
-        if choice is not None and number and 1 <= int(choice.group(1)) <= int(choice.group(2)):
-            row.append(int(choice.group(1)))
-            branches.append(int(choice.group(2)))
-        elif header is not None and int(header.group(1)):
-            if number:
-                yield number, share_of(place(tuple(row), tuple(branches)))
-            number, row, branches = int(header.group(1)), [], []
-        else:
-            raise ListingFault(at, text_of(line.rstrip(b"\n")[:_LONGEST]), "bad line")
-    if number:
-        yield number, share_of(place(tuple(row), tuple(branches)))
+class Reached:
+    """How far the search is whose listing is read. number: that of its last solution, 0 before the first."""
+
+    def __init__(self) -> None:
+        self._rest = b""
+        self._last = b""
+        self.number = 0
+
+    def read(self, chunk: bytes) -> None:
+        """Takes the next part of a listing as a program prints it."""
+        text = self._rest + chunk
+        # No line but that of a solution's number ends with a colon.
+        last = text.rfind(b":\n")
+        if last < 0:
+            self._rest = text
+            return
+        start = text.rfind(b"\n", 0, last) + 1
+        before = text.rfind(b":\n", 0, start)
+        if before >= 0:
+            begin = text.rfind(b"\n", 0, before) + 1
+            self._last = text[begin:start]
+            self.number = int(text[begin:before])
+        self._rest = text[start:]
+
+    def share(self) -> float:
+        """The share of the tree before the last solution, if all branches of a level are taken to be equally large."""
+        return _share([(int(k), int(n)) for k, n in _CHOICE.findall(self._last)])
 
 
-def follow(listing: Iterable[bytes], tell: Callable[[str], object], every: float = 1.0) -> None:
-    """Reports how far the search is, at most so often, and where it ended."""
-    start = last = time.monotonic()
-    number, share, has_told = 0, 0.0, True
-    for number, share in shares(listing):
-        now = time.monotonic()
-        has_told = now - last >= every
-        if has_told:
-            tell(_told(number, share, now - start))
-            last = now
-    if not has_told:
-        tell(_told(number, share, time.monotonic() - start))
+def share_before(steps: Iterable[Step]) -> float:
+    """The same before the solution to which these steps led."""
+    return _share([(step.branch, step.branches) for step in steps])
 
 
-def duration(seconds: float) -> str:
-    """A time as 0.5 seconds or 3.2 hours."""
-    for length, name in ((86_400, "days"), (3_600, "hours"), (60, "minutes")):
-        if seconds >= 2 * length:
-            return f"{seconds / length:.1f} {name}"
-    return f"{seconds:.1f} seconds"
+def _share(choices: Sequence[tuple[int, int]]) -> float:
+    return share_of(place(tuple(k for k, _ in choices), tuple(n for _, n in choices)))
 
 
-def _told(number: int, share: float, seconds: float) -> str:
-    left = f", about {duration(seconds * (1 / share - 1))} left" if share > 0 else ""
-    # Rounded down: what isn't done isn't 100 %.
-    return f"{duration(seconds)}: solution {number}, {int(share * 10_000) / 100:.2f}% of the tree{left}"
+def told(number: int, share: float, seconds: float) -> str:
+    """How far a search is that took so long to the solution of a number, where so much of the tree is before it."""
+    if share < _LEAST_SHARE:
+        return f"{number:,} found, less than {percent(_LEAST_SHARE)} of the tree"
+    return f"{number:,} found, {percent(share)} of the tree, ~{clock(seconds * (1 / share - 1))} left"

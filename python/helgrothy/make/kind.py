@@ -10,6 +10,7 @@ from dataclasses import dataclass
 from typing import TYPE_CHECKING, Any, TypeVar
 
 from .._cli.console import did_you_mean, read
+from .._run.report import Hear
 from .._text.syntax import MOST_ITEMS, MOST_USES
 from ..draw import Drawing
 from ..errors import TableFault
@@ -30,11 +31,15 @@ _MADE = re.compile(r"helgrothy make ([a-z]+)(?: |\Z)")
 
 @dataclass(frozen=True)
 class Found:
-    """A solution that a kind's own search found: the problem, the places of the options, and what is known of it."""
+    """A solution that a kind's own search found: the problem, the places of the options, and what is known of it.
+
+    is_proved: whether it is proved to be what was asked for, and not only the best that was found.
+    """
 
     problem: Problem[Any]
     numbers: list[int]
     remark: str
+    is_proved: bool = True
 
 
 @dataclass(frozen=True)
@@ -44,7 +49,8 @@ class Kind:
     cell, grid: of a board or a box the pattern that finds the cells of an option, and the grid of a problem's cells, as
         `symmetry.motions` takes them.
     add_search_arguments, search: of a kind that has a search of its own the arguments of that search, and what searches
-    for so many seconds, or for its own time without a number; None where the arguments don't ask for it.
+    for so many seconds, or for its own time without a number, and tells how far it is; None where the arguments don't
+    ask for it.
     wishes: of a kind whose table may have wishes those of a problem, from the table in its comments.
     clues: of a kind whose clues are options what these are, for who makes such puzzles.
     remarks: what is no fault of a problem that was made, and yet may be meant otherwise.
@@ -59,7 +65,7 @@ class Kind:
     make: Callable[[argparse.Namespace], Problem[Any]]
     drawing: Callable[[Problem[Any]], Drawing]
     add_search_arguments: Callable[[argparse.ArgumentParser], None] = lambda parser: None
-    search: Callable[[argparse.Namespace], Callable[[float | None], Found] | None] = lambda arguments: None
+    search: Callable[[argparse.Namespace], Callable[[float | None, Hear], Found] | None] = lambda arguments: None
     cell: str | None = None
     grid: Callable[[Problem[Any]], str] = lambda problem: "square"
     wishes: Callable[[Problem[Any]], list[Wish]] = lambda problem: []

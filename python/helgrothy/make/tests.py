@@ -7,13 +7,14 @@ import re
 from collections.abc import Callable, Iterator, Sequence
 from typing import Any
 
-from .._cli.console import positive
+from .._cli.console import no_longer_limited, positive
+from .._run.report import Hear, unheard
 from .._text.sheet import Row, Sheet
 from ..draw import Cell, Drawing, Picture, check_size, shade
 from ..problem import Problem
 from . import allowed
 from .designs import LEVELS, Design, Factor, Option, read_factors, read_rules
-from .fewest import Few, fewest
+from .fewest import Best, Few, fewest
 from .kind import Found, Kind, check_numbers, check_texts, read_text
 
 _ITEM = re.compile(r"t([0-9]+)/([^:]+)(?::(.+))?\Z")
@@ -44,18 +45,22 @@ def problem(factors: str, tests: int, strength: int = 2) -> Problem[Option]:
 
 
 def few(factors: str, strength: int = 2, seconds: float | None = None) -> Few:
-    """The design of the fewest tests that is found in the time; without a time in some ten seconds of a processor, and
-    then the same on every machine. It begins with the tests that exist.
+    """The design of the fewest tests that is found in the time, as dlxcheck judges it to be one; without a time in some
+    ten seconds of a processor at most, and then the same on every machine. It begins with the tests that exist.
 
     Raises `TableFault`, `ValueError`, or `OutOfTime` where the time isn't enough for any.
     """
+    return _best(factors, strength, seconds, unheard).few()
+
+
+def _best(factors: str, strength: int, seconds: float | None, hear: Hear) -> Best:
     check_texts(factors=factors)
     check_numbers(strength=strength)
     read = read_factors(factors)
     rules = read_rules(factors, read)
     if rules:
-        return allowed.fewest(factors, read, strength, rules, seconds)
-    return fewest(read, strength, seconds)
+        return allowed.fewest(factors, read, strength, rules, seconds, hear)
+    return fewest(read, strength, seconds, hear)
 
 
 class _Tests:
@@ -154,14 +159,20 @@ def _add_search_arguments(parser: argparse.ArgumentParser) -> None:
     )
 
 
-def _search(arguments: argparse.Namespace) -> Callable[[float | None], Found] | None:
+def _search(arguments: argparse.Namespace) -> Callable[[float | None, Hear], Found] | None:
     if not arguments.least:
         return None
     if arguments.tests is not None:
         raise ValueError("either --tests or --least")
     table = _table(arguments)
-    hint = "; --seconds S looks longer" if arguments.seconds is None else " in the time"
-    return lambda seconds: few(table, arguments.strength, seconds).found(hint)
+
+    def search(seconds: float | None, hear: Hear) -> Found:
+        best = _best(table, arguments.strength, seconds, hear)
+        # What was found is shown, also where that takes longer.
+        no_longer_limited()
+        return best.few().found(arguments.seconds)
+
+    return search
 
 
 KIND = Kind(
