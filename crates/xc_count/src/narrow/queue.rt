@@ -1,7 +1,7 @@
 //! The items that an order may take next, of which it takes the best.
 //!
-//! An item is put in again each time it got better, and what was put in before is passed over when it comes. So the next
-//! item is found in few steps, however many there are.
+//! An item is put in again when it got better, and what was put in before is passed over when it comes. So the next one
+//! is found in few steps, however many there are.
 
 ghost use Rattle.std.specs.Prelude.{◌≡◌, ◌+◌, length, IfSome};
 ghost use Rattle.std.specs.BinaryHeap.{heap_len};
