@@ -48,11 +48,12 @@ fn sweep_beside(
     if planning > FIRST_WORK && rival.ahead(planning) {
         return Err(Halted::Overtaken);
     }
-    let plan = Plan::new(alloc, problem)?;
+    let plan = Plan::new(alloc, problem, bound)?;
+    let room = plan.beside(bound);
     if once {
-        sweep(alloc, problem, &plan, bound, rival)
+        sweep(alloc, problem, &plan, room, rival)
     } else {
-        sweep_options(alloc, problem, &plan, bound, rival)
+        sweep_options(alloc, problem, &plan, room, rival)
     }
 }
 

@@ -62,8 +62,8 @@ fn nth_by_plan(
     ensures { IfOk result (λ found. option_map (λ c. c.items) found
         ≡ numbered_get (members problem.now.puzzle) number.now) }
 {
-    let plan = Plan::new(alloc, problem)?;
-    nth_by_counts(alloc, problem, &plan, number, bound)
+    let plan = Plan::new(alloc, problem, bound)?;
+    nth_by_counts(alloc, problem, &plan, number, plan.beside(bound))
 }
 
 /// Up to so many primary items going down by counts takes little time.

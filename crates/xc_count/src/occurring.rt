@@ -81,8 +81,8 @@ fn occurrences_by_plan(
     requires valid { IsValid problem.now.puzzle }
     ensures { IfOk result (λ ns. ns.items ≡ occurrences problem.now.puzzle) }
 {
-    let plan = Plan::new(alloc, problem)?;
-    occurrences_by_states(alloc, problem, &plan, bound)
+    let plan = Plan::new(alloc, problem, bound)?;
+    occurrences_by_states(alloc, problem, &plan, plan.beside(bound))
 }
 
 /// In how many solutions each option is, in the order of the file. It goes over the states of a sweep twice, so it

@@ -34,8 +34,13 @@ const WHOLE: u64 = 1 << 60;
 const GRAIN: u64 = 1 << 40;
 /// The branches of the first turn.
 const FIRST_BRANCHES: u64 = 64;
-/// The work of a branch beside that of going over options.
+/// The work of a branch beside that of going over options, and how much more it is for each primary item from so many
+/// on, since it looks through the open ones.
 const BRANCH_WORK: u64 = 60;
+
+const ITEM_WORK: u64 = 1;
+
+const FEW_ITEMS: u32 = 1000;
 /// The work of a use of an option that is gone over, where all uses are in the nearest cache and where not.
 const NEAR_WORK: u64 = 2;
 
@@ -51,6 +56,8 @@ pub struct Rival<'a> {
     gone_over: &'a Cell<u64>,
     /// The work of going over an option that was looked at.
     option_work: u64,
+    /// The work of a branch beside that.
+    branch_work: u64,
     /// How many covers it has passed.
     passed: u64,
     /// The work of a turn, about.
@@ -101,6 +108,11 @@ fn option_work(problem: &Problem) -> u64 {
     (SAMPLE * use_work).saturating_mul(uses) / u64::from(problem.options()).max(1)
 }
 
+/// The work of a branch of a search of this problem, beside that of going over options.
+fn branch_work(problem: &Problem) -> u64 {
+    BRANCH_WORK + ITEM_WORK * u64::from(problem.primary().saturating_sub(FEW_ITEMS))
+}
+
 /// The work of a turn of a search of this problem.
 fn turn_work(problem: &Problem) -> u64 {
     let looks = u64::from(problem.items()) + u64::from(problem.options());
@@ -135,6 +147,7 @@ impl<'a> Rival<'a> {
             span: all_members(alloc, problem, gone_over)?,
             gone_over,
             option_work: option_work(problem),
+            branch_work: branch_work(problem),
             passed: 0,
             turn_work: turn_work(problem),
             branches: FIRST_BRANCHES,
@@ -155,7 +168,7 @@ impl<'a> Rival<'a> {
         let options = self.gone_over.get().wrapping_sub(before);
         let work = went
             .steps
-            .saturating_mul(BRANCH_WORK)
+            .saturating_mul(self.branch_work)
             .saturating_add(options.saturating_mul(self.option_work));
         self.branches = next_branches(self.branches, work, self.turn_work);
         self.done = self.done.saturating_add(work);
@@ -235,6 +248,7 @@ impl<'a> Rival<'a> {
             mut span,
             gone_over: _,
             option_work: _,
+            branch_work: _,
             passed,
             turn_work: _,
             branches: _,
