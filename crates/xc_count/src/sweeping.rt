@@ -180,7 +180,7 @@ fn work_of_tries(problem: &Problem, plan: &Plan, step: Step) -> u64
 }
 
 /// What the states of a layer become once the step's item is held.
-fn pass(
+pub fn pass(
     alloc: Global,
     problem: &Problem,
     plan: &Plan,
