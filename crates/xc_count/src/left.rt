@@ -26,7 +26,7 @@ fn layer_of(
         ≡ key_below problem.now.puzzle plan.now 0 key.now) }
     ensures held { IfOk result (λ l. EachKey (holds_first plan.now 0 0) l.states.items) }
 {
-    let mut layer = Layer::new(alloc, bound);
+    let mut layer = Layer::new(alloc, problem, bound);
     layer.add(key, &Natural::from_u64(alloc, 1))?;
     Ok(layer)
 }
@@ -50,7 +50,7 @@ fn pass_alone(
     ensures held { IfOk result (λ l. EachKey (holds_first plan.now (step.place + 1) step.next) l.states.items) }
     ensures room { IfOk result (λ l. l.bytes ≤ bound - layer.bytes) }
 {
-    let mut next = Layer::new(alloc, layer.beside(bound));
+    let mut next = Layer::new(alloc, problem, layer.beside(bound));
     let mut scratch = Vec::new(alloc);
     let mut states = layer.states;
     while let Some(state) = pop_state(&mut states) {
