@@ -31,7 +31,7 @@ fn layer_of(
         ≡ key_below problem.now.puzzle plan.now from key.now) }
     ensures held { IfOk result (λ l. EachKey (holds_first plan.now place from) l.states.items) }
 {
-    let mut layer = Layer::new(alloc, bound);
+    let mut layer = Layer::new(alloc, problem, bound);
     layer.add(key, &Natural::from_u64(alloc, 1))?;
     Ok(layer)
 }
@@ -108,10 +108,15 @@ pub fn count_left(
     let start = start_of(problem, plan, key);
     let mut from = start.from;
     let mut layer = layer_of(alloc, problem, plan, start.place, from, start.key, bound)?;
+    let mut tried = 0;
     for place in start.place..plan.order.len() {
         let step = plan.step(place, from);
-        layer = pass(alloc, problem, plan, step, layer, bound, rival)?;
+        layer = pass(alloc, problem, plan, step, layer, bound, &mut tried, rival)?;
         from = step.next;
+    }
+    // Of the many counts that a number takes, each may be less work than a look at the search.
+    if rival.after(tried) {
+        return Err(Halted::Overtaken);
     }
     Ok(total(alloc, problem, plan, from, layer)?)
 }
