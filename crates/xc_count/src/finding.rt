@@ -113,9 +113,9 @@ fn nth_by_turns(
 
 /// The solution of a number in the listing, counted from 1; none where there are fewer. It goes down the branches of
 /// the search, and counts the solutions behind each as `count` does, so it makes none of those before it. (Finding an
-/// object by its rank: Nijenhuis and Wilf, Combinatorial Algorithms, 1978.) A search up to the solution takes turns with
-/// the counts, unless it would have to pass 10^18 solutions. It goes on alone if the states of a count would take more
-/// than about `bound` bytes. If an item has other bounds than `1:1`, there is only the search.
+/// object by its rank: Nijenhuis and Wilf, Combinatorial Algorithms, 1978.) A search up to the solution takes turns
+/// with the counts, unless it would have to pass 10^18 solutions. It goes on alone if the states of a count would take
+/// more than about `bound` bytes. If an item has other bounds than `1:1`, there is only the search.
 ///
 /// # Errors
 /// `Memory` where there is none for the search's tables.
