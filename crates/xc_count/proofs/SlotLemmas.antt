@@ -13,7 +13,7 @@ use Rattle.xc_input.proofs.ListLemmas.{by_option, get_left, get_seam, not_some}
 use Rattle.xc_count.specs.declared.layer.Slot.{Slot}
 use Rattle.xc_count.specs.declared.layer.State.{State}
 use Rattle.xc_input.specs.declared.seed.Seed.{Seed}
-use Rattle.xc_count.specs.inner.Layers.{AreFound, AreHashed, Finds, bytes_of, charged, has_place, hash_by, is_full}
+use Rattle.xc_count.specs.inner.Layers.{AreFound, AreHashed, Finds, state_bytes, charged, has_place, hash_by, is_full}
 use Rattle.xc_count.specs.inner.Layers.{leads, slot_after, told}
 
 set_here : {X : Type 0} (xs : List X) (k : ℕ) (v : X) → k < length xs → slice_get (set xs k v) k ≡ Some v
@@ -198,14 +198,14 @@ if_none (Some x) f p = p
 told_push : (ss : List State) (s : State) → told (ss ++ s ∷ []) ≡ told ss ++ (s.key.items, s.hash) ∷ []
 told_push ss s = map-append (λ t. (t.key.items, t.hash)) ss (s ∷ [])
 
-pub bytes_push : (ss : List State) (s : State) → charged (ss ++ s ∷ []) ≡ charged ss + bytes_of s.key.items s.ways
-bytes_push ss s = sum_by_push (λ t. bytes_of t.key.items t.ways) ss s
+pub bytes_push : (ss : List State) (s : State) → charged (ss ++ s ∷ []) ≡ charged ss + state_bytes s.key.items s.ways
+bytes_push ss s = sum_by_push (λ t. state_bytes t.key.items t.ways) ss s
 
 -- another number of one of them
 pub bytes_set : (ss : List State) (k : ℕ) (s t : State) → slice_get ss k ≡ Some s → t.key ≡ s.key
     → charged (set ss k t) + 8 * limbs_above s.ways ≡ charged ss + 8 * limbs_above t.ways
 bytes_set ss k s t e key =
-    let there = sum_by-set (λ u. bytes_of u.key.items u.ways) ss k t s (slice_get_within ss k s e) in
+    let there = sum_by-set (λ u. state_bytes u.key.items u.ways) ss k t s (slice_get_within ss k s e) in
     let old : get_or ss k s ≡ s = get_or_from_slice_get ss k s s e in
     let len : length t.key.items ≡ length s.key.items = ap (λ v. length v.items) key in
     omega (arith, rw old at there, len)

@@ -49,7 +49,7 @@ fn sweep_beside(
         return Err(Halted::Overtaken);
     }
     let plan = Plan::new(alloc, problem, bound)?;
-    let room = plan.beside(bound);
+    let room = plan.leaves(bound);
     if once {
         sweep(alloc, problem, &plan, room, rival)
     } else {

@@ -83,7 +83,7 @@ fn nth_by_plan(
         return Err(Halted::Overtaken);
     }
     let plan = Plan::new(alloc, problem, bound)?;
-    nth_by_counts(alloc, problem, &plan, number, plan.beside(bound), rival)
+    nth_by_counts(alloc, problem, &plan, number, plan.leaves(bound), rival)
 }
 
 /// The solution of a number beside a search that has turns, and goes on alone where the counts give up.

@@ -4,7 +4,7 @@ ghost use Rattle.std.specs.Prelude.{ℕ, Bool, ◌≡◌, ◌≢◌, ◌<◌, �
 ghost use Rattle.std.specs.Prelude.{List, All, length, Some, true, false, IfSome, IfNone, IfOk, OnOk, OnErr};
 ghost use Rattle.std.specs.Prelude.{slice_get};
 ghost use Rattle.xc_count.specs.declared.layer.State.{State};
-ghost use Rattle.xc_count.specs.inner.Layers.{AreFound, AreHashed, Finds, bytes_of, charged, hash_by, slot_after};
+ghost use Rattle.xc_count.specs.inner.Layers.{AreFound, AreHashed, Finds, state_bytes, charged, hash_by, slot_after};
 ghost use Rattle.xc_count.specs.inner.Layers.{told};
 ghost use Rattle.xc_count.specs.inner.Worth.{EachKey, worth_by};
 
@@ -310,7 +310,7 @@ impl Layer {
 
     /// How many bytes the states take with one of this key and number.
     fn bytes_with(&self, key: &[u32], ways: &Natural) -> Result<usize, CountError>
-        ensures more { IfOk result (λ bytes. bytes ≡ self.now.bytes + bytes_of key.now ways.now) }
+        ensures more { IfOk result (λ bytes. bytes ≡ self.now.bytes + state_bytes key.now ways.now) }
         ensures within { IfOk result (λ bytes. bytes ≤ self.now.bound) }
     {
         let bytes = key
@@ -341,7 +341,7 @@ impl Layer {
 
     /// Adds a state, with which they take so many bytes.
     fn push(&mut self, state: State, bytes: usize) -> Result<(), CountError>
-        requires more { bytes ≡ self.old.bytes + bytes_of state.key.items state.ways }
+        requires more { bytes ≡ self.old.bytes + state_bytes state.key.items state.ways }
         requires within { bytes ≤ self.old.bound }
         requires hashed { state.hash ≡ hash_by self.old.seed state.key.items }
         ensures states { OnOk result (self.new.states.items ≡ self.old.states.items ++ state ∷ []) }

@@ -82,7 +82,7 @@ fn occurrences_by_plan(
     ensures { IfOk result (λ ns. ns.items ≡ occurrences problem.now.puzzle) }
 {
     let plan = Plan::new(alloc, problem, bound)?;
-    occurrences_by_states(alloc, problem, &plan, plan.beside(bound))
+    occurrences_by_states(alloc, problem, &plan, plan.leaves(bound))
 }
 
 /// How many solutions a problem has, and in how many each option is, in the order of the file. First they are counted.

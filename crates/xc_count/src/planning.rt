@@ -187,7 +187,7 @@ impl Plan {
     }
 
     /// What the plan leaves of so many bytes.
-    pub fn beside(&self, bound: usize) -> usize
+    pub fn leaves(&self, bound: usize) -> usize
         ensures { result ≡ bound - self.now.bytes }
     {
         bound.saturating_sub(self.bytes)

@@ -33,7 +33,7 @@ const TRY_WORK: u64 = 6;
 /// The work of a use that agrees.
 const USE_WORK: u64 = 2;
 /// So much work is at least between two looks at whether the search has a turn.
-const LOOK_WORK: u64 = 10_000;
+const TURN_CHECK_WORK: u64 = 10_000;
 
 /// The work of trying an option of which so many uses are read that agree.
 #[inline(always)]
@@ -206,7 +206,7 @@ fn is_overtaken(layer: &Layer, tried: &mut u64, rival: &mut Rival) -> bool
     ensures { rival.new.puzzle ≡ rival.old.puzzle }
 {
     let work = tried.wrapping_add(layer.work());
-    if work < LOOK_WORK {
+    if work < TURN_CHECK_WORK {
         return false;
     }
     *tried = tried.wrapping_sub(work);

@@ -13,22 +13,22 @@ abbrev pub told : List State → List (List ℕ × ℕ)
 told ss = map (λ s. (s.key.items, s.hash)) ss
 
 -- the bytes that a state counts for: 160, four for each mark of its key, and eight for each limb of its number
-abbrev pub bytes_of : List ℕ → ℕ → ℕ
-bytes_of key ways = 4 * length key + 8 * limbs_above ways + 160
+abbrev pub state_bytes : List ℕ → ℕ → ℕ
+state_bytes key ways = 4 * length key + 8 * limbs_above ways + 160
 
 -- and all of them
 abbrev pub charged : List State → ℕ
-charged ss = sum_by (λ s. bytes_of s.key.items s.ways) ss
+charged ss = sum_by (λ s. state_bytes s.key.items s.ways) ss
 
 -- what a key writes to its hash: two marks as one number
-abbrev pub written : List ℕ → List (List ℕ)
-written [] = []
-written (a ∷ []) = le_bytes 8 a ∷ []
-written (a ∷ b ∷ key) = le_bytes 8 (a + 4294967296 * b) ∷ written key
+abbrev pub key_words : List ℕ → List (List ℕ)
+key_words [] = []
+key_words (a ∷ []) = le_bytes 8 a ∷ []
+key_words (a ∷ b ∷ key) = le_bytes 8 (a + 4294967296 * b) ∷ key_words key
 
 -- the hash of a key by a seed
 abbrev pub hash_by : Seed → List ℕ → ℕ
-hash_by seed key = folded seed.multiplier (fold (hashed seed.multiplier) seed.state (written key))
+hash_by seed key = folded seed.multiplier (fold (hashed seed.multiplier) seed.state (key_words key))
 
 -- each state has the hash of its key
 abbrev pub AreHashed : Seed → List (List ℕ × ℕ) → Type 0

@@ -3,7 +3,7 @@ use Rattle.std.specs.Prelude.{fold}
 use Rattle.std.specs.Hash.{le_bytes}
 use Rattle.xc_input.specs.Hashing.{folded, hashed}
 use Rattle.xc_input.specs.declared.seed.FoldingHasher.{FoldingHasher}
-use Rattle.xc_count.specs.inner.Layers.{written}
+use Rattle.xc_count.specs.inner.Layers.{key_words}
 use Rattle.xc_count.proofs.HashLemmas.{last_mark, no_mark, two_marks}
 use Rattle.xc_count.proofs.layer.hash_of.Goals.{then-place-key, else-place-key}
 use Rattle.xc_count.proofs.layer.hash_of.Goals as goal
@@ -14,7 +14,7 @@ loop-place-init c =
     record {
       within = omega arith;
       multiplier = ap (λ (h : FoldingHasher). h.multiplier) c.build_hasher-hasher.ensures;
-      state = ap (λ (h : FoldingHasher). fold (hashed c.args.seed.multiplier) h.state (written key))
+      state = ap (λ (h : FoldingHasher). fold (hashed c.args.seed.multiplier) h.state (key_words key))
           c.build_hasher-hasher.ensures;
     }
 
@@ -32,7 +32,7 @@ loop-place-preserved c =
     record {
       within = omega arith;
       multiplier = ap (λ (h : FoldingHasher). h.multiplier) c.write_u64.ensures ∙ c.loop-place.invariant.multiplier;
-      state = ap (λ x. fold (hashed m) x (written (drop (k + 2) key))) state
+      state = ap (λ x. fold (hashed m) x (key_words (drop (k + 2) key))) state
           ∙ two_marks m _ s key k (omega arith) c.loop-place.invariant.state;
     }
 
@@ -44,8 +44,8 @@ returns c =
     let s = c.loop-place.hasher.state in
     let so = c.loop-place.invariant in
     let end : (h : FoldingHasher) → h.multiplier ≡ m
-    → h.state ≡ fold (hashed m) c.args.seed.state (written key) → c.if-place-key.hasher ≡ h
-    → c.finish.result ≡ folded m (fold (hashed m) c.args.seed.state (written key))
+    → h.state ≡ fold (hashed m) c.args.seed.state (key_words key) → c.if-place-key.hasher ≡ h
+    → c.finish.result ≡ folded m (fold (hashed m) c.args.seed.state (key_words key))
     = λ h a b is. c.finish.ensures ∙ ap (λ (g : FoldingHasher). folded g.multiplier g.state) is ∙ ap₂ folded a b in
     elim c.if-place-key.branch [
       | then-place-key w ↦

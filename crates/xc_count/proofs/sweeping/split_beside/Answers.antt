@@ -1,4 +1,4 @@
-use Rattle.std.proofs.Common.{arith, ◌≡◌, ◌+◌, ◌*◌, ap, ◌∙◌, sym, get_or, subst, refl}
+use Rattle.std.proofs.Common.{arith, ◌+◌, ◌*◌, ap, ◌∙◌, sym, get_or, subst, refl}
 use Rattle.std.specs.Prelude.{sum_by, Contains}
 use Rattle.std.proofs.lemmas.Option.{slice_get-get_or}
 use Rattle.xc_input.proofs.ListLemmas.{contains-in, in-slice_get}
