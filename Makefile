@@ -43,6 +43,8 @@ test: bin ## the merge gate: proofs, mutants, tests, programs
 	@sh tests/examples.sh
 	@python3 tests/count/trial.py 200 1
 	@python3 tests/count/numbered.py 30 1
+	@python3 tests/count/planned.py
+	@python3 tests/count/bounds.py
 	@sh tests/guide.sh docs/GUIDE.md
 	@sh tests/python.sh
 test-mutants: ## plant the mutants of the crates
@@ -57,6 +59,8 @@ test-hostile-python: ## the Python commands on hostile inputs
 TRIALS = 2000 1
 test-count: ## dlx-count against known numbers, listings and 2,000 random problems
 	@python3 tests/count/known.py && python3 tests/count/trial.py $(TRIALS) && python3 tests/count/numbered.py 300 1
+	@python3 tests/count/planned.py
+	@python3 tests/count/bounds.py
 test-search: bin ## 500 searches by helgrothy search, with mishaps
 	@PATH=$$PWD/bin:$$PATH python3 tests/search/search.py 500 1
 test-page: bin ## the pages in a headless Chromium

@@ -564,10 +564,43 @@ def long_counts() -> Iterator[str]:
         yield from differs(f"dlx-count 1 {words} of dominoes", run(["dlx-count", "1", *words], dominoes), wanted)
     yield from differs("dlx-count 1 of queens", run(["dlx-count", "1"], queens(10)), run(["dlx1"], queens(10)))
     counted = "Altogether 14200 solutions.\n"
-    for words in ([], ["b1", "o"]):
+    # With all the memory that it may have, the search is the first as well.
+    for words in ([], ["o"], ["b1", "o"]):
         found, megabytes = measured(["dlx-count", "1", *words], queens(12))
         if (found.status, found.messages) != (0, counted) or megabytes > FEW_MEGABYTES:
             yield f"dlx-count 1 {words} of queens: {found.status}, {found.messages!r}, {megabytes} megabytes"
+    # A count of what the first branch leaves would take 390 megabytes.
+    found, megabytes = measured(["dlx-count", "1", "n1"], queens(16))
+    if found != Answer(0, run(["dlx1", "m1", "t1"], queens(16)).output, "") or megabytes > FEW_MEGABYTES:
+        yield f"dlx-count 1 n1 of queens: {found}, {megabytes} megabytes"
+    yield from long_numbers()
+
+
+def timed(words: list[str], problem: str) -> tuple[Answer, float]:
+    """An answer, and how many seconds of a processor it took."""
+    before = resource.getrusage(resource.RUSAGE_CHILDREN).ru_utime
+    answer = run(words, problem)
+    return answer, resource.getrusage(resource.RUSAGE_CHILDREN).ru_utime - before
+
+
+def choices_of_two(many: int) -> tuple[list[str], str]:
+    """So many items, each with two options, and their problem."""
+    items = [f"i{n}" for n in range(many)]
+    return items, f"{' '.join(items)}\n" + "".join(f"{item}\n{item}\n" for item in items)
+
+
+def long_numbers() -> Iterator[str]:
+    """Numbers of 1,800 digits for 12,000 options, and the first solution in the second half of 2^1600. The times that
+    are allowed are some three times those that were seen."""
+    found, taken = timed(["dlx-count", "1", "o"], choices_of_two(6000)[1])
+    if found.status != 0 or taken > 1.2:
+        yield f"dlx-count 1 o of 6,000 choices of two: status {found.status}, {taken:.1f} seconds of a processor"
+    items, problem = choices_of_two(1600)
+    number = 2**1599 + 1
+    chosen = "".join(f" {item} ({2 if item == items[0] else 1} of 2)\n" for item in items)
+    found, taken = timed(["dlx-count", "1", f"n{number}"], problem)
+    if found != Answer(0, f"{number}:\n{chosen}", "") or taken > 2:
+        yield f"dlx-count 1 n of 1,600 choices of two: status {found.status}, {taken:.1f} seconds of a processor"
 
 
 def main() -> int:

@@ -4,7 +4,7 @@
 
 Random problems of all kinds, up to 20 numbers of each, and one more than there are solutions. Then tilings of 8 by 8
 with dominoes, by a listing of every 500,000th, and by the numbers of solutions that dlx-span counts between the rows of
-100 random ones. The last line is `N passed, M failed`.
+100 random ones; and 11 queens, where the search is the first. The last line is `N passed, M failed`.
 """
 from __future__ import annotations
 
@@ -15,7 +15,7 @@ import sys
 import tempfile
 from collections import Counter
 
-from problems import Problem, dominoes, drawn
+from problems import Problem, dominoes, drawn, queens
 from running import HANG, programs
 
 
@@ -102,6 +102,20 @@ def tilings(rng: random.Random, tally: Failed) -> None:
         tally.expect(f"tiling {number}", found, (0, solutions[place]))
 
 
+def by_turns(rng: random.Random, tally: Failed) -> None:
+    """Some of the 2,680 ways for 11 queens, and more than there are: beside the counts, with few states, and alone."""
+    text = queens(11).text()
+    solutions = listed(1, text)
+    wanted = {number: (0, solutions[number - 1]) for number in (1, *rng.sample(range(1, 2681), 4), 2680)}
+    wanted |= {number: (5, b"") for number in (2681, 10**18 - 1, 10**18)}
+    for number, answer in wanted.items():
+        for bound in ([], ["b1"], ["b0"]):
+            words = [*bound, f"n{number}"]
+            tally.expect(f"11 queens, {' '.join(words)}", output("dlx-count", ["1", *words], text), answer)
+    each = {output("dlx-count", ["1", *bound, "o"], text) for bound in ([], ["b1"], ["b0"])}
+    tally.expect("11 queens, o", (0, b"%d" % len(each)), (0, b"1"))
+
+
 def spans(rng: random.Random, tally: Failed) -> None:
     """From the row of one of these tilings to that of the next, dlx-span counts as many as their numbers differ by."""
     text = dominoes(8, 8).text()
@@ -120,6 +134,7 @@ def main() -> int:
     tally, rng = Failed(), random.Random(seed)
     random_problems(cases, rng, tally)
     tilings(rng, tally)
+    by_turns(rng, tally)
     spans(rng, tally)
     print(f"{tally.passed} passed, {tally.failed} failed")
     return 1 if tally.failed else 0

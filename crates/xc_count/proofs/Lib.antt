@@ -5,7 +5,8 @@ pub mod ByNumber
 pub mod ByOption
 pub mod Forgetting
 pub mod Having
-pub mod HolderLemmas
+pub mod HashLemmas
+mod HolderLemmas
 pub mod KeyLemmas
 pub mod LeftBy
 pub mod Matched

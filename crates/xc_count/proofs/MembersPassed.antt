@@ -1,5 +1,5 @@
 -- A search that passes members by turns.
-use Rattle.std.proofs.Common.{ℕ, zero, suc, ◌≡◌, ◌+◌, ◌-◌, ◌<◌, ◌≤◌, ◌++◌, List, [], ◌∷◌, length, drop, refl}
+use Rattle.std.proofs.Common.{ℕ, zero, suc, ◌≡◌, ◌+◌, ◌-◌, ◌<◌, ◌≤◌, ◌++◌, List, [], ◌∷◌, length, drop, refl, Some}
 use Rattle.std.proofs.Common.{ap, sym, ◌∙◌, arith, subst, ◌⊎◌, inl, inr}
 use Rattle.std.proofs.Math.Seq.{drop-nil, drop-append_seam}
 use Rattle.std.proofs.Math.ListN.{drop_of_length-le}
@@ -7,15 +7,18 @@ use Rattle.std.proofs.lemmas.List.{length-drop}
 use Rattle.std.specs.Prelude.{min}
 use Rattle.xc_input.proofs.ListLemmas.{by_option}
 use Rattle.xc_search.specs.declared.choice.Choice.{Choice}
-use Rattle.xc_search.specs.declared.went.Halt.TheVariants.{Member, End}
+use Rattle.xc_input.specs.Problem.{numbered_get}
+use Rattle.xc_search.specs.declared.went.Halt.{Halt}
+use Rattle.xc_search.specs.declared.went.Halt.TheVariants.{Member, End, Steps}
 use Rattle.xc_search.specs.declared.went.Went.{Went}
 use Rattle.xc_search.specs.Going.{WentOnBy}
 use Rattle.xc_search.specs.InSpan.{InSpan, left_of, reached}
 use Rattle.xc_search.specs.Outlook.{shown_after}
 use Rattle.xc_search.specs.Spans.{between}
+use Rattle.xc_count.proofs.ByNumber.{number_dropped}
 use Rattle.xc_count.proofs.Turns.{if_some, passed_or_left}
 
-drop_more : {X : Type 0} (a b : ℕ) (xs : List X) → drop b (drop a xs) ≡ drop (a + b) xs
+pub drop_more : {X : Type 0} (a b : ℕ) (xs : List X) → drop b (drop a xs) ≡ drop (a + b) xs
 drop_more zero b xs =
     let same : b ≡ 0 + b = omega arith in
     ap (λ k. drop k xs) same
@@ -99,3 +102,35 @@ module _ (many left steps : ℕ) (w : Went) (old s n : InSpan) (went : WentOnBy 
       ∙ shown_further (many - left) left (left_of old) old.shown s.shown passed some
       ∙ ap (λ k. shown_after k (left_of old) old.shown) all
   passed_shown (inr e) f = absurd (omega (arith, f, went.halts.fewer some e, within))
+
+shown_at : (k : ℕ) (ms : List (List Choice)) (was : List Choice) → 0 < k → k ≤ length ms
+    → numbered_get ms k ≡ Some (shown_after k ms was)
+shown_at zero ms was some h = absurd (omega (arith, some))
+shown_at (suc k) [] was some h = absurd (omega (arith, h))
+shown_at (suc zero) (m ∷ ms) was some h = refl
+shown_at (suc (suc k)) (m ∷ ms) was some h = shown_at (suc k) ms m (omega arith) (omega (arith, h))
+
+-- a search that has passed some of the members, and is to pass so many at most, goes on
+module _ (most passed steps : ℕ) (w : Went) (s n : InSpan) (ms : List (List Choice))
+    (went : WentOnBy (most - passed) steps w s n) (before : passed < most) (rest : left_of s ≡ drop passed ms) where
+  pub turn_left : left_of n ≡ drop (passed + w.members) ms
+  turn_left =
+      left_dropped (most - passed) steps w s n went ∙ ap (drop w.members) rest ∙ drop_more passed w.members ms
+
+  many : length (left_of s) ≡ w.members + length (left_of n)
+  many = passed_or_left (most - passed) steps w s n went
+
+  at_last : w.members ≡ most - passed → w.halt ≡ Member → numbered_get ms most ≡ Some n.shown
+  at_last all e =
+      number_dropped ms passed most before
+      ∙ shown_at (most - passed) (drop passed ms) s.shown (omega (arith, before))
+      (omega (arith, ap length rest, many, all))
+      ∙ sym (ap Some ((went.halts.member e).1 ∙ ap (λ xs. shown_after (most - passed) xs s.shown) rest))
+
+  pub turn_shown : passed + w.members ≡ most → numbered_get ms most ≡ Some n.shown
+  turn_shown all = by_halt w.halt refl
+    where
+      by_halt : (h : Halt) → w.halt ≡ h → numbered_get ms most ≡ Some n.shown
+      by_halt Member e = at_last (omega (arith, all)) e
+      by_halt End e = absurd (omega (arith, all, before, went.halts.fewer (omega (arith, before)) e))
+      by_halt Steps e = absurd (omega (arith, all, before, (went.halts.ran_out e).3))

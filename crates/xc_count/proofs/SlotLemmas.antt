@@ -2,16 +2,19 @@
 use Rattle.std.proofs.Common.{ℕ, zero, suc, ◌≡◌, ◌≢◌, ◌<◌, ◌+◌, ◌*◌, ◌-◌, ◌/◌, ◌%◌, ◌^◌, ◌⊎◌, ◌&&◌, true, false, eqb}
 use Rattle.std.proofs.Common.{List, [], ◌∷◌, ◌++◌, Option, Some, None, length, refl, sym, ap, ap₂, ◌∙◌, arith, subst}
 use Rattle.std.proofs.Common.{inl, inr, eqb-true, eq-eqb, ne_eqb, length-set}
-use Rattle.std.proofs.Math.ListN.{set}
-use Rattle.std.specs.Prelude.{option_map, slice_get}
+use Rattle.std.proofs.Math.ListN.{set, get_or}
+use Rattle.std.specs.Prelude.{IfNone, option_map, slice_get}
 use Rattle.std.proofs.lemmas.Bool.{and_parts, or_cases, or_left, or_right}
 use Rattle.std.proofs.lemmas.List.{length-append, length-map, map-append}
-use Rattle.std.proofs.lemmas.List.Sums.{sum_by_push}
-use Rattle.std.proofs.lemmas.Option.{slice_get-map, slice_get_within}
+use Rattle.std.proofs.lemmas.List.Sums.{sum_by_push, sum_by-set}
+use Rattle.std.proofs.lemmas.Option.{slice_get-map, slice_get_within, get_or_from_slice_get}
+use Rattle.natural.specs.Numerals.{limbs_above}
 use Rattle.xc_input.proofs.ListLemmas.{by_option, get_left, get_seam, not_some}
 use Rattle.xc_count.specs.declared.layer.Slot.{Slot}
 use Rattle.xc_count.specs.declared.layer.State.{State}
-use Rattle.xc_count.specs.inner.Layers.{AreFound, Finds, charged, has_place, is_full, leads, slot_after, told}
+use Rattle.xc_input.specs.declared.seed.Seed.{Seed}
+use Rattle.xc_count.specs.inner.Layers.{AreFound, AreHashed, Finds, state_bytes, charged, has_place, hash_by, is_full}
+use Rattle.xc_count.specs.inner.Layers.{leads, slot_after, told}
 
 set_here : {X : Type 0} (xs : List X) (k : ℕ) (v : X) → k < length xs → slice_get (set xs k v) k ≡ Some v
 set_here [] k v h = absurd (omega (arith, h))
@@ -187,14 +190,44 @@ pub told_at : (ss : List State) (k : ℕ) (s : State) → slice_get ss k ≡ Som
     → slice_get (told ss) k ≡ Some (s.key.items, s.hash)
 told_at ss k s e = slice_get-map (λ t. (t.key.items, t.hash)) ss k ∙ ap (option_map (λ t. (t.key.items, t.hash))) e
 
+pub if_none : {X : Type 0} {P Q : Type 0} (o : Option X) → (P → Q) → IfNone o P → IfNone o Q
+if_none None f p = f p
+if_none (Some x) f p = p
+
 -- one state more
 told_push : (ss : List State) (s : State) → told (ss ++ s ∷ []) ≡ told ss ++ (s.key.items, s.hash) ∷ []
 told_push ss s = map-append (λ t. (t.key.items, t.hash)) ss (s ∷ [])
 
-pub bytes_push : (ss : List State) (s : State)
-    → charged (told (ss ++ s ∷ [])) ≡ charged (told ss) + (4 * length s.key.items + 160)
-bytes_push ss s = ap charged (told_push ss s)
-    ∙ sum_by_push (λ t. 4 * length t.0 + 160) (told ss) (s.key.items, s.hash)
+pub bytes_push : (ss : List State) (s : State) → charged (ss ++ s ∷ []) ≡ charged ss + state_bytes s.key.items s.ways
+bytes_push ss s = sum_by_push (λ t. state_bytes t.key.items t.ways) ss s
+
+-- another number of one of them
+pub bytes_set : (ss : List State) (k : ℕ) (s t : State) → slice_get ss k ≡ Some s → t.key ≡ s.key
+    → charged (set ss k t) + 8 * limbs_above s.ways ≡ charged ss + 8 * limbs_above t.ways
+bytes_set ss k s t e key =
+    let there = sum_by-set (λ u. state_bytes u.key.items u.ways) ss k t s (slice_get_within ss k s e) in
+    let old : get_or ss k s ≡ s = get_or_from_slice_get ss k s s e in
+    let len : length t.key.items ≡ length s.key.items = ap (λ v. length v.items) key in
+    omega (arith, rw old at there, len)
+
+pub hashed_push : (seed : Seed) (ss : List State) (s : State) → AreHashed seed (told ss)
+    → s.hash ≡ hash_by seed s.key.items → AreHashed seed (told (ss ++ s ∷ []))
+hashed_push seed ss s each here k t at =
+    let x : List ℕ × ℕ = (s.key.items, s.hash) in
+    let there : slice_get (told ss ++ x ∷ []) k ≡ Some t = ap (λ ts. slice_get ts k) (sym (told_push ss s)) ∙ at in
+    by_option (slice_get (told ss) k)
+    (λ none.
+    let past = not_some (told ss) k none in
+    let within = slice_get_within (told ss ++ x ∷ []) k t there in
+    let last : length (told ss) ≡ k = omega (arith, past, within, length-append (told ss) (x ∷ [])) in
+    let both : Some x ≡ Some t =
+    sym (get_seam (told ss) x) ∙ ap (slice_get (told ss ++ x ∷ [])) last ∙ there in
+    let same : x ≡ t = cc in
+    subst (λ (v : List ℕ × ℕ). v.1 ≡ hash_by seed v.0) same here)
+    (λ u before.
+    let both : Some u ≡ Some t = sym (get_left (told ss) (x ∷ []) k u before) ∙ there in
+    let same : u ≡ t = cc in
+    subst (λ (v : List ℕ × ℕ). v.1 ≡ hash_by seed v.0) same (each k u before))
 
 pub found_push : (ss : List State) (s : State) (old new : List Slot) (place : ℕ) → AreFound (told ss) old
     → ((h k : ℕ) → 0 < k → Finds old h k → Finds new h k) → place ≡ length ss + 1 → Finds new s.hash place

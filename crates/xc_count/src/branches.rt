@@ -7,11 +7,12 @@ ghost use Rattle.xc_count.specs.inner.Numbered.{IsLess, behind_taken, branch_at,
 ghost use Rattle.xc_count.specs.inner.Plans.{IsPlan};
 ghost use Rattle.xc_count.specs.inner.Worth.{says};
 
-use crate::errors::CountError;
+use crate::errors::{CountError, Halted};
 use crate::holders::options_of;
 use crate::keys::{do_agree, mark_of, mark_uses};
 use crate::left::count_left;
 use crate::plan::Plan;
+use crate::rival::Rival;
 use crate::taken::Taken;
 use natural::Natural;
 use std::alloc::Global;
@@ -112,7 +113,8 @@ pub fn branch_with(
     fork: (u32, u32),
     number: &mut Natural,
     bound: usize,
-) -> Result<Option<Taken>, CountError>
+    rival: &mut Rival,
+) -> Result<Option<Taken>, Halted>
     requires once { HoldsOnce problem.now.puzzle }
     requires plan { IsPlan problem.now.puzzle plan.now }
     requires valid { IsValid problem.now.puzzle }
@@ -121,6 +123,7 @@ pub fn branch_with(
         ≡ behind_taken problem.now.puzzle plan.now taken number.new) }
     ensures less { IfOk result (λ taken. IfSome taken (λ t.
         IsLess problem.now.puzzle plan.now t.key.items key.now)) }
+    ensures same { rival.new.puzzle ≡ rival.old.puzzle }
 {
     let options = options_of(problem, plan.holders.as_slice(), fork.0);
     let mut k: u32 = 0;
@@ -134,7 +137,7 @@ pub fn branch_with(
         if k == fork.1 {
             return Ok(Some(taking(fork, option, k, next)));
         }
-        let covers = count_left(alloc, problem, plan, next.as_slice(), bound)?;
+        let covers = count_left(alloc, problem, plan, next.as_slice(), bound, rival)?;
         if *number <= covers {
             return Ok(Some(taking(fork, option, k, next)));
         }

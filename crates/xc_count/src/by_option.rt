@@ -108,7 +108,7 @@ fn choose(
     ensures same { rival.new.puzzle ≡ rival.old.puzzle }
 {
     let uses = problem.option(option);
-    let mut next = Layer::new(alloc, layer.beside(bound));
+    let mut next = Layer::new(alloc, problem, layer.beside(bound));
     let mut scratch = Vec::new(alloc);
     let mut states = layer.states;
     let tries = USE_WORK.saturating_mul(uses.len() as u64);
@@ -130,7 +130,7 @@ fn first_layer(alloc: Global, problem: &Problem, bound: usize) -> Result<Layer, 
         ≡ ways problem.now.puzzle os (λ i. 0)) }
 {
     let key = filled(alloc, problem.items() as usize + 1, 0)?;
-    let mut layer = Layer::new(alloc, bound);
+    let mut layer = Layer::new(alloc, problem, bound);
     layer.add(key.as_slice(), &Natural::from_u64(alloc, 1))?;
     Ok(layer)
 }

@@ -48,11 +48,38 @@ fn sweep_beside(
     if planning > FIRST_WORK && rival.ahead(planning) {
         return Err(Halted::Overtaken);
     }
-    let plan = Plan::new(alloc, problem)?;
+    let plan = Plan::new(alloc, problem, bound)?;
+    let room = plan.leaves(bound);
     if once {
-        sweep(alloc, problem, &plan, bound, rival)
+        sweep(alloc, problem, &plan, room, rival)
     } else {
-        sweep_options(alloc, problem, &plan, bound, rival)
+        sweep_options(alloc, problem, &plan, room, rival)
+    }
+}
+
+/// How many covers a problem has, and whether the sweep came to it.
+#[derive(Drop)]
+pub struct Counted {
+    pub covers: Natural,
+    pub is_swept: bool,
+}
+
+/// How many covers a problem has, and which of the two ways that have turns ended first.
+pub fn count_by_turns(alloc: Global, problem: &Problem, bound: usize) -> Result<Counted, Memory>
+    ensures covers { IfOk result (λ c. c.covers ≡ length (members problem.now.puzzle)) }
+    ensures valid { IfOk result (λ _. IsValid problem.now.puzzle) }
+{
+    let gone_over = Cell::new(0);
+    let mut rival = Rival::new(alloc, problem, &gone_over)?;
+    match sweep_beside(alloc, problem, bound, &mut rival) {
+        Ok(covers) => Ok(Counted {
+            covers,
+            is_swept: true,
+        }),
+        Err(_) => Ok(Counted {
+            covers: rival.finish(alloc)?,
+            is_swept: false,
+        }),
     }
 }
 
@@ -73,12 +100,8 @@ pub fn count(alloc: Global, problem: &Problem, bound: usize) -> Result<Natural, 
     ensures members { IfOk result (λ n. n ≡ length (members problem.now.puzzle)) }
     ensures covers { IfOk result (λ n. HasCovers problem.now.puzzle n) }
 {
-    let gone_over = Cell::new(0);
-    let mut rival = Rival::new(alloc, problem, &gone_over)?;
-    match sweep_beside(alloc, problem, bound, &mut rival) {
-        Ok(covers) => Ok(covers),
-        Err(_) => rival.finish(alloc),
-    }
+    let counted = count_by_turns(alloc, problem, bound)?;
+    Ok(counted.covers)
 }
 
 /// A valid problem has as many covers as its listing has members, and no other number of them.

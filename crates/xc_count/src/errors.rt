@@ -33,6 +33,22 @@ impl From<CountError> for Halted {
     }
 }
 
+impl From<AllocError> for Halted {
+    ghost from_gives = { λ _ h. h ≡ Failed Memory };
+
+    fn from(_: AllocError) -> Halted {
+        Halted::Failed(CountError::Memory)
+    }
+}
+
+impl<T: Drop> From<AllocFailed<T>> for Halted {
+    ghost from_gives = { λ _ h. h ≡ Failed Memory };
+
+    fn from(_: AllocFailed<T>) -> Halted {
+        Halted::Failed(CountError::Memory)
+    }
+}
+
 impl From<AllocError> for CountError {
     ghost from_gives = { λ _ e. e ≡ Memory };
 

@@ -36,7 +36,7 @@ fn next_layer(
     ensures held { IfOk result (λ l. EachKey (holds_first plan.now (step.place + 1) step.next) l.states.items) }
     ensures room { IfOk result (λ l. l.bytes ≤ room) }
 {
-    let mut next = Layer::new(alloc, room);
+    let mut next = Layer::new(alloc, problem, room);
     let mut scratch = Vec::new(alloc);
     for state in &layer.states {
         hold(problem, plan, step, &mut next, &mut scratch, state)?;

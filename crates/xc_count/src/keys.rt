@@ -41,8 +41,8 @@ fn does_agree(mark: u32, colour: u32) -> bool
     mark == 0 || (colour > 0 && mark - 1 == colour)
 }
 
-/// Whether all uses agree.
-pub fn do_agree(ranks: &[u32], from: usize, key: &[u32], uses: &[Use]) -> bool
+/// Whether all uses agree. Adds to `read` how many are read that do.
+pub fn agree_counting(ranks: &[u32], from: usize, key: &[u32], uses: &[Use], read: &mut u64) -> bool
     requires { All (λ u. (1 ≤ u.item) × (u.item ≤ length ranks.now)) uses.now }
     ensures { result ≡ agree (held_in ranks.now from key.now) uses.now }
 {
@@ -50,8 +50,18 @@ pub fn do_agree(ranks: &[u32], from: usize, key: &[u32], uses: &[Use]) -> bool
         if !does_agree(mark_of(ranks, from, key, u.item), u.colour) {
             return false;
         }
+        *read = read.wrapping_add(1);
     }
     true
+}
+
+/// Whether all uses agree.
+#[inline]
+pub fn do_agree(ranks: &[u32], from: usize, key: &[u32], uses: &[Use]) -> bool
+    requires { All (λ u. (1 ≤ u.item) × (u.item ≤ length ranks.now)) uses.now }
+    ensures { result ≡ agree (held_in ranks.now from key.now) uses.now }
+{
+    agree_counting(ranks, from, key, uses, &mut 0)
 }
 
 /// Sets a mark, after zeros where the key ends before.

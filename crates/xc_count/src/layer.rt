@@ -4,12 +4,15 @@ ghost use Rattle.std.specs.Prelude.{ℕ, Bool, ◌≡◌, ◌≢◌, ◌<◌, �
 ghost use Rattle.std.specs.Prelude.{List, All, length, Some, true, false, IfSome, IfNone, IfOk, OnOk, OnErr};
 ghost use Rattle.std.specs.Prelude.{slice_get};
 ghost use Rattle.xc_count.specs.declared.layer.State.{State};
-ghost use Rattle.xc_count.specs.inner.Layers.{AreFound, Finds, charged, slot_after, told};
+ghost use Rattle.xc_count.specs.inner.Layers.{AreFound, AreHashed, Finds, state_bytes, charged, hash_by, slot_after};
+ghost use Rattle.xc_count.specs.inner.Layers.{told};
 ghost use Rattle.xc_count.specs.inner.Worth.{EachKey, worth_by};
 
 use crate::errors::CountError;
 use natural::Natural;
 use std::alloc::Global;
+use std::hash::{BuildHasher, Hasher};
+use xc_input::{Problem, Seed};
 
 /// A state: its key, and how many ways there are to it.
 #[derive(Drop)]
@@ -30,6 +33,8 @@ struct Slot {
 #[derive(Drop)]
 pub struct Layer {
     alloc: Global,
+    /// The seed by which keys are hashed.
+    seed: Seed,
     pub states: Vec<State>,
     slots: Vec<Slot>,
     /// How many bytes the states take, and may take.
@@ -37,28 +42,43 @@ pub struct Layer {
     bound: usize,
     /// How much work it was to add the states so far, in about nanoseconds.
     work: u64,
-    ghost taken: { bytes ≡ charged (told states.items) },
+    ghost taken: { bytes ≡ charged states.items },
     ghost within: { (bytes ≤ bound) × (bound < 2 ^ 64 - 1) },
     ghost found: { AreFound (told states.items) slots.items },
+    ghost hashed: { AreHashed seed (told states.items) },
 }
 
-/// How many bytes a state counts for, beside its marks: itself, its slots, what its two allocations need.
+/// How many bytes a state counts for, beside its marks and limbs: itself, its slots, what its two allocations need.
 const STATE_BYTES: usize = 160;
+/// How many a mark counts for.
+const MARK_BYTES: usize = 4;
+/// How many a limb of its number counts for.
+const LIMB_BYTES: usize = 8;
 
 /// How many states the caches hold, about.
 const CACHED: usize = 8192;
+/// The work of looking at a slot in vain, in about nanoseconds.
+const PROBE_WORK: u64 = 4;
+/// The work of adding a limb of a number.
+const LIMB_WORK: u64 = 2;
 
-/// The hash of a key. The products hang on one another in no way, so they take little time.
-fn hash_of(key: &[u32]) -> u64 {
-    let mut hash: u64 = 0;
-    let mut place: u64 = 0;
-    for mark in key {
-        place = place.wrapping_add(0x9e37_79b9_7f4a_7c15);
-        let mixed = (place ^ u64::from(*mark)).wrapping_mul(0xd6e8_feb8_6659_fd93);
-        hash = hash.wrapping_add(mixed ^ (mixed >> 32));
+/// How much the second of two marks counts that are hashed as one number.
+const HIGH_MARK: u64 = 0x1_0000_0000;
+
+/// The hash of a key by a seed, two marks at a time.
+fn hash_of(seed: Seed, key: &[u32]) -> u64
+    ensures { result ≡ hash_by seed key.now }
+{
+    let mut hasher = seed.build_hasher();
+    let mut place = 0;
+    while place + 1 < key.len() {
+        hasher.write_u64(u64::from(key[place]) + u64::from(key[place + 1]) * HIGH_MARK);
+        place += 2;
     }
-    hash = hash.wrapping_mul(0xd6e8_feb8_6659_fd93);
-    hash ^ (hash >> 32)
+    if place < key.len() {
+        hasher.write_u64(u64::from(key[place]));
+    }
+    hasher.finish()
 }
 
 /// The upper half of a hash.
@@ -163,8 +183,9 @@ fn is_at(states: &[State], place: u32, key: &[u32]) -> bool
     k < states.len() && is_state(&states[k], key)
 }
 
-/// The place of the state of this key and hash; none where there is no such state.
-fn find(states: &[State], slots: &[Slot], key: &[u32], hash: u64) -> Option<usize>
+/// The place of the state of this key and hash; none where there is no such state. Adds to `probes` how many slots it
+/// looked at in vain.
+fn find(states: &[State], slots: &[Slot], key: &[u32], hash: u64, probes: &mut u64) -> Option<usize>
     requires { AreFound (told states.now) slots.now }
     ensures some { IfSome result (λ k. (s : State) × (slice_get states.now k ≡ Some s) × (s.key.items ≡ key.now)) }
     ensures none { IfNone result ((k : ℕ) (s : State) → slice_get states.now k ≡ Some s → s.hash ≡ hash
@@ -183,21 +204,30 @@ fn find(states: &[State], slots: &[Slot], key: &[u32], hash: u64) -> Option<usiz
         if tag == tag_of(hash) && is_at(states, place, key) {
             return Some(place as usize - 1);
         }
+        *probes = probes.wrapping_add(1);
         slot = next_slot(slot, many);
     }
     None
 }
 
-/// Adds ways to a state.
-fn more_ways(states: &mut Vec<State>, place: usize, ways: &Natural) -> Result<(), CountError>
+/// Adds ways to a state. Returns how many limbs its number had, and has.
+fn more_ways(
+    states: &mut Vec<State>,
+    place: usize,
+    ways: &Natural,
+) -> Result<(usize, usize), CountError>
     requires { place < length states.old.items }
-    ensures worth { OnOk result ((s : State) → slice_get states.old.items place ≡ Some s → (f : List ℕ → ℕ)
+    ensures worth { IfOk result (λ _. (s : State) → slice_get states.old.items place ≡ Some s → (f : List ℕ → ℕ)
         → worth_by f states.new.items ≡ worth_by f states.old.items + ways.now * f s.key.items) }
-    ensures keys { OnOk result ((q : List ℕ → Bool) → EachKey q states.old.items → EachKey q states.new.items) }
+    ensures keys { IfOk result (λ _. (q : List ℕ → Bool) → EachKey q states.old.items → EachKey q states.new.items) }
     ensures same { told states.new.items ≡ told states.old.items }
+    ensures limbs { IfOk result (λ limbs. charged states.new.items + 8 * limbs.0
+        ≡ charged states.old.items + 8 * limbs.1) }
+    ensures failed { OnErr result (charged states.new.items ≡ charged states.old.items) }
 {
+    let before = states[place].ways.limbs();
     states[place].ways.add_assign(ways)?;
-    Ok(())
+    Ok((before, states[place].ways.limbs()))
 }
 
 /// The last state, taken off.
@@ -231,13 +261,15 @@ fn new_state(alloc: Global, key: &[u32], hash: u64, ways: &Natural) -> Result<St
 }
 
 impl Layer {
-    /// No states, and how many bytes they may take.
-    pub fn new(alloc: Global, bound: usize) -> Layer
+    /// No states of a problem, and how many bytes they may take. Their keys are hashed by the problem's seed.
+    pub fn new(alloc: Global, problem: &Problem, bound: usize) -> Layer
         ensures none { result.states.items ≡ [] }
         ensures bound { result.bound ≤ bound }
+        ensures seed { result.seed ≡ problem.now.seed }
     {
         Layer {
             alloc,
+            seed: problem.seed(),
             states: Vec::new(alloc),
             slots: Vec::new(alloc),
             bytes: 0,
@@ -247,6 +279,7 @@ impl Layer {
     }
 
     /// How much work it was to add its states so far.
+    #[inline(always)]
     pub fn work(&self) -> u64 {
         self.work
     }
@@ -258,26 +291,32 @@ impl Layer {
         bound.saturating_sub(self.bytes)
     }
 
-    /// The work of adding ways to the state of a key, which is new or not, in about nanoseconds.
+    /// The work of adding ways to the state of a key, which is new or not, after looking at so many slots in vain, in
+    /// about nanoseconds.
     #[inline(always)]
-    fn work_of(&self, key: &[u32], is_new: bool) -> u64 {
-        let table = match (is_new, self.states.len() < CACHED) {
+    fn work_of(&self, key: &[u32], ways: &Natural, is_new: bool, probes: u64) -> u64 {
+        let table: u64 = match (is_new, self.states.len() < CACHED) {
             (false, true) => 20,
             (false, false) => 230,
             (true, true) => 100,
             (true, false) => 470,
         };
-        table + 2 * key.len() as u64
+        let marks = key.len() as u64;
+        table
+            .wrapping_add(marks.wrapping_add(marks / 2))
+            .wrapping_add((ways.limbs() as u64).wrapping_mul(LIMB_WORK))
+            .wrapping_add(probes.wrapping_mul(PROBE_WORK))
     }
 
-    /// How many bytes the states take with one of this key.
-    fn bytes_with(&self, key: &[u32]) -> Result<usize, CountError>
-        ensures more { IfOk result (λ bytes. bytes ≡ self.now.bytes + (4 * length key.now + 160)) }
+    /// How many bytes the states take with one of this key and number.
+    fn bytes_with(&self, key: &[u32], ways: &Natural) -> Result<usize, CountError>
+        ensures more { IfOk result (λ bytes. bytes ≡ self.now.bytes + state_bytes key.now ways.now) }
         ensures within { IfOk result (λ bytes. bytes ≤ self.now.bound) }
     {
         let bytes = key
             .len()
-            .saturating_mul(4)
+            .saturating_mul(MARK_BYTES)
+            .saturating_add(ways.limbs().saturating_mul(LIMB_BYTES))
             .saturating_add(STATE_BYTES)
             .saturating_add(self.bytes);
         if bytes > self.bound {
@@ -292,6 +331,7 @@ impl Layer {
         ensures states { self.new.states ≡ self.old.states }
         ensures bytes { self.new.bytes ≡ self.old.bytes }
         ensures bound { self.new.bound ≡ self.old.bound }
+        ensures seed { self.new.seed ≡ self.old.seed }
     {
         if self.slots.len() / 2 <= self.states.len() {
             self.slots = slots_for(self.alloc, self.states.as_slice())?;
@@ -301,8 +341,9 @@ impl Layer {
 
     /// Adds a state, with which they take so many bytes.
     fn push(&mut self, state: State, bytes: usize) -> Result<(), CountError>
-        requires more { bytes ≡ self.old.bytes + (4 * length state.key.items + 160) }
+        requires more { bytes ≡ self.old.bytes + state_bytes state.key.items state.ways }
         requires within { bytes ≤ self.old.bound }
+        requires hashed { state.hash ≡ hash_by self.old.seed state.key.items }
         ensures states { OnOk result (self.new.states.items ≡ self.old.states.items ++ state ∷ []) }
         ensures bound { self.new.bound ≡ self.old.bound }
     {
@@ -316,17 +357,46 @@ impl Layer {
         Ok(())
     }
 
-    /// The place of the state of a key, if it is found.
+    /// The place of the state of a key; none where there is no such state.
     pub fn place_of(&self, key: &[u32]) -> Option<usize>
         ensures some { IfSome result (λ k. (s : State) × (slice_get self.now.states.items k ≡ Some s)
             × (s.key.items ≡ key.now)) }
+        ensures none { IfNone result ((k : ℕ) (s : State) → slice_get self.now.states.items k ≡ Some s
+            → s.key.items ≢ key.now) }
     {
         find(
             self.states.as_slice(),
             self.slots.as_slice(),
             key,
-            hash_of(key),
+            hash_of(self.seed, key),
+            &mut 0,
         )
+    }
+
+    /// Adds ways to the state at a place.
+    #[inline(always)]
+    fn add_at(&mut self, place: usize, ways: &Natural) -> Result<(), CountError>
+        requires { place < length self.old.states.items }
+        ensures worth { OnOk result ((s : State) → slice_get self.old.states.items place ≡ Some s
+            → (f : List ℕ → ℕ) → worth_by f self.new.states.items
+            ≡ worth_by f self.old.states.items + ways.now * f s.key.items) }
+        ensures keys { OnOk result ((q : List ℕ → Bool) → EachKey q self.old.states.items
+            → EachKey q self.new.states.items) }
+        ensures bound { self.new.bound ≡ self.old.bound }
+    {
+        let (before, after) = more_ways(&mut self.states, place, ways)?;
+        if before == after {
+            return Ok(());
+        }
+        let bytes = after.saturating_mul(LIMB_BYTES).saturating_add(self.bytes);
+        if bytes > self.bound {
+            // The states would count for more than the bound, so there are none any more.
+            self.states.clear();
+            self.bytes = 0;
+            return Err(CountError::OutOfBound);
+        }
+        self.bytes = bytes.saturating_sub(before.saturating_mul(LIMB_BYTES));
+        Ok(())
     }
 
     /// Adds ways to the state of a key, which is added if it is not there.
@@ -337,13 +407,21 @@ impl Layer {
             → EachKey q self.new.states.items) }
         ensures bound { self.new.bound ≡ self.old.bound }
     {
-        let hash = hash_of(key);
-        if let Some(place) = find(self.states.as_slice(), self.slots.as_slice(), key, hash) {
-            self.work = self.work.saturating_add(self.work_of(key, false));
-            return more_ways(&mut self.states, place, ways);
+        let hash = hash_of(self.seed, key);
+        let mut probes = 0;
+        let found = find(
+            self.states.as_slice(),
+            self.slots.as_slice(),
+            key,
+            hash,
+            &mut probes,
+        );
+        let work = self.work_of(key, ways, found.is_none(), probes);
+        self.work = self.work.wrapping_add(work);
+        if let Some(place) = found {
+            return self.add_at(place, ways);
         }
-        self.work = self.work.saturating_add(self.work_of(key, true));
-        let bytes = self.bytes_with(key)?;
+        let bytes = self.bytes_with(key, ways)?;
         let state = new_state(self.alloc, key, hash, ways)?;
         self.push(state, bytes)
     }

@@ -32,4 +32,4 @@ mod times;
 
 pub use counting::{count, one_number_of_covers};
 pub use finding::nth;
-pub use occurring::occurrences;
+pub use occurring::{count_each, occurrences};

@@ -55,23 +55,3 @@ pub fn pass<'a>(span: &mut Span<'a, Metered<'a>>, many: u64) -> u64
         }
     }
 }
-
-/// Does what `pass` does by no more than so many steps, and takes those that it took from them; nothing if it runs out
-/// of them.
-pub fn pass_in_steps<'a>(
-    span: &mut Span<'a, Metered<'a>>,
-    many: u64,
-    steps: &mut u64,
-) -> Option<u64>
-    requires some { 0 < many }
-    ensures left { IfSome result (λ _. left_of span.new ≡ drop many (left_of span.old)) }
-    ensures count { IfSome result (λ n. n ≡ min many (length (left_of span.old))) }
-    ensures shown { result ≡ Some many → span.new.shown ≡ shown_after many (left_of span.old) span.old.shown }
-{
-    let went = span.go_on(many, *steps);
-    *steps -= went.steps;
-    match went.halt {
-        Halt::Member | Halt::End => Some(went.members),
-        Halt::Steps => None,
-    }
-}

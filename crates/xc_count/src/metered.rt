@@ -17,8 +17,6 @@ pub struct Metered<'a> {
     pub gone_over: &'a Cell<u64>,
     /// How many options are committed until one is looked at.
     until_sample: u64,
-    /// How many moves an option has, on average.
-    moves_each: usize,
     ghost same: { links.puzzle ≡ problem.now.puzzle },
 }
 
@@ -33,7 +31,6 @@ impl<'a> Metered<'a> {
             problem,
             gone_over,
             until_sample: SAMPLE,
-            moves_each: problem.uses() / (problem.options() as usize).max(1),
         }
     }
 
@@ -49,15 +46,17 @@ impl<'a> Metered<'a> {
         u64::from(self.links.len(*i))
     }
 
-    /// Adds the options that the newest moves went over, as many moves as an option has on average.
+    /// Adds the options that the moves of a commit went over, which are those from a place of the trail on, and its
+    /// share of those of its item: the Cover of the item goes once over the options that are its branches.
     // Taken in, since a call by reference would keep the tables' bases in memory.
     #[inline(always)]
-    fn note_moves(&self) {
+    fn note_moves(&self, from: usize) {
         let moves = self.links.moves();
-        let from = moves.len().saturating_sub(self.moves_each);
-        let mut sum = self.gone_over.get();
-        for m in &moves[from..] {
-            sum = sum.wrapping_add(self.options_of(m));
+        let mut sum = self.gone_over.get().wrapping_add(1);
+        if from <= moves.len() {
+            for m in &moves[from..] {
+                sum = sum.wrapping_add(self.options_of(m));
+            }
         }
         self.gone_over.set(sum);
     }
@@ -140,11 +139,12 @@ impl<'a> Dance for Metered<'a> {
 
     #[inline(always)]
     fn commit(&mut self, problem: &Problem, i: u32, place: u32) {
+        let from = self.links.moves().len();
         self.links.commit(problem, i, place);
         self.until_sample = self.until_sample.wrapping_sub(1);
         if self.until_sample == 0 {
             self.until_sample = SAMPLE;
-            self.note_moves();
+            self.note_moves(from);
         }
     }
 }

@@ -2,12 +2,12 @@
 ghost use Rattle.std.specs.Prelude.{ℕ, ◌≡◌, ◌≢◌, ◌+◌, ◌-◌, ◌≤◌, length, slice_index, All, AllPairs, IfOk, OnOk};
 ghost use Rattle.std.specs.Prelude.{if◌then◌else◌};
 ghost use Rattle.xc_input.specs.Problem.{IsValid};
-ghost use Rattle.xc_search.specs.Cover.{options_of};
+ghost use Rattle.xc_search.specs.Cover.{members, options_of};
 ghost use Rattle.xc_count.specs.inner.Held.{HoldsOnce};
 ghost use Rattle.xc_count.specs.Occurrences.{occurrences, takes};
 
 use crate::by_states::occurrences_by_states;
-use crate::counting::is_once;
+use crate::counting::{count_by_turns, is_once};
 use crate::errors::CountError;
 use crate::members::{all_members, pass};
 use crate::plan::Plan;
@@ -81,23 +81,42 @@ fn occurrences_by_plan(
     requires valid { IsValid problem.now.puzzle }
     ensures { IfOk result (λ ns. ns.items ≡ occurrences problem.now.puzzle) }
 {
-    let plan = Plan::new(alloc, problem)?;
-    occurrences_by_states(alloc, problem, &plan, bound)
+    let plan = Plan::new(alloc, problem, bound)?;
+    occurrences_by_states(alloc, problem, &plan, plan.leaves(bound))
 }
 
-/// In how many solutions each option is, in the order of the file. It goes over the states of a sweep twice, so it
-/// makes no solution. If an item has other bounds than `1:1`, or the states would take more than about `bound` bytes,
-/// it searches through all solutions.
+/// How many solutions a problem has, and in how many each option is, in the order of the file. First they are counted.
+/// If the sweep came to their number first, it goes over its states twice, so it makes no solution. Otherwise, or if an
+/// item has other bounds than `1:1`, or the states would take more than about `bound` bytes, it searches through all
+/// solutions.
+///
+/// # Errors
+/// `Memory` where there is none for the search's tables or the numbers.
+pub fn count_each(
+    alloc: Global,
+    problem: &Problem,
+    bound: usize,
+) -> Result<(Natural, Vec<Natural>), Memory>
+    ensures covers { IfOk result (λ found. found.0 ≡ length (members problem.now.puzzle)) }
+    ensures each { IfOk result (λ found. found.1.items ≡ occurrences problem.now.puzzle) }
+{
+    let counted = count_by_turns(alloc, problem, bound)?;
+    if counted.is_swept && is_once(problem) {
+        if let Ok(times) = occurrences_by_plan(alloc, problem, bound) {
+            return Ok((counted.covers, times));
+        }
+    }
+    let times = occurrences_by_search(alloc, problem)?;
+    Ok((counted.covers, times))
+}
+
+/// In how many solutions each option is, as `count_each` returns it.
 ///
 /// # Errors
 /// `Memory` where there is none for the search's tables or the numbers.
 pub fn occurrences(alloc: Global, problem: &Problem, bound: usize) -> Result<Vec<Natural>, Memory>
     ensures { IfOk result (λ ns. ns.items ≡ occurrences problem.now.puzzle) }
 {
-    if is_once(problem) {
-        if let Ok(times) = occurrences_by_plan(alloc, problem, bound) {
-            return Ok(times);
-        }
-    }
-    occurrences_by_search(alloc, problem)
+    let (_, times) = count_each(alloc, problem, bound)?;
+    Ok(times)
 }

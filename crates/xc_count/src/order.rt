@@ -14,7 +14,7 @@ pub fn filled(alloc: Global, many: usize, value: u32) -> Result<Vec<u32>, CountE
     ensures len { IfOk result (λ v. length v.items ≡ many) }
     ensures each { IfOk result (λ v. All (λ x. x ≡ value) v.items) }
 {
-    let mut values = Vec::new(alloc);
+    let mut values = Vec::with_capacity(alloc, many)?;
     for _ in 0..many {
         values.push(value)?;
     }

@@ -19,6 +19,8 @@ pub struct Plan {
     pub ranking: Ranking,
     /// For each place of the order, the rank from which on keys have marks once the item there is held.
     pub windows: Vec<usize>,
+    /// How many bytes it counts for.
+    pub bytes: usize,
 }
 
 /// One step of a sweep: the place in the order of the item that it holds, and from which ranks on the keys before and

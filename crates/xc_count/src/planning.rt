@@ -1,6 +1,6 @@
 //! How a plan is made for a problem, and the steps of one.
 
-ghost use Rattle.std.specs.Prelude.{ℕ, ◌≡◌, ◌<◌, ◌≤◌, length, take, true, Some, All, Contains, IfOk, is_some};
+ghost use Rattle.std.specs.Prelude.{ℕ, ◌≡◌, ◌<◌, ◌≤◌, ◌-◌, length, take, true, Some, All, Contains, IfOk, is_some};
 ghost use Rattle.xc_input.specs.Problem.{Puzzle, IsItem, IsOption, IsPrimary, colour_in, primary_count};
 ghost use Rattle.xc_count.specs.inner.Keys.{rank_of};
 ghost use Rattle.xc_count.specs.inner.Plans.{AreWindows, HoldsPast, IsOver, IsPlan, IsStep, options_with};
@@ -38,6 +38,23 @@ pub fn planning_work(problem: &Problem) -> u64 {
     USE_WORK
         .saturating_mul(problem.uses() as u64)
         .saturating_add(narrow_work(problem))
+}
+
+/// How many bytes a plan takes at most for each item, option and use, with what it takes to find its order.
+const ITEM_BYTES: usize = 240;
+
+const OPTION_BYTES: usize = 24;
+
+const USE_BYTES: usize = 8;
+
+/// How many bytes a problem's plan takes at most, beside the lists of near items.
+fn plan_bytes(problem: &Problem) -> usize
+    ensures { 0 < result }
+{
+    let items = ITEM_BYTES.saturating_mul(problem.items() as usize);
+    let options = OPTION_BYTES.saturating_mul(problem.options() as usize);
+    let uses = USE_BYTES.saturating_mul(problem.uses());
+    items.saturating_add(options).saturating_add(uses).max(1)
 }
 
 /// Whether an item is one of the first `past` of the order.
@@ -143,12 +160,15 @@ fn find_windows(plan: &Plan, alloc: Global, problem: &Problem) -> Result<Vec<usi
 }
 
 impl Plan {
-    /// A plan for a problem.
-    pub fn new(alloc: Global, problem: &Problem) -> Result<Plan, CountError>
-        ensures { IfOk result (IsPlan problem.now.puzzle) }
+    /// A plan for a problem, where it counts for no more than so many bytes.
+    pub fn new(alloc: Global, problem: &Problem, bound: usize) -> Result<Plan, CountError>
+        ensures plan { IfOk result (IsPlan problem.now.puzzle) }
+        ensures bytes { IfOk result (λ p. (0 < p.bytes) × (p.bytes ≤ bound)) }
     {
+        let bytes = plan_bytes(problem);
+        let room = bound.checked_sub(bytes).ok_or(CountError::OutOfBound)?;
         let holders = options_by_item(alloc, problem)?;
-        let found = narrow_order(alloc, problem, holders.as_slice())?;
+        let found = narrow_order(alloc, problem, holders.as_slice(), room)?;
         let order = whole_order(alloc, problem, found.as_slice())?;
         let places = places(alloc, problem.items(), order.as_slice())?;
         let ends = ends(alloc, problem, places.as_slice())?;
@@ -160,9 +180,17 @@ impl Plan {
             holders,
             ranking,
             windows: Vec::new(alloc),
+            bytes,
         };
         plan.windows = find_windows(&plan, alloc, problem)?;
         Ok(plan)
+    }
+
+    /// What the plan leaves of so many bytes.
+    pub fn leaves(&self, bound: usize) -> usize
+        ensures { result ≡ bound - self.now.bytes }
+    {
+        bound.saturating_sub(self.bytes)
     }
 
     /// The step that holds the item at a place of the order, where keys have marks from this rank on.

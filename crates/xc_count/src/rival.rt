@@ -4,19 +4,21 @@
 //! in the progress reports of Knuth's programs. On sixteen problems of the benchmark that is, after a tenth of the
 //! work, from a sixth of it to four times as much. While the sweep did little of this, it keeps pace with the search,
 //! so that it takes twice as long as alone where it ends first; from there on it adds hardly a state between two turns.
-ghost use Rattle.std.specs.Prelude.{◌≡◌, ◌<◌, ◌≤◌, ◌-◌, length, true, false, IfOk};
+ghost use Rattle.std.specs.Prelude.{◌≡◌, ◌<◌, ◌≤◌, ◌-◌, ◌^◌, length, option_map, true, false, IfOk, IfSome};
+ghost use Rattle.xc_input.specs.Problem.{numbered_get};
 ghost use Rattle.xc_search.specs.Cover.{members};
 ghost use Rattle.xc_count.specs.inner.Searching.{HadTurn};
 
 use crate::members::all_members;
 use crate::metered::{Metered, SAMPLE};
+use crate::passing::nth_left;
 use natural::Natural;
 use std::alloc::Global;
 use std::cell::Cell;
 use std::marker::Model;
 use xc_dance::Memory;
 use xc_input::Problem;
-use xc_search::{Halt, Span};
+use xc_search::{Choice, Halt, Span};
 
 // Work is told in about nanoseconds.
 
@@ -34,8 +36,13 @@ const WHOLE: u64 = 1 << 60;
 const GRAIN: u64 = 1 << 40;
 /// The branches of the first turn.
 const FIRST_BRANCHES: u64 = 64;
-/// The work of a branch beside that of going over options.
+/// The work of a branch beside that of going over options, and how much more it is for each primary item from so many
+/// on, since it looks through the open ones.
 const BRANCH_WORK: u64 = 60;
+
+const ITEM_WORK: u64 = 1;
+
+const FEW_ITEMS: u32 = 1000;
 /// The work of a use of an option that is gone over, where all uses are in the nearest cache and where not.
 const NEAR_WORK: u64 = 2;
 
@@ -51,8 +58,11 @@ pub struct Rival<'a> {
     gone_over: &'a Cell<u64>,
     /// The work of going over an option that was looked at.
     option_work: u64,
-    /// How many covers it has passed.
+    /// The work of a branch beside that.
+    branch_work: u64,
+    /// How many covers it has passed, and passes at most.
     passed: u64,
+    most: u64,
     /// The work of a turn, about.
     turn_work: u64,
     /// How many branches a turn begins.
@@ -66,7 +76,8 @@ pub struct Rival<'a> {
 }
 
 impl<'a> Model for Rival<'a> {
-    ghost use Rattle.std.specs.Prelude.{◌≡◌, ◌<◌, ◌+◌, length, IfSome};
+    ghost use Rattle.std.specs.Prelude.{◌≡◌, ◌<◌, ◌≤◌, ◌+◌, drop, length, Some, IfSome};
+    ghost use Rattle.xc_input.specs.Problem.{numbered_get};
     ghost use Rattle.xc_search.specs.Cover.{members};
     ghost use Rattle.xc_search.specs.InSpan.{left_of};
     ghost use Rattle.xc_search.specs.Listing.{whole};
@@ -84,6 +95,9 @@ impl<'a> Model for Rival<'a> {
 
     ghost invariant = { λ r. record {
       passed : r.passed + length (left_of r.span) ≡ length (members r.span.puzzle);
+      left : left_of r.span ≡ drop r.passed (members r.span.puzzle);
+      most : r.passed ≤ r.most;
+      shown : r.passed ≡ r.most → 0 < r.most → numbered_get (members r.span.puzzle) r.most ≡ Some r.span.shown;
       node : IfSome r.span.row (λ row. IsRowOf (whole r.span.puzzle) row);
       branches : 0 < r.branches;
     } };
@@ -99,6 +113,11 @@ fn option_work(problem: &Problem) -> u64 {
     };
     let uses = problem.uses() as u64;
     (SAMPLE * use_work).saturating_mul(uses) / u64::from(problem.options()).max(1)
+}
+
+/// The work of a branch of a search of this problem, beside that of going over options.
+fn branch_work(problem: &Problem) -> u64 {
+    BRANCH_WORK + ITEM_WORK * u64::from(problem.primary().saturating_sub(FEW_ITEMS))
 }
 
 /// The work of a turn of a search of this problem.
@@ -123,7 +142,7 @@ fn next_branches(branches: u64, work: u64, turn_work: u64) -> u64
 }
 
 impl<'a> Rival<'a> {
-    /// A search that has passed no cover yet. All its memory is taken here. `gone_over` is for it alone.
+    /// A search of all covers that has passed none yet. All its memory is taken here. `gone_over` is for it alone.
     pub fn new(
         alloc: Global,
         problem: &'a Problem,
@@ -131,11 +150,25 @@ impl<'a> Rival<'a> {
     ) -> Result<Rival<'a>, Memory>
         ensures { IfOk result (λ r. r.puzzle ≡ problem.now.puzzle) }
     {
+        Rival::up_to(alloc, problem, gone_over, u64::MAX)
+    }
+
+    /// The same, which ends at the cover of a number.
+    pub fn up_to(
+        alloc: Global,
+        problem: &'a Problem,
+        gone_over: &'a Cell<u64>,
+        most: u64,
+    ) -> Result<Rival<'a>, Memory>
+        ensures { IfOk result (λ r. r.puzzle ≡ problem.now.puzzle) }
+    {
         Ok(Rival {
             span: all_members(alloc, problem, gone_over)?,
             gone_over,
             option_work: option_work(problem),
+            branch_work: branch_work(problem),
             passed: 0,
+            most,
             turn_work: turn_work(problem),
             branches: FIRST_BRANCHES,
             left: FIRST_WORK,
@@ -144,22 +177,33 @@ impl<'a> Rival<'a> {
         })
     }
 
-    /// Has a turn, and returns how much work that was, and whether no cover is left.
+    /// Has no turn any more.
+    pub fn pause(&mut self)
+        ensures { self.new ≡ record self.old { left = 2 ^ 64 - 1 } }
+    {
+        self.left = u64::MAX;
+    }
+
+    /// Has a turn, and returns how much work that was, and whether it has ended: no cover is left, or it has passed as
+    /// many as it was to.
     fn turn(&mut self) -> (u64, bool)
         ensures puzzle { self.new.puzzle ≡ self.old.puzzle }
         ensures had { result.1 ≡ false → HadTurn self.old self.new }
     {
+        if self.passed == self.most {
+            return (1, true);
+        }
         let before = self.gone_over.get();
-        let went = self.span.go_on(u64::MAX - self.passed, self.branches);
+        let went = self.span.go_on(self.most - self.passed, self.branches);
         self.passed += went.members;
         let options = self.gone_over.get().wrapping_sub(before);
         let work = went
             .steps
-            .saturating_mul(BRANCH_WORK)
+            .saturating_mul(self.branch_work)
             .saturating_add(options.saturating_mul(self.option_work));
         self.branches = next_branches(self.branches, work, self.turn_work);
         self.done = self.done.saturating_add(work);
-        (work, went.halt == Halt::End)
+        (work, went.halt != Halt::Steps)
     }
 
     /// How much of the search is done, of `WHOLE`, where each branch of a level is as much as another.
@@ -196,7 +240,7 @@ impl<'a> Rival<'a> {
         }
     }
 
-    /// Has turns of so much work in all. Returns whether no cover is left.
+    /// Has turns of so much work in all. Returns whether it has ended.
     pub fn ahead(&mut self, work: u64) -> bool
         ensures puzzle { self.new.puzzle ≡ self.old.puzzle }
     {
@@ -211,7 +255,7 @@ impl<'a> Rival<'a> {
         false
     }
 
-    /// Notes work of the sweep, and has a turn if one is due. Returns whether no cover is left.
+    /// Notes work of the sweep, and has a turn if one is due. Returns whether it has ended.
     pub fn after(&mut self, work: u64) -> bool
         ensures puzzle { self.new.puzzle ≡ self.old.puzzle }
         ensures due { self.old.left ≤ work → result ≡ false → HadTurn self.old self.new }
@@ -227,6 +271,41 @@ impl<'a> Rival<'a> {
         has_ended
     }
 
+    /// Goes on alone to the cover of a number, from 1, and returns it; none where there are fewer. Nothing if it has
+    /// passed that cover.
+    pub fn find(
+        self,
+        alloc: Global,
+        number: &Natural,
+    ) -> Result<Option<Option<Vec<Choice>>>, Memory>
+        ensures { IfOk result (λ known. IfSome known (λ found. option_map (λ c. c.items) found
+            ≡ numbered_get (members self.entry.puzzle) number.now)) }
+    {
+        let Rival {
+            mut span,
+            gone_over: _,
+            option_work: _,
+            branch_work: _,
+            passed,
+            most,
+            turn_work: _,
+            branches: _,
+            left: _,
+            swept: _,
+            done: _,
+        } = self;
+        let before = Natural::from_u64(alloc, passed);
+        if *number > before {
+            let mut rest = number.clone()?;
+            rest.sub_assign(&before);
+            return Ok(Some(nth_left(alloc, &mut span, &mut rest)?));
+        }
+        if *number == before && passed == most && most > 0 {
+            return Ok(Some(Some(Vec::from_slice(alloc, span.choices())?)));
+        }
+        Ok(None)
+    }
+
     /// Goes on alone to the end, and returns how many covers there are.
     pub fn finish(self, alloc: Global) -> Result<Natural, Memory>
         ensures { IfOk result (λ n. n ≡ length (members self.entry.puzzle)) }
@@ -235,7 +314,9 @@ impl<'a> Rival<'a> {
             mut span,
             gone_over: _,
             option_work: _,
+            branch_work: _,
             passed,
+            most: _,
             turn_work: _,
             branches: _,
             left: _,

@@ -18,7 +18,7 @@ ghost use Rattle.xc_count.specs.inner.Worth.{EachKey, holds_first, key_below, sa
 
 use crate::errors::{CountError, Halted};
 use crate::holders::options_of;
-use crate::keys::{do_agree, mark_of, mark_uses, without_first};
+use crate::keys::{agree_counting, mark_of, mark_uses, without_first};
 use crate::layer::{Layer, State, pop_state};
 use crate::plan::{Plan, Step};
 use crate::rival::Rival;
@@ -26,8 +26,27 @@ use natural::Natural;
 use std::alloc::Global;
 use xc_input::Problem;
 
-/// The work of trying an option, in about nanoseconds.
+// Work is told in about nanoseconds, and wraps.
+
+/// The work of trying an option, beside the uses that agree.
 const TRY_WORK: u64 = 6;
+/// The work of a use that agrees.
+const USE_WORK: u64 = 2;
+/// So much work is at least between two looks at whether the search has a turn.
+const TURN_CHECK_WORK: u64 = 10_000;
+
+/// The work of trying an option of which so many uses are read that agree.
+#[inline(always)]
+fn work_of_try(read: u64) -> u64 {
+    read.wrapping_mul(USE_WORK).wrapping_add(TRY_WORK)
+}
+
+/// The work of copying a key and marking so many uses, by how many marks it has before and after.
+#[inline(always)]
+fn work_of_marks(uses: u64, before: usize, after: usize) -> u64 {
+    let zeros = (after as u64).wrapping_sub(before as u64);
+    (after as u64 / 8).wrapping_add(zeros).wrapping_add(uses)
+}
 
 /// Adds ways to a state in which the step's item is held.
 fn add_held(
@@ -55,7 +74,9 @@ fn add_held(
     layer.add(without_first(key, step.next - step.from), ways)
 }
 
-/// Adds what a state becomes once an option of the step's item is taken, if it fits.
+/// Adds what a state becomes once an option of the step's item is taken, if it fits. Adds to `tried` the work beside
+/// that of adding to the layer.
+#[inline(always)]
 fn take(
     problem: &Problem,
     plan: &Plan,
@@ -64,6 +85,7 @@ fn take(
     scratch: &mut Vec<u32>,
     state: &State,
     option: u32,
+    tried: &mut u64,
 ) -> Result<(), CountError>
     requires plan { IsPlan problem.now.puzzle plan.now }
     requires step { IsStep problem.now.puzzle plan.now step }
@@ -82,12 +104,16 @@ fn take(
 {
     let uses = problem.option(option);
     let ranks = plan.ranking.ranks.as_slice();
-    if !do_agree(ranks, step.from, state.key.as_slice(), uses) {
+    let mut read = 0;
+    let fits = agree_counting(ranks, step.from, state.key.as_slice(), uses, &mut read);
+    *tried = tried.wrapping_add(work_of_try(read));
+    if !fits {
         return Ok(());
     }
     scratch.clear();
     scratch.extend_from_slice(state.key.as_slice())?;
     mark_uses(ranks, step.from, scratch, uses)?;
+    *tried = tried.wrapping_add(work_of_marks(read, state.key.len(), scratch.len()));
     add_held(problem, plan, step, layer, scratch.as_slice(), &state.ways)
 }
 
@@ -119,8 +145,11 @@ fn split(
     ensures others { OnOk result (EachKey (holds_first plan.now (step.place + 1) step.next) layer.new.states.items) }
     ensures bound { layer.new.bound ≡ layer.old.bound }
 {
+    let mut tried = 0;
     for k in 0..options.len() {
-        take(problem, plan, step, layer, scratch, state, options[k])?;
+        take(
+            problem, plan, step, layer, scratch, state, options[k], &mut tried,
+        )?;
     }
     Ok(())
 }
@@ -170,23 +199,107 @@ pub fn hold(
     split(problem, plan, step, layer, scratch, state, options)
 }
 
-/// The work of trying each option of the step's item, where it is free.
-fn work_of_tries(problem: &Problem, plan: &Plan, step: Step) -> u64
-    requires plan { IsPlan problem.now.puzzle plan.now }
-    requires within { step.place < length plan.now.order.items }
+/// Whether the search has a turn that is due, and comes to its end. The work since the last look is that of adding to
+/// the layer and what was tried.
+#[inline(always)]
+fn is_overtaken(layer: &Layer, tried: &mut u64, rival: &mut Rival) -> bool
+    ensures { rival.new.puzzle ≡ rival.old.puzzle }
 {
-    let item = plan.order[step.place];
-    TRY_WORK * options_of(problem, plan.holders.as_slice(), item).len() as u64
+    let work = tried.wrapping_add(layer.work());
+    if work < TURN_CHECK_WORK {
+        return false;
+    }
+    *tried = tried.wrapping_sub(work);
+    rival.after(work)
 }
 
-/// What the states of a layer become once the step's item is held.
-fn pass(
+/// Does what `split` does, and looks after each option whether the search has a turn.
+fn split_beside(
+    problem: &Problem,
+    plan: &Plan,
+    step: Step,
+    layer: &mut Layer,
+    scratch: &mut Vec<u32>,
+    state: &State,
+    options: &[u32],
+    tried: &mut u64,
+    rival: &mut Rival,
+) -> Result<(), Halted>
+    requires once { HoldsOnce problem.now.puzzle }
+    requires plan { IsPlan problem.now.puzzle plan.now }
+    requires step { IsStep problem.now.puzzle plan.now step }
+    requires valid { IsValid problem.now.puzzle }
+    requires options { options.now ≡ options_with problem.now.puzzle (slice_index plan.now.order.items step.place) }
+    requires free { says plan.now step.from state.now.key.items (slice_index plan.now.order.items step.place) ≡ None }
+    requires held { holds_first plan.now step.place step.from state.now.key.items ≡ true }
+    requires others { EachKey (holds_first plan.now (step.place + 1) step.next) layer.old.states.items }
+    ensures worth { OnOk result (worth problem.now.puzzle plan.now step.next layer.new.states.items
+        ≡ worth problem.now.puzzle plan.now step.next layer.old.states.items
+        + state.now.ways * key_below problem.now.puzzle plan.now step.from state.now.key.items) }
+    ensures others { OnOk result (EachKey (holds_first plan.now (step.place + 1) step.next) layer.new.states.items) }
+    ensures bound { layer.new.bound ≡ layer.old.bound }
+    ensures same { rival.new.puzzle ≡ rival.old.puzzle }
+{
+    for k in 0..options.len() {
+        take(
+            problem, plan, step, layer, scratch, state, options[k], tried,
+        )?;
+        if is_overtaken(layer, tried, rival) {
+            return Err(Halted::Overtaken);
+        }
+    }
+    Ok(())
+}
+
+/// Does what `hold` does, beside a search that has turns.
+fn hold_beside(
+    problem: &Problem,
+    plan: &Plan,
+    step: Step,
+    layer: &mut Layer,
+    scratch: &mut Vec<u32>,
+    state: &State,
+    tried: &mut u64,
+    rival: &mut Rival,
+) -> Result<(), Halted>
+    requires once { HoldsOnce problem.now.puzzle }
+    requires plan { IsPlan problem.now.puzzle plan.now }
+    requires step { IsStep problem.now.puzzle plan.now step }
+    requires valid { IsValid problem.now.puzzle }
+    requires held { holds_first plan.now step.place step.from state.now.key.items ≡ true }
+    requires others { EachKey (holds_first plan.now (step.place + 1) step.next) layer.old.states.items }
+    ensures worth { OnOk result (worth problem.now.puzzle plan.now step.next layer.new.states.items
+        ≡ worth problem.now.puzzle plan.now step.next layer.old.states.items
+        + state.now.ways * key_below problem.now.puzzle plan.now step.from state.now.key.items) }
+    ensures others { OnOk result (EachKey (holds_first plan.now (step.place + 1) step.next) layer.new.states.items) }
+    ensures bound { layer.new.bound ≡ layer.old.bound }
+    ensures same { rival.new.puzzle ≡ rival.old.puzzle }
+{
+    let item = plan.order[step.place];
+    let key = state.key.as_slice();
+    if mark_of(plan.ranking.ranks.as_slice(), step.from, key, item) > 0 {
+        add_held(problem, plan, step, layer, key, &state.ways)?;
+        if is_overtaken(layer, tried, rival) {
+            return Err(Halted::Overtaken);
+        }
+        return Ok(());
+    }
+    let options = options_of(problem, plan.holders.as_slice(), item);
+    split_beside(
+        problem, plan, step, layer, scratch, state, options, tried, rival,
+    )
+}
+
+/// What the states of a layer become once the step's item is held. `tried` is the work since the last look at whether
+/// the search has a turn.
+pub fn pass(
     alloc: Global,
     problem: &Problem,
     plan: &Plan,
     step: Step,
     layer: Layer,
     bound: usize,
+    tried: &mut u64,
     rival: &mut Rival,
 ) -> Result<Layer, Halted>
     requires once { HoldsOnce problem.now.puzzle }
@@ -200,18 +313,22 @@ fn pass(
     ensures room { IfOk result (λ l. l.bytes ≤ bound - layer.bytes) }
     ensures same { rival.new.puzzle ≡ rival.old.puzzle }
 {
-    let mut next = Layer::new(alloc, layer.beside(bound));
+    let mut next = Layer::new(alloc, problem, layer.beside(bound));
     let mut scratch = Vec::new(alloc);
     let mut states = layer.states;
-    let tries = work_of_tries(problem, plan, step);
     while let Some(state) = pop_state(&mut states) {
-        let before = next.work();
-        hold(problem, plan, step, &mut next, &mut scratch, &state)?;
-        let added = next.work().wrapping_sub(before);
-        if rival.after(added.saturating_add(tries)) {
-            return Err(Halted::Overtaken);
-        }
+        hold_beside(
+            problem,
+            plan,
+            step,
+            &mut next,
+            &mut scratch,
+            &state,
+            tried,
+            rival,
+        )?;
     }
+    *tried = tried.wrapping_add(next.work());
     Ok(next)
 }
 
@@ -229,7 +346,7 @@ pub fn first_layer(
     ensures held { IfOk result (λ l. EachKey (holds_first plan.now 0 0) l.states.items) }
     ensures room { IfOk result (λ l. l.bytes ≤ bound) }
 {
-    let mut layer = Layer::new(alloc, bound);
+    let mut layer = Layer::new(alloc, problem, bound);
     layer.add(&[], &Natural::from_u64(alloc, 1))?;
     Ok(layer)
 }
@@ -273,9 +390,10 @@ pub fn sweep(
 {
     let mut layer = first_layer(alloc, problem, plan, bound)?;
     let mut from = 0;
+    let mut tried = 0;
     for place in 0..plan.order.len() {
         let step = plan.step(place, from);
-        layer = pass(alloc, problem, plan, step, layer, bound, rival)?;
+        layer = pass(alloc, problem, plan, step, layer, bound, &mut tried, rival)?;
         from = step.next;
     }
     Ok(total(alloc, problem, plan, from, layer)?)

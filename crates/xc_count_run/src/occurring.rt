@@ -10,7 +10,7 @@ use crate::messages::count_line;
 use crate::running::write_last;
 use natural::Natural;
 use std::alloc::{AllocError, Global};
-use xc_count::{count, occurrences};
+use xc_count::count_each;
 use xc_dance::Memory;
 use xc_input::Problem;
 use xc_list::{Sink, write_all};
@@ -49,9 +49,8 @@ fn texts_of(alloc: Global, problem: &Problem, bound: usize) -> Result<(Vec<u8>, 
     ensures lines { IfOk result (λ texts. texts.0.items ≡ option_lines problem.now.puzzle) }
     ensures last { IfOk result (λ texts. texts.1.items ≡ count_text (length (members problem.now.puzzle))) }
 {
-    let numbers = occurrences(alloc, problem, bound)?;
+    let (covers, numbers) = count_each(alloc, problem, bound)?;
     let lines = lines_of(alloc, numbers.as_slice())?;
-    let covers = count(alloc, problem, bound)?;
     let last = count_line(alloc, &covers)?;
     Ok((lines, last))
 }

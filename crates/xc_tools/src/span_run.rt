@@ -90,8 +90,8 @@ pub fn solve_span<S: Source, O: Sink, E: Sink>(
     solve_span_by(alloc, Seed::FIXED, words, input, out, err)
 }
 
-/// Does what `solve_span` does, and hashes names by this seed, which is to be random for an input that may be written to
-/// be slow.
+/// Does what `solve_span` does, and hashes names by this seed, which is to be random for an input that may be written
+/// to be slow.
 pub fn solve_span_by<S: Source, O: Sink, E: Sink>(
     alloc: Global,
     seed: Seed,

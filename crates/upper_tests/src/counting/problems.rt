@@ -9,9 +9,9 @@ use xc_dance::{Links, Memory};
 use xc_input::{Kind, Problem};
 use xc_search::{Choice, Search, Step};
 
-/// Room for the states of each problem here, for a few, and for none: then a search counts beside the sweep until that
-/// gives up, and alone.
-const ROOMS: [usize; 3] = [1_000_000, 500, 0];
+/// Room for the plan and the states of each problem here, for a plan and a few states, for no plan, and none: then a
+/// search counts beside the sweep until that gives up, and alone.
+const ROOMS: [usize; 4] = [1_000_000, 1_800, 500, 0];
 
 /// Four items in pairs.
 const PAIRS: &[u8] = b"a b c d\na b\na c\na d\nb c\nb d\nc d\n";

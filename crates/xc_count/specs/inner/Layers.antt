@@ -1,6 +1,10 @@
 -- What the states of a layer take, and how its slots find them.
 use Rattle.std.specs.Prelude.{ℕ, zero, suc, ◌≡◌, ◌+◌, ◌*◌, ◌^◌, ◌/◌, ◌%◌, ◌==◌, ◌&&◌, ◌||◌, Bool, true, false, not}
-use Rattle.std.specs.Prelude.{List, Option, Some, None, length, map, sum_by, slice_get, if◌then◌else◌}
+use Rattle.std.specs.Prelude.{List, [], ◌∷◌, Option, Some, None, fold, length, map, sum_by, slice_get, if◌then◌else◌}
+use Rattle.std.specs.Hash.{le_bytes}
+use Rattle.natural.specs.Numerals.{limbs_above}
+use Rattle.xc_input.specs.Hashing.{folded, hashed}
+use Rattle.xc_input.specs.declared.seed.Seed.{Seed}
 use Rattle.xc_count.specs.declared.layer.Slot.{Slot}
 use Rattle.xc_count.specs.declared.layer.State.{State}
 
@@ -8,9 +12,27 @@ use Rattle.xc_count.specs.declared.layer.State.{State}
 abbrev pub told : List State → List (List ℕ × ℕ)
 told ss = map (λ s. (s.key.items, s.hash)) ss
 
--- the bytes that states of these keys count for: 160 each, and four for each mark
-abbrev pub charged : List (List ℕ × ℕ) → ℕ
-charged ts = sum_by (λ t. 4 * length t.0 + 160) ts
+-- the bytes that a state counts for: 160, four for each mark of its key, and eight for each limb of its number
+abbrev pub state_bytes : List ℕ → ℕ → ℕ
+state_bytes key ways = 4 * length key + 8 * limbs_above ways + 160
+
+-- and all of them
+abbrev pub charged : List State → ℕ
+charged ss = sum_by (λ s. state_bytes s.key.items s.ways) ss
+
+-- what a key writes to its hash: two marks as one number
+abbrev pub key_words : List ℕ → List (List ℕ)
+key_words [] = []
+key_words (a ∷ []) = le_bytes 8 a ∷ []
+key_words (a ∷ b ∷ key) = le_bytes 8 (a + 4294967296 * b) ∷ key_words key
+
+-- the hash of a key by a seed
+abbrev pub hash_by : Seed → List ℕ → ℕ
+hash_by seed key = folded seed.multiplier (fold (hashed seed.multiplier) seed.state (key_words key))
+
+-- each state has the hash of its key
+abbrev pub AreHashed : Seed → List (List ℕ × ℕ) → Type 0
+AreHashed seed ts = (k : ℕ) (t : List ℕ × ℕ) → slice_get ts k ≡ Some t → t.1 ≡ hash_by seed t.0
 
 -- the slot after this one of so many; after the last is the first
 abbrev pub slot_after : ℕ → ℕ → ℕ

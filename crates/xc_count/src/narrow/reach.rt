@@ -2,6 +2,7 @@
 
 use crate::errors::CountError;
 use crate::narrow::near::uses_of;
+use crate::narrow::queue::{Candidate, Queue};
 use crate::narrow::values::{add_one, list_of, set_value, take_one, value_at};
 use crate::order::filled;
 use std::alloc::Global;
@@ -9,6 +10,9 @@ use xc_input::Problem;
 
 /// The most open items that a cost tells apart.
 const MOST_OPEN: u32 = 110;
+
+/// How many steps it takes to put an item into the queue and to take it off, about.
+const QUEUE_STEPS: u64 = 20;
 
 /// How far an order has come.
 #[derive(Drop)]
@@ -28,6 +32,10 @@ pub struct Reach {
     pulls: Vec<u32>,
     /// For each item when one near it was reached first.
     since: Vec<u32>,
+    /// The items that are left and near one that was reached.
+    queue: Queue,
+    /// The order has each item up to this one.
+    passed: u32,
     /// How many items were reached.
     clock: u32,
     /// How many of these have an option that is not dead.
@@ -40,7 +48,7 @@ pub struct Reach {
 
 /// Counts the elements of each list.
 fn lengths(alloc: Global, lists: &[Vec<u32>]) -> Result<Vec<u32>, CountError> {
-    let mut lengths = Vec::new(alloc);
+    let mut lengths = Vec::with_capacity(alloc, lists.len())?;
     for list in lists {
         lengths.push(u32::try_from(list.len()).unwrap_or(u32::MAX))?;
     }
@@ -57,7 +65,7 @@ impl Reach {
     ) -> Result<Reach, CountError> {
         let many = problem.items() as usize;
         Ok(Reach {
-            order: Vec::new(alloc),
+            order: Vec::with_capacity(alloc, problem.primary() as usize)?,
             taken: filled(alloc, many, 0)?,
             dead: filled(alloc, problem.options() as usize, 0)?,
             live: lengths(alloc, holders)?,
@@ -65,15 +73,17 @@ impl Reach {
             fresh: lengths(alloc, near)?,
             pulls: filled(alloc, many, 0)?,
             since: filled(alloc, many, u32::MAX)?,
+            queue: Queue::new(alloc, problem.items())?,
+            passed: 0,
             clock: 0,
             open: 0,
             cost: 0,
-            steps: 0,
+            steps: u64::from(problem.items()) + u64::from(problem.options()),
         })
     }
 
     /// Notes that an item is reached.
-    fn reach(&mut self, primary: u32, near: &[u32], item: u32) {
+    fn reach(&mut self, primary: u32, near: &[u32], item: u32) -> Result<(), CountError> {
         set_value(&mut self.reached, item, 1);
         let is_live = value_at(self.live.as_slice(), item) > 0;
         if is_live {
@@ -87,9 +97,13 @@ impl Reach {
             if is_live || item <= primary {
                 add_one(&mut self.pulls, *x);
             }
+            if *x <= primary {
+                self.queue.note(*x)?;
+            }
         }
         self.clock = self.clock.saturating_add(1);
         self.steps = self.steps.saturating_add(near.len() as u64);
+        Ok(())
     }
 
     /// Notes that an item has no option any more that is not dead.
@@ -137,39 +151,55 @@ impl Reach {
         }
         for x in list_of(near, item) {
             if value_at(self.reached.as_slice(), *x) == 0 {
-                self.reach(problem.primary(), list_of(near, *x), *x);
+                self.reach(problem.primary(), list_of(near, *x), *x)?;
             }
         }
         self.cost = self.cost.saturating_add(1 << self.open.min(MOST_OPEN));
         Ok(())
     }
 
-    /// Whether an item is to be taken before another.
-    fn is_better(&self, item: u32, other: u32) -> bool {
-        let fresh = value_at(self.fresh.as_slice(), item);
-        let other_fresh = value_at(self.fresh.as_slice(), other);
-        fresh < other_fresh
-            || fresh == other_fresh
-                && value_at(self.since.as_slice(), item) < value_at(self.since.as_slice(), other)
+    /// What an item is in the queue, if it may be in it: it is left, and one near it is reached that pulls it.
+    fn candidate(&self, item: u32) -> Option<Candidate> {
+        if value_at(self.taken.as_slice(), item) > 0 || value_at(self.pulls.as_slice(), item) == 0 {
+            return None;
+        }
+        Some(Candidate {
+            fresh: value_at(self.fresh.as_slice(), item),
+            since: value_at(self.since.as_slice(), item),
+            item,
+        })
+    }
+
+    /// Puts the items that changed into the queue.
+    fn queue_changed(&mut self) -> Result<(), CountError> {
+        while let Some(item) = self.queue.pop_changed() {
+            if let Some(candidate) = self.candidate(item) {
+                self.queue.push(candidate)?;
+                self.steps = self.steps.saturating_add(QUEUE_STEPS);
+            }
+        }
+        Ok(())
+    }
+
+    /// The first item that is left.
+    fn first_left(&mut self, primary: u32) -> Option<u32> {
+        while self.passed < primary {
+            if value_at(self.taken.as_slice(), self.passed + 1) == 0 {
+                return Some(self.passed + 1);
+            }
+            self.passed += 1;
+        }
+        None
     }
 
     /// The item to be taken next, if one is left.
-    pub fn next(&mut self, primary: u32) -> Option<u32> {
-        let mut first = None;
-        let mut best = None;
-        for i in 0..primary {
-            if value_at(self.taken.as_slice(), i + 1) > 0 {
-                continue;
-            }
-            first = first.or(Some(i + 1));
-            if value_at(self.pulls.as_slice(), i + 1) > 0 {
-                match best {
-                    Some(other) if !self.is_better(i + 1, other) => {}
-                    _ => best = Some(i + 1),
-                }
+    pub fn next(&mut self, primary: u32) -> Result<Option<u32>, CountError> {
+        self.queue_changed()?;
+        while let Some(candidate) = self.queue.pop() {
+            if self.candidate(candidate.item) == Some(candidate) {
+                return Ok(Some(candidate.item));
             }
         }
-        self.steps = self.steps.saturating_add(u64::from(primary));
-        best.or(first)
+        Ok(self.first_left(primary))
     }
 }

@@ -1,4 +1,4 @@
-use Rattle.std.proofs.Common.{◌≡◌, ◌≤◌, ◌+◌, Some, arith, ap, ◌∙◌, drop, length, subst, sym, get_or}
+use Rattle.std.proofs.Common.{◌≡◌, ◌≤◌, ◌+◌, Some, arith, ap, ◌∙◌, drop, length, refl, subst, sym, get_or}
 use Rattle.std.proofs.lemmas.List.{drop_all}
 use Rattle.std.proofs.lemmas.Map.Keys.{le_from_is_le}
 use Rattle.xc_input.specs.Problem.{numbered_get, option_count}
@@ -31,6 +31,7 @@ loop-place-init c =
       few = omega arith;
       ahead = let many = ap (λ os. length (that_agree p s os)) c.options_of-options.ensures
           ∙ fork_many p c.requires.valid c.requires.once s fork c.requires.fork in omega (arith, many);
+      same = refl;
     }
 
 pub key_with-requires-clause-known : goal.key_with-requires-clause-known
@@ -53,6 +54,7 @@ loop-place-preserved-in_default c =
       few = omega (arith, c.loop-place.invariant.few);
       ahead = let step = agree_step p s os c.loop-place.place (omega arith) in
           omega (arith, rw agreed at step, c.loop-place.invariant.ahead);
+      same = c.loop-place.invariant.same;
     }
 
 pub overflow_add-k : goal.overflow_add-k
@@ -99,7 +101,7 @@ returns-then-le-clause-solution c =
     let next = c.in-Some.next.items in
     let agreed = rw c.in-Some.is at c.in_ok-next.ensures.key in
     let left = left_with p c.requires.valid plan c.args.key.now next o agreed.1 in
-    let many = c.in_ok-covers.ensures
+    let many = c.in_ok-covers.ensures.count
     ∙ ap (λ k. length (listing (left_by_key p plan k))) c.as_slice-in-loop-place.ensures.value
     ∙ ap (λ r. length (listing r)) left in
     let few = le_from_is_le c.loop-place.number c.in_ok-covers.covers (sym c.le.ensures ∙ c.if-le.true) in
@@ -130,7 +132,7 @@ loop-place-preserved c =
     let o = get_or os c.loop-place.place 0 in
     let agreed = rw c.in-Some.is at c.in_ok-next.ensures.key in
     let left = left_with p c.requires.valid plan c.args.key.now c.in-Some.next.items o agreed.1 in
-    let many = c.in_ok-covers.ensures
+    let many = c.in_ok-covers.ensures.count
     ∙ ap (λ k. length (listing (left_by_key p plan k))) c.as_slice-in-loop-place.ensures.value
     ∙ ap (λ r. length (listing r)) left in
     let more = more_than c.loop-place.number c.in_ok-covers.covers (sym c.le.ensures ∙ c.if-le.false) in
@@ -142,6 +144,7 @@ loop-place-preserved c =
       few = omega (arith, c.loop-place.invariant.few);
       ahead = let step = agree_step p s os c.loop-place.place (omega arith) in
           omega (arith, rw agreed.0 at step, c.loop-place.invariant.ahead);
+      same = c.count_left.ensures.same ∙ c.loop-place.invariant.same;
     }
 
 pub returns-clause-solution : goal.returns-clause-solution

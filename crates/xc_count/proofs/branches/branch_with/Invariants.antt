@@ -12,4 +12,5 @@ invariant-loop-place l = record {
       (drop l.place l.options)) l.number;
   few : l.k ≤ l.place;
   ahead : l.k + length (that_agree l.problem.puzzle (says l.plan 0 l.key) (drop l.place l.options)) ≡ l.fork.1;
+  same : l.rival.puzzle ≡ l.initial.rival.puzzle;
 }

@@ -1,6 +1,6 @@
 use Rattle.std.proofs.Common.{suc, arith, refl, ◌≡◌, ◌+◌, ◌-◌, ◌∙◌, ◌∷◌, [], sym, ap, subst, get_or, drop, drop-cons}
 use Rattle.std.specs.Prelude.{unwrap_or}
-use Rattle.std.proofs.lemmas.List.{get_or_default}
+use Rattle.std.proofs.lemmas.List.{drop_all, get_or_default}
 use Rattle.xc_input.specs.Problem.{IsSoundOption, uses_of}
 use Rattle.xc_input.proofs.LineLemmas.{at_number}
 use Rattle.xc_count.specs.inner.ByOption.{AtMost, ways_from}
@@ -52,3 +52,11 @@ loop-k-preserved c =
       len = c.remove_uses.ensures.len ∙ c.loop-k.invariant.len;
       same = c.in_ok-layer-2.ensures.same ∙ c.loop-k.invariant.same;
     }
+
+pub returns-clause-count : goal.returns-clause-count
+returns-clause-count c =
+    let p = c.args.problem.now.puzzle in
+    let os = c.in_ok-order.order.items in
+    let none : drop c.loop-k.k os ≡ [] = drop_all c.loop-k.k os (omega arith) in
+    c.in_ok-total.ensures ∙ ap (λ z. worth_by (ways_from p z) c.loop-k.layer.states.items) (sym none)
+    ∙ c.loop-k.invariant.worth

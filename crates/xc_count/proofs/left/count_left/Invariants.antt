@@ -6,4 +6,5 @@ abbrev pub invariant-loop-place : goal.invariant-loop-place
 invariant-loop-place l = record {
   worth : worth l.problem.puzzle l.plan l.from l.layer.states.items ≡ key_below l.problem.puzzle l.plan 0 l.key;
   held : EachKey (holds_first l.plan l.place l.from) l.layer.states.items;
+  same : l.rival.puzzle ≡ l.initial.rival.puzzle;
 }

@@ -15,9 +15,9 @@ loop-state-preserved c =
     ≡ worth p plan from c.pop_state.new.states.items + s.ways * key_below p plan from s.key.items =
     rw popped (worth_push (key_below p plan from) c.pop_state.new.states.items s) in
     record {
-      worth = omega (arith, push, c.in_ok-hold.ensures.worth, c.loop-state.invariant.worth);
+      worth = omega (arith, push, c.in_ok-hold_beside.ensures.worth, c.loop-state.invariant.worth);
       left = keys_before test c.pop_state.new.states.items s (subst (EachKey test) popped c.loop-state.invariant.left);
-      held = c.in_ok-hold.ensures.others;
-      room = omega (arith, c.hold.ensures.bound, c.loop-state.invariant.room);
-      same = c.after.ensures.puzzle ∙ c.loop-state.invariant.same;
+      held = c.in_ok-hold_beside.ensures.others;
+      room = omega (arith, c.hold_beside.ensures.bound, c.loop-state.invariant.room);
+      same = c.hold_beside.ensures.same ∙ c.loop-state.invariant.same;
     }

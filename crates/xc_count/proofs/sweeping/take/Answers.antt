@@ -35,13 +35,13 @@ returns-clause-worth c =
     let key = c.args.state.now.key.items in
     let us = c.option-uses.result.now in
     let uses : uses_of p c.args.option ≡ us = ap (λ o. unwrap_or o []) c.option-uses.ensures.value in
-    let agreed : c.do_agree.result ≡ true = grind arith in
-    let test : c.do_agree.result ≡ agree (says plan step.from key) us = c.do_agree.ensures
+    let agreed : c.agree_counting-fits.result ≡ true = grind arith in
+    let test : c.agree_counting-fits.result ≡ agree (says plan step.from key) us = c.agree_counting-fits.ensures
     ∙ ap₂ (λ r k. agree (held_in r step.from k) us) c.as_slice-ranks.ensures.value c.as_slice.ensures.value in
     let copied = c.in_ok-extend_from_slice.ensures.items
     ∙ ap₂ (λ a b. a ++ b) c.clear.ensures.items c.as_slice-2.ensures.value in
     let taken = below_taken p plan c.requires.plan step c.requires.step key c.option-uses.ensures.whole.valid
-    c.as_slice-3.result.now c.args.option us c.do_agree.result uses test agreed
+    c.as_slice-3.result.now c.args.option us c.agree_counting-fits.result uses test agreed
     (taken_says p plan c.requires.plan step c.requires.step key c.as_slice-ranks.result.now _ c.mark_uses.new.key.items
     c.as_slice-3.result.now us c.as_slice-ranks.ensures.value copied c.as_slice-3.ensures.value
     c.in_ok-mark_uses.ensures.held) in
@@ -57,13 +57,14 @@ returns-clause-left c =
     let key = c.args.state.now.key.items in
     let us = c.option-uses.result.now in
     let uses : uses_of p c.args.option ≡ us = ap (λ o. unwrap_or o []) c.option-uses.ensures.value in
-    let agreed : c.do_agree.result ≡ true = grind arith in
-    let test : c.do_agree.result ≡ agree (says plan step.from key) us = c.do_agree.ensures
+    let agreed : c.agree_counting-fits.result ≡ true = grind arith in
+    let test : c.agree_counting-fits.result ≡ agree (says plan step.from key) us = c.agree_counting-fits.ensures
     ∙ ap₂ (λ r k. agree (held_in r step.from k) us) c.as_slice-ranks.ensures.value c.as_slice.ensures.value in
     let copied = c.in_ok-extend_from_slice.ensures.items
     ∙ ap₂ (λ a b. a ++ b) c.clear.ensures.items c.as_slice-2.ensures.value in
     let taken = λ (h : Residual → ℕ). left_taken p plan c.requires.plan step c.requires.step key h
-    c.option-uses.ensures.whole.valid c.as_slice-3.result.now c.args.option us c.do_agree.result uses test agreed
+    c.option-uses.ensures.whole.valid c.as_slice-3.result.now c.args.option us c.agree_counting-fits.result uses test
+    agreed
     (taken_says p plan c.requires.plan step c.requires.step key c.as_slice-ranks.result.now _ c.mark_uses.new.key.items
     c.as_slice-3.result.now us c.as_slice-ranks.ensures.value copied c.as_slice-3.ensures.value
     c.in_ok-mark_uses.ensures.held) in
