@@ -438,15 +438,17 @@ class Page(Pages):
         self.tab.wait("document.querySelector('#stop').disabled")
 
     def running(self):
-        """The processes of the answers, and the programs that these run."""
-        told = {}
+        """The processes of the answers, and the programs that these run, without the shells that guard them."""
+        told, programs = {}, set()
         for name in filter(str.isdigit, os.listdir("/proc")):
             with contextlib.suppress(OSError), open(f"/proc/{name}/stat") as file:
-                state, parent = file.read().rpartition(") ")[2].split()[:2]
+                begun, _, rest = file.read().rpartition(") ")
+                state, parent = rest.split()[:2]
                 if state != "Z":
                     told.setdefault(int(parent), []).append(int(name))
+                    programs |= {int(name)} if "(dlx" in begun else set()
         answers = told.get(self.server.pid, [])
-        return answers, [program for answer in answers for program in told.get(answer, [])]
+        return answers, [one for answer in answers for one in told.get(answer, []) if one in programs]
 
     def example(self, title):
         """Fills in the example of this title."""
