@@ -4,7 +4,7 @@ dlx3 searches by bounds that are narrowed (`bounds`). Where that takes more than
 are asked (`optimisers`), and where it takes more than a second, prices of the items (`prices`) and a sweep over states
 (`states`) have turns: prices may show that the best solution so far is least, and the sweep finds one that is. Each way
 takes over the cheapest solution that any has found. Dominoes on 8 by 8 with random costs took dlx3 five seconds and the
-sweep a thirtieth of one; 2,000 pairings of flights took cbc less than a second, and dlx3 came to no end.
+sweep a thirtieth of one; 2,000 pairings of flights took cbc less than a second, where dlx3 alone had no solution in 20.
 
 What an engine calls a solution is one where dlxcheck judges it to be one, and what it costs is added up here. That none
 costs less is what it reports, and no proof: for a while the other ways may prove it, or find that it isn't so.
@@ -46,7 +46,7 @@ _ALONE_SECONDS, _MOST_ALONE, _TURN_SECONDS = 1.0, 10.0, 0.3
 _ENGINE_SECONDS = 0.05
 # What goes on beside dlx3 is looked at so often.
 _LOOK_SECONDS = 0.05
-# Without seconds of its own it ends after so many where a solution was found, and an engine does so in any case.
+# Without seconds of its own it ends after so many where a solution was found.
 MOST_SECONDS = sat_solver.MOST_SECONDS
 # To write the problem for an engine may take so long.
 _MOST_WRITING = 8.0
@@ -221,9 +221,10 @@ class _Search(Generic[Option]):
             return
         self._hear()
         self._report(at_work=["dlx3", *self._engines.names])
-        if self._engines.claim is not None and self._engines.claim.is_over(now):
-            self._engines.claim.end(self._problem)
-        swept = self._reasoning.look(self.best, run, self._engines.claim is not None)
+        claim = self._engines.claim
+        if claim is not None and claim.left(now) <= 0:
+            claim.end(self._problem)
+        swept = self._reasoning.look(self.best, run, None if claim is None else claim.left(now))
         if swept is not None:
             self._set(swept, "states")
             raise _Over("states")
@@ -267,20 +268,22 @@ class _Reasoning:
             self._prices = Prices(self._problem, self._costs)
         return self._prices
 
-    def look(self, best: int | None, run: Run | None, is_urgent: bool) -> list[int] | None:
-        """A turn where it is time for it, or urgent; what the sweep found where it has ended. Raises `_Over`."""
+    def look(self, best: int | None, run: Run | None, left: float | None) -> list[int] | None:
+        """A turn where it is time for it; what the sweep found where it has ended. Raises `_Over`.
+
+        left: the seconds to show what an engine reports, in which prices have a turn before it is time.
+        """
         if self._sweep is None:
             worked = sum(os.times()[:4]) - self._worked + (0.0 if run is None else run.worked())
-            if not is_urgent and worked < _ALONE_SECONDS and time.monotonic() - self._begun < _MOST_ALONE:
-                return None
-            self._sweep = Sweep(self._problem, self._costs)
-        if best is not None:
-            if self.prices.show(best, _TURN_SECONDS):
+            if worked >= _ALONE_SECONDS or time.monotonic() - self._begun >= _MOST_ALONE:
+                self._sweep = Sweep(self._problem, self._costs)
+        if best is not None and (self._sweep is not None or left is not None):
+            if self.prices.show(best, _TURN_SECONDS if left is None else min(left, _TURN_SECONDS)):
                 raise _Over("prices")
             self.floor = self.prices.surpluses()[1]
-        if not self._sweep.is_over:
+        if self._sweep is not None and left is None and not self._sweep.is_over:
             self._sweep.go_on(_TURN_SECONDS)
-        return self._sweep.numbers
+        return None if self._sweep is None else self._sweep.numbers
 
 
 # ---- by engines
@@ -296,9 +299,9 @@ class _Claim:
         proof = min(max(now - begun, _LEAST_PROOF_SECONDS), _PROOF_SECONDS)
         self._until = now + (_NONE_SECONDS if self.cost is None else proof)
 
-    def is_over(self, now: float) -> bool:
-        """Whether the others have had the time to show it."""
-        return now > self._until
+    def left(self, now: float) -> float:
+        """How long the others have to show it; nothing or less where the time is over."""
+        return self._until - now
 
     def end(self, problem: Problem[Any]) -> None:
         """Raises `Claimed`, and `_Over`."""
@@ -326,7 +329,7 @@ class _Engines:
         self._hint = hint
         self._begun = self._last = time.monotonic()
         self._has_deadline = deadline is not None
-        self._deadline = self._begun + MOST_SECONDS if deadline is None else deadline
+        self._deadline = self._begun + sat_solver.MOST_SECONDS if deadline is None else deadline
         self._waiting: list[Engine] | None = None
         self._at_work: list[Optimiser] = []
         self._has_any = self._is_helped = self._is_told = False

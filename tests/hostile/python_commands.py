@@ -353,7 +353,7 @@ class Try:
         return "helgrothy", ["lint", self.input(text(self.rng)), "--for", self.rng.choice(["dlx1", "dlx2", "dlx3"])]
 
     def export(self):
-        return "helgrothy", ["export", self.rng.choice(["asp", "opb", "cnf"]), self.input(text(self.rng))]
+        return "helgrothy", ["export", self.rng.choice(["asp", "opb", "cnf", "lp"]), self.input(text(self.rng))]
 
     def answer(self):
         """An answer of another solver, or of none."""
@@ -365,7 +365,7 @@ class Try:
         literals += [rng.choice(odd)] * rng.choice([0, 0, 1])
         told = rng.choice([b"v " + b" ".join(literals) + b" 0", b"v " + b" ".join(b"x" + one for one in literals), b"Answer: 1\n" + b" ".join(atoms)])
         self.given = changed(rng, b"\n".join([told, rng.choice([b"s SATISFIABLE", b"UNSATISFIABLE", b"s UNKNOWN", b"c", *EVIL]), b""]))
-        return "helgrothy", ["import", rng.choice(["cadical", "clasp"]), self.file(problem)]
+        return "helgrothy", ["import", rng.choice(["cadical", "clasp", "cbc", "glpsol", "highs"]), self.file(problem)]
 
     def why(self):
         return "helgrothy", ["why", self.input(text(self.rng)), "--seconds", "0.5"]
@@ -682,7 +682,7 @@ class Processes:
             self.file(f"strangers/{module}.py", b"import os; os.write(2, b'HIJACKED')\n")
         for module in ("__init__", "__main__", "_cli/commands", "_spans/__init__", "_spans/commands"):
             self.file(f"strangers/helgrothy/{module}.py", b"print('HIJACKED')\n")
-        for program in ("dlx1", "dlx2", "dlx3", "dlxcheck", "dlx-span", "dlx-join", "cadical", "clasp"):
+        for program in ("dlx1", "dlx2", "dlx3", "dlxcheck", "dlx-span", "dlx-join", "cadical", "clasp", "cbc", "glpsol", "highs"):
             os.chmod(self.file(f"strangers/{program}", b"#!/bin/sh\necho HIJACKED >&2\n"), 0o755)
         self.file("strangers/p.dlx", b"tuesday B\ntuesday\nB\n")
         self.file("strangers/q.dlx", b"tuesday B\ntusday\n")
@@ -720,7 +720,7 @@ class Processes:
         """Texts and listings of 1 MB: none takes much longer than an ordinary one, nor than it is given."""
         hurting = large_texts()
         ordinary = self.file("ordinary.dlx", hurting.pop("ordinary"))
-        exports = [f"helgrothy export {form}" for form in ("asp", "cnf", "opb")]
+        exports = [f"helgrothy export {form}" for form in ("asp", "cnf", "lp", "opb")]
         for command in ("helgrothy lint", "helgrothy solve --svg --seconds 600", *exports):
             for what, content in hurting.items():
                 path = self.file("large.dlx", content)

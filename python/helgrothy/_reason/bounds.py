@@ -22,8 +22,9 @@ from .prices import PARTS, Prices
 _ROUNDS = 8
 # Better prices may take so many seconds, and this part of the time; others have their turns each so many seconds.
 _PRICING_SECONDS, _PRICING_SHARE, _PRICING_TURN = 0.1, 0.5, 0.3
-# A search begins again where this part of the room that it has, or less, is left.
-_MUCH_LESS = 0.9
+# A search begins again where this part of the room that it has, or less, is left, and it has had so many seconds: one
+# that was about to end would be slower with each better solution of an engine.
+_MUCH_LESS, _BEGUN_SECONDS = 0.9, 1.0
 _MOST_BOUNDS = 30
 
 
@@ -59,8 +60,10 @@ class Bounds:
         self._beside = beside
         self._begun, self._priced = time.monotonic(), 0.0
         self._surplus, self._floor = _surpluses(problem, [cost * PARTS for cost in costs])
-        # How much surplus a solution of the search that goes on may have; any where there was no solution before.
+        # How much surplus a solution of the search that goes on may have, any where there was no solution before; and
+        # when it was begun.
         self._room: int | None = None
+        self._search_begun = self._begun
 
     def solutions(self) -> Generator[list[int], None, None]:
         """Numbers of options. No solution costs less than the best one when it ends. Raises `OutOfTime`."""
@@ -77,6 +80,7 @@ class Bounds:
                 return
             # Options of small surplus come first, so that a cheap solution comes early.
             order.sort(key=lambda place: self._surplus[place])
+            self._search_begun = time.monotonic()
             try:
                 with closing(self._among(order)) as found:
                     for numbers in found:
@@ -97,7 +101,8 @@ class Bounds:
         """Raises `_Narrower`."""
         self._beside.look(run)
         best, floor = self._beside.best, self._beside.floor
-        if best is not None:
+        # One that has found a solution begins again anyway.
+        if best is not None and (run is None or time.monotonic() - self._search_begun > _BEGUN_SECONDS):
             left = (best - 1) * PARTS - max(self._floor, self._floor if floor is None else floor)
             if self._room is None or left < self._room * _MUCH_LESS:
                 raise _Narrower
@@ -112,7 +117,7 @@ class Bounds:
             if prices.show(self._beside.best, min(left, _PRICING_TURN)):
                 return True
             left -= _PRICING_TURN
-            if left <= 0 or prices.is_over:
+            if left <= 0 or prices.is_over or self._deadline is not None and time.monotonic() > self._deadline:
                 break
             self._beside.look()
         self._priced += time.monotonic() - begun

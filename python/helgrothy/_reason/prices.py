@@ -54,11 +54,14 @@ class Prices:
         self.is_over = self._is_large
 
     def show(self, goal: int, seconds: float) -> bool:
-        """Goes on for about so long. Returns whether each solution costs the goal at least."""
+        """Goes on for so many seconds of a processor. Returns whether each solution costs the goal at least.
+
+        By the clock, prices would be worse on a machine that does other things too, and the search of dlx3 longer.
+        """
         if goal != self._goal:
             self._begin(goal)
-        until = time.monotonic() + seconds
-        while not self.is_over and time.monotonic() < until:
+        until = time.thread_time() + seconds
+        while not self.is_over and time.thread_time() < until:
             if self._go_on(goal):
                 return True
         return False
