@@ -28,7 +28,6 @@ from .bits import Test, Values
 from .designs import Design, Factor, Meeting, Option, Rules
 from .kind import Found, check_items
 from .quick import Greedy, Wanted, meetings_of
-from .shorten import Shorter
 
 _SEED = 1
 # The steps of the shortest try, beside two for each item; others have twice as many, four times and so on.
@@ -204,6 +203,8 @@ class _Search:
 
     def _shorten(self, most_looks: int) -> None:
         """Makes the best design shorter. Raises `OutOfTime`."""
+        from .shorten import Shorter
+
         self._hear(at_work=["helgrothy"])
         shorter = Shorter(self._wanted, self._deadline, self._rng)
         while len(self._best.tests) > self._best.least:
