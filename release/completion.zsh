@@ -129,7 +129,7 @@ _helgrothy_options() {
             options=('--help:show this help message and exit' '--for:default: dlx3')
             commands=() ;;
         'helgrothy export')
-            options=('--help:show this help message and exit' '--cost:of lp: what options cost, from a file as `solve --cost` takes')
+            options=('--help:show this help message and exit' '--cost:of asp, opb and lp: what options cost, from a file as `solve --cost` takes')
             commands=() ;;
         'helgrothy why')
             options=('--help:show this help message and exit' '--seconds:the time (default: 10)')

@@ -9,6 +9,7 @@ from __future__ import annotations
 from collections.abc import Callable, Hashable, Iterator, Sequence
 from dataclasses import dataclass
 from itertools import zip_longest
+from math import lcm
 from typing import TYPE_CHECKING, Any
 
 from ._reason.counting import Clauses
@@ -69,9 +70,21 @@ def _counter(after: int) -> Iterator[int]:
         yield after
 
 
-def asp(problem: Problem[Any]) -> Iterator[str]:
-    """The lines of an answer set program for gringo and clasp: x(N) takes option N, which holds(N,ITEM)."""
-    yield "% An exact cover problem: x(N) takes option N. Costs: #minimize {C,N : x(N), cost(N,C)}."
+def _priced(costs: Sequence[Fraction | int]) -> list[tuple[int, int]]:
+    """The options that cost something, each with its cost, in a unit of which all are multiples."""
+    unit = lcm(1, *(cost.denominator for cost in costs))
+    return [(number, int(cost * unit)) for number, cost in enumerate(costs, 1) if cost]
+
+
+def asp(problem: Problem[Any], costs: Sequence[Fraction | int] = ()) -> Iterator[str]:
+    """The lines of an answer set program for gringo and clasp: x(N) takes option N, which holds(N,ITEM).
+
+    costs: of each option in their order.
+    """
+    yield "% An exact cover problem: x(N) takes option N."
+    if priced := _priced(costs):
+        # With the option in each term, since terms that are the same count once.
+        yield f"#minimize {{ {'; '.join(f'{cost},{number} : x({number})' for number, cost in priced)} }}."
     yield f"{{x(1..{len(problem.options)})}}." if problem.options else ""
     for number, option in enumerate(problem.options, 1):
         for name in problem._uses(option):
@@ -96,11 +109,13 @@ def _quoted(name: str) -> str:
     return '"' + name.replace("\\", "\\\\").replace('"', '\\"') + '"'
 
 
-def opb(problem: Problem[Any]) -> Iterator[str]:
-    """The lines of a pseudo-Boolean problem in the format OPB; an objective `min: ..;` may be put in front."""
+def opb(problem: Problem[Any], costs: Sequence[Fraction | int] = ()) -> Iterator[str]:
+    """The lines of a pseudo-Boolean problem in the format OPB. costs: of each option in their order."""
     last, lines = sums(problem)
     yield f"* #variable= {last} #constraint= {len(lines)}"
     yield f"* x1 to x{len(problem.options)} take the options in their order"
+    if priced := _priced(costs):
+        yield f"min: {' '.join(f'{cost:+d} x{number}' for number, cost in priced)} ;"
     for line in lines:
         yield line[:-1]
 
@@ -212,4 +227,4 @@ def _folded(head: str, words: Sequence[str]) -> Iterator[str]:
         yield f"{'' if at else head} {' '.join(words[at : at + _TERMS])}"
 
 
-FORMATS: dict[str, Callable[[Problem[Any]], Iterator[str]]] = {"asp": asp, "opb": opb, "cnf": cnf, "lp": lp}
+FORMATS: dict[str, Callable[..., Iterator[str]]] = {"asp": asp, "opb": opb, "cnf": cnf, "lp": lp}

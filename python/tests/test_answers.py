@@ -3,13 +3,14 @@
 import shutil
 import subprocess
 import unittest
+from fractions import Fraction
 
 from folders import InFolder
 from test_commands import run
 
 from helgrothy import AnswerFault, Problem, make
 from helgrothy.answers import begins, solutions
-from helgrothy.export import FORMATS, lp
+from helgrothy.export import FORMATS, asp, lp, opb
 
 PAIR = Problem("abc", options=["ab", "c", "a", "bc"])
 
@@ -70,6 +71,25 @@ class Answers(InFolder):
             with self.subTest(text=text), self.assertRaises(AnswerFault) as raised:
                 self.read(solver, text)
             self.assertIn(wanted, str(raised.exception))
+
+    def test_costs(self):
+        costs = [Fraction(1, 2), 0, -1, 2]
+        self.assertIn("#minimize { 1,1 : x(1); -2,3 : x(3); 4,4 : x(4) }.", list(asp(PAIR, costs)))
+        self.assertEqual(list(opb(PAIR, costs))[2], "min: +1 x1 -2 x3 +4 x4 ;")
+        for form in (asp, opb):
+            self.assertEqual(list(form(PAIR, [0] * 4)), list(form(PAIR)))
+
+    @unittest.skipUnless(shutil.which("clasp") and shutil.which("gringo"), "needs clasp and gringo")
+    def test_the_least_cost_of_an_engine(self):
+        """Of options that cost the same each counts."""
+        problem = make.queens.problem(6)
+        costs = [1 + number % 3 for number in range(36)]
+        wanted = min(sum(costs[number] for number in one.numbers) for one in problem.solve())
+        for form, words in ((asp, "gringo exported | clasp"), (opb, "clasp exported")):
+            path = self.file("exported", "".join(f"{line}\n" for line in form(problem, costs)))
+            done = subprocess.run(words.replace("exported", path), shell=True, capture_output=True)
+            *_, found = solutions("clasp", problem, done.stdout.splitlines(keepends=True))
+            self.assertEqual((problem.check([found]), sum(costs[it] for it in found.numbers)), ([True], wanted))
 
     @unittest.skipUnless(shutil.which("cbc") or shutil.which("glpsol"), "needs cbc or glpsol")
     def test_real_programs(self):

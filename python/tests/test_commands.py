@@ -122,7 +122,7 @@ class Commands(InFolder):
         path = self.file("costs", "A 2.5\nB -1\n")
         status, text, told = run("export", "lp", "--cost", path, given="A B\nA\nB\nA B\n")
         self.assertEqual((status, text.splitlines()[2], told), (0, " obj: + 2.5 x1 - 1 x2 + 1.5 x3", ""))
-        self.assertEqual(run("export", "cnf", "--cost", path, given="A\nA\n")[2], "helgrothy: --cost is of lp\n")
+        self.assertEqual(run("export", "cnf", "--cost", path, given="A\nA\n")[2], "helgrothy: --cost isn't of cnf, which has no costs; asp, opb and lp have them\n")
         self.assertEqual(run("export", "lp", "--cost", "-")[0], 2)
         wishes = run("make", "roster", self.file("roster", "- mon\nearly 1\n\nann 0:1 early=3\nbob 0:1\n"))[1]
         self.assertIn("+ 3 x", run("export", "lp", given=wishes)[1])

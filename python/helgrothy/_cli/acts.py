@@ -88,15 +88,16 @@ def export(arguments: argparse.Namespace) -> int:
     from .. import export as forms
 
     problem = _problem(arguments.problem)
-    if arguments.format == "lp":
-        from .solving import costs_of
-
-        costs = costs_of(problem, arguments)
-        write(f"{line}\n" for line in forms.lp(problem, () if costs is None else costs.numbers))
+    if arguments.format == "cnf":
+        if arguments.cost is not None:
+            raise ValueError("--cost isn't of cnf, which has no costs; asp, opb and lp have them")
+        write(f"{line}\n" for line in forms.cnf(problem))
         return 0
-    if arguments.cost is not None:
-        raise ValueError("--cost is of lp")
-    write(f"{line}\n" for line in forms.FORMATS[arguments.format](problem))
+    from .solving import costs_of
+
+    costs = costs_of(problem, arguments)
+    form = forms.FORMATS[arguments.format]
+    write(f"{line}\n" for line in form(problem, () if costs is None else costs.numbers))
     return 0
 
 

@@ -365,7 +365,8 @@ def _add_export(commands: Any) -> None:
     )
     parser.add_argument("format", choices=sorted(FORMATS), help="the format")
     console.add_problem(parser)
-    parser.add_argument("--cost", metavar="COSTS", help="of lp: what options cost, from a file as `solve --cost` takes")
+    costs = "of asp, opb and lp: what options cost, from a file as `solve --cost` takes"
+    parser.add_argument("--cost", metavar="COSTS", help=costs)
     parser.set_defaults(command=_by("export"))
 
 
