@@ -614,11 +614,11 @@ class Page(Pages):
         self.tab.click("#costs")
         self.tab.type("A B -1")
         self.solve()
-        told = r"\A1 solution; there may be more\. The least cost is -1, as \w+ found\. -1 by line 1: A B -1\.\Z"
+        told = r"\A1 solution; there may be more\. The least cost is -1, as [\w ]+ (?:found|show)\. -1 by line 1: A B -1\.\Z"
         self.assertRegex(self.tab.text("#summary"), told)
         self.example("A roster with wishes")
         self.solve()
-        self.assertRegex(self.tab.text("#summary"), r"The least cost is -1, as \w+ found\. -1 by line 3: wed/early cat -1\.\Z")
+        self.assertRegex(self.tab.text("#summary"), r"The least cost is -1, as [\w ]+ (?:found|show)\. -1 by line 3: wed/early cat -1\.\Z")
         # What is wrong is seen at once, although the form is longer than the window.
         self.tab.value("document.querySelector('#costs').value = 'mon/noon ann 3'")
         self.solve()
