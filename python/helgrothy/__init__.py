@@ -135,6 +135,9 @@ def _load(name: str) -> Any:
     if name.islower():
         return import_module(f"{__name__}.{name}")
     value = getattr(import_module(f"{__name__}.{_HOMES.get(name, 'errors')}"), name)
+    if value.__module__.startswith(f"{__name__}._"):
+        # What help and messages name is where a caller has it from.
+        value.__module__ = __name__
     globals()[name] = value
     return value
 

@@ -35,6 +35,9 @@ class Names(unittest.TestCase):
         classes = {name for name in public if isinstance(getattr(helgrothy, name), type)}
         self.assertEqual(set(re.findall(r"^    class (\w+)", help_of_all, re.MULTILINE)), classes)
         self.assertNotIn("FUNCTIONS", help_of_all)
+        # Python itself lists the modules of a package; nothing else in the help names one with an underscore.
+        contents = help_of_all.partition("PACKAGE CONTENTS\n")[2].partition("\n\n")[0]
+        self.assertNotRegex(help_of_all.replace(contents, ""), r"\bhelgrothy\._|\n +_[a-z]\w*( |\n)")
 
     def test_they_are_there(self):
         for name in helgrothy.__all__:
@@ -81,6 +84,20 @@ class Help(unittest.TestCase):
         for kind in make.KINDS:
             self.assertRegex(told.partition("PACKAGE CONTENTS")[0], rf"\n +{kind} +\w")
         self.assertNotIn("CLASSES", told)
+
+    def test_kinds_show_their_calls(self):
+        for kind in make.KINDS:
+            calls = {"few", "problem"} if kind == "tests" else {"problem"}
+            module = getattr(make, kind)
+            self.assertEqual({name for name in dir(module) if not name.startswith("_")}, calls, kind)
+            completed = rlcompleter.Completer({"make": make}).attr_matches(f"make.{kind}.")
+            self.assertEqual({word.rpartition(".")[2].rstrip("()") for word in completed}, calls, kind)
+            told = help_of(module)
+            self.assertEqual(set(re.findall(r"^    (\w+)\(", told, re.MULTILINE)), calls, kind)
+            self.assertEqual({name for name in ("CLASSES", "DATA") if f"\n{name}\n" in told}, set(), kind)
+        # Also where one is imported by itself.
+        code = "import helgrothy.make.sudoku as sudoku; from helgrothy.make.tests import *; print(*dir(sudoku), few.__name__)"
+        self.assertEqual(fresh(code), ["problem", "few"])
 
     def test_modules_show_what_is_for_callers(self):
         for name in MODULES:

@@ -16,6 +16,8 @@ from ..problem import Problem
 from .clues import Clues
 from .kind import Counted, Kind, check_items, check_texts, cut, picture, read_text
 
+__all__ = ["problem"]
+
 Square = tuple[int, int]
 
 DIGITS = range(1, 10)
@@ -318,3 +320,7 @@ def _clues(arguments: argparse.Namespace) -> Clues:
 
 
 KIND = Kind("kakuro", "a Kakuro from its grid", _add_arguments, _make, drawing, clues=_clues)
+
+
+def __dir__() -> list[str]:
+    return __all__

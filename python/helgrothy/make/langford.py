@@ -11,6 +11,8 @@ from ..draw import Cell, Drawing, Picture, Shades, check_size
 from ..problem import Problem
 from .kind import Counted, Kind, check_items, check_numbers
 
+__all__ = ["problem"]
+
 _NUMBER = re.compile(r"-?[0-9]{1,99}\Z")
 
 
@@ -76,3 +78,7 @@ KIND = Kind(
     drawing,
     cell=r"s(\d+)",
 )
+
+
+def __dir__() -> list[str]:
+    return __all__

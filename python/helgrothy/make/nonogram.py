@@ -23,6 +23,8 @@ from .clues import Clues
 from .kind import Counted, Kind, check_texts, cut, numbered, read_text
 from .runs import EMPTY, FILLED, Clue, arrangements, count, known, steps
 
+__all__ = ["problem"]
+
 Option = dict[str, Optional[str]]
 _HEADS = ("rows", "columns")
 # What else stands at the beginning of lines in files of the format `non`.
@@ -381,3 +383,7 @@ KIND = Kind(
     clues=_dropped,
     view=lambda line: line[:3],
 )
+
+
+def __dir__() -> list[str]:
+    return __all__

@@ -16,6 +16,8 @@ from .cubes import SETS
 from .kind import Counted, Kind, check_items, check_sizes, check_texts, is_one, numbered, read_text
 from .pieces import Form, Lines, Pieces, alike, blocks
 
+__all__ = ["problem"]
+
 _BOX = re.compile(r"([0-9]{1,9})x([0-9]{1,9})x([0-9]{1,9})\Z")
 _SIZES = re.compile(r"[0-9]+(x[0-9]+)*x?\Z")
 _CELL = re.compile(r"l([0-9]+)r([0-9]+)c([0-9]+)\Z")
@@ -204,3 +206,7 @@ KIND = Kind(
     remarks=lambda problem: alike(problem, _CELL),
     view=None,
 )
+
+
+def __dir__() -> list[str]:
+    return __all__

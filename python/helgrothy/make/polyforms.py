@@ -23,6 +23,8 @@ from .kind import Counted, Kind, check_items, check_sizes, check_texts, picture,
 from .pieces import CELL, Form, Lines, Pieces, alike, area, blocks
 from .pieces import drawing as pieces_drawing
 
+__all__ = ["problem"]
+
 # Sets of pieces that have a name: their grid, and of how many cells they are.
 SETS = {
     "trihexes": (HEX, 3),
@@ -310,3 +312,7 @@ KIND = Kind(
     grid=_grid_of,
     remarks=_remarks,
 )
+
+
+def __dir__() -> list[str]:
+    return __all__

@@ -15,6 +15,8 @@ from .kind import Counted, Kind, check_items, check_sizes, check_texts, is_one, 
 from .pieces import CELL, Form, Pieces, Place, alike, area, blocks
 from .pieces import drawing as pieces_drawing
 
+__all__ = ["problem"]
+
 Square = tuple[int, int]
 
 # Sets of pieces that have a name.
@@ -158,3 +160,7 @@ KIND = Kind(
     cell=r"r(\d+)c(\d+)",
     remarks=_remarks,
 )
+
+
+def __dir__() -> list[str]:
+    return __all__

@@ -12,6 +12,8 @@ from ..errors import TableFault
 from ..problem import Problem
 from .kind import Counted, Kind, check_items, check_numbers, check_texts, picture, read_text
 
+__all__ = ["problem"]
+
 _NUMBER = re.compile(r"-?[0-9]{1,18}\Z")
 
 
@@ -145,3 +147,7 @@ KIND = Kind(
     drawing,
     cell=r"r(\d+) c(\d+)",
 )
+
+
+def __dir__() -> list[str]:
+    return __all__

@@ -19,6 +19,8 @@ from ..wishes import Wish, check
 from .kind import Counted, Kind, check_items, check_numbers, check_texts, numbered, read_text
 from .rules import DaysOff, InARow, Rest, Rule
 
+__all__ = ["problem"]
+
 # How many people a shift of a day takes, at least and at most.
 Needs = dict[tuple[str, str], tuple[int, int]]
 
@@ -314,3 +316,7 @@ def _make(arguments: argparse.Namespace) -> Problem[list[str]]:
 
 
 KIND = Kind("roster", "shifts of people on days", _add_arguments, _make, drawing, wishes=wishes, sheet=sheet)
+
+
+def __dir__() -> list[str]:
+    return __all__

@@ -15,6 +15,8 @@ from ..problem import Problem
 from .kind import Counted, Kind, check_items, check_numbers, check_texts, numbered, read_text
 from .teams import Season, Team, read, rounds
 
+__all__ = ["problem"]
+
 # Where the table begins in the comments of a problem.
 _TABLE_AT = 2
 
@@ -214,3 +216,7 @@ def _make(arguments: argparse.Namespace) -> Problem[list[str]]:
 
 
 KIND = Kind("roundrobin", "a round robin at home and away", _add_arguments, _make, drawing, sheet=sheet, view=None)
+
+
+def __dir__() -> list[str]:
+    return __all__

@@ -20,6 +20,8 @@ from .areas import Cage, Square
 from .clues import Clues, options_of
 from .kind import Counted, Kind, check_texts, cut, numbered, read_text
 
+__all__ = ["problem"]
+
 _DIGITS = "123456789ABCDEFGHIJKLMNOP"
 _EMPTY = ".0_*"
 _PLACE = re.compile(r"r(\d+)c(\d+)\Z")
@@ -368,3 +370,7 @@ def _clues(arguments: argparse.Namespace) -> Clues:
 
 
 KIND = Kind("sudoku", "a Sudoku from its clues", _add_arguments, _make, drawing, clues=_clues)
+
+
+def __dir__() -> list[str]:
+    return __all__

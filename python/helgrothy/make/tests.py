@@ -16,6 +16,8 @@ from .designs import LEVELS, Design, Factor, Option, read_factors, read_rules
 from .fewest import Best, Few, fewest
 from .kind import Found, Kind, check_numbers, check_texts, read_text
 
+__all__ = ["few", "problem"]
+
 _ITEM = re.compile(r"t([0-9]+)/([^:]+)(?::(.+))?\Z")
 # Where the table begins in the comments of a problem.
 _TABLE_AT = 2
@@ -187,3 +189,7 @@ KIND = Kind(
     sheet=sheet,
     view=None,
 )
+
+
+def __dir__() -> list[str]:
+    return __all__

@@ -17,6 +17,8 @@ from ..wishes import Wish, check
 from .kind import Counted, Kind, check_items, check_numbers, check_texts, numbered, read_text
 from .lessons import Lesson, Order, Plan, Room, Slot
 
+__all__ = ["problem"]
+
 # Items with their colours, or None.
 Option = dict[str, Optional[str]]
 
@@ -286,3 +288,7 @@ KIND = Kind(
     wishes=wishes,
     sheet=sheet,
 )
+
+
+def __dir__() -> list[str]:
+    return __all__

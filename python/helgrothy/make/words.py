@@ -13,6 +13,8 @@ from ..draw import Cell, Drawing, Picture, check_size
 from ..problem import Problem
 from .kind import Counted, Kind, check_texts, picture, read_text
 
+__all__ = ["problem"]
+
 Square = tuple[int, int]
 Option = dict[str, Optional[str]]
 
@@ -146,3 +148,7 @@ KIND = Kind(
     drawing,
     view=lambda line: line.partition("-")[0],
 )
+
+
+def __dir__() -> list[str]:
+    return __all__

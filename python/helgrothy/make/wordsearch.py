@@ -20,6 +20,8 @@ from .kind import Counted, Kind, check_items, check_numbers, check_sizes, check_
 if TYPE_CHECKING:
     import random
 
+__all__ = ["problem"]
+
 Square = tuple[int, int]
 Option = dict[str, Optional[str]]
 
@@ -249,3 +251,7 @@ def _make(arguments: argparse.Namespace) -> Problem[Option]:
 KIND = Kind(
     "wordsearch", "words of a list hidden in a grid of letters", _add_arguments, _make, drawing, view=None
 )
+
+
+def __dir__() -> list[str]:
+    return __all__
