@@ -161,6 +161,21 @@ class Answers(InFolder):
         self.assertEqual(run("draw", path, "--listing", given=listing)[0], 2)
         self.assertEqual(run("draw", "-", given="UNSATISFIABLE\n")[0], 2)
 
+    def test_no_picture(self):
+        """What can be done with an answer that can't be drawn."""
+        path = self.file("a.dlx", "A\nA\nA\n")
+        answer, listing = "v 1 -2 0\n", "1:\n A (1 of 1)\n"
+        none = "helgrothy: no comment of the problem says that `helgrothy make` made it; patterns can draw it"
+        listed = "; --listing prints the answer as a listing\n"
+        for words in ([], ["--svg"]):
+            self.assertEqual(run("draw", path, *words, given=answer), (2, "", none + listed))
+            self.assertEqual(run("draw", path, *words, given=listing), (2, "", f"{none}\n"))
+        told = run("draw", path, "--cell", r"(x)(\d)", given=answer)
+        self.assertEqual((told[:2], told[2].endswith(listed)), ((2, ""), True))
+        self.assertEqual(run("draw", path, "--listing", given=answer), (0, listing, ""))
+        # Data has the options, and needs no picture.
+        self.assertEqual(run("draw", path, "--json", given=answer)[0], 0)
+
     def test_many_answers(self):
         """As many as dlxcheck doesn't judge in one run."""
         problem = make.queens.problem(9)

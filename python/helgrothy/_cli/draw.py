@@ -10,6 +10,7 @@ from itertools import chain, islice
 from typing import TYPE_CHECKING, Any
 
 from .. import answers
+from ..errors import NoPicture
 from ..problem import Problem
 from . import console
 from .console import fail, write
@@ -39,7 +40,7 @@ def draw(problem: Problem[Any], arguments: argparse.Namespace) -> int:
         return 0 if shown else fail(_none_of(arguments.number, numbers), 1)
     found = enumerate(answers.solutions(solver, problem, lines), 1)
     wanted = _wanted(found, arguments)
-    shown = _list(problem, wanted) if arguments.listing else _draw(problem, _judged(problem, wanted), arguments)
+    shown = _list(problem, wanted) if arguments.listing else _draw_answers(problem, wanted, arguments)
     if shown:
         return 0
     none = "reports that there is no solution" if arguments.number is None else f"gave no solution {arguments.number}"
@@ -98,6 +99,19 @@ def _draw(problem: Problem[Any], found: Iterator[tuple[int, Solution[Any]]], arg
     if page is not None and shown:
         write([page.text(shown, False)])
     return shown
+
+
+def _draw_answers(
+    problem: Problem[Any], found: Iterator[tuple[int, Solution[Any]]], arguments: argparse.Namespace
+) -> int:
+    """Draws answers that dlxcheck judges to be solutions; how many there were. Raises `NoPicture`, with what to do."""
+    try:
+        return _draw(problem, _judged(problem, found), arguments)
+    except NoPicture as error:
+        # The options of a solver's own answer are variables with numbers.
+        if arguments.data is not None:
+            raise
+        raise NoPicture(f"{error}; --listing prints the answer as a listing") from None
 
 
 def _list(problem: Problem[Any], found: Iterator[tuple[int, Solution[Any]]]) -> int:
