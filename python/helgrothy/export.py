@@ -7,10 +7,9 @@ variables there are follows from these.
 from __future__ import annotations
 
 from collections.abc import Callable, Hashable, Iterator, Sequence
-from dataclasses import dataclass
 from itertools import zip_longest
 from math import lcm
-from typing import TYPE_CHECKING, Any
+from typing import TYPE_CHECKING, Any, NamedTuple
 
 from ._reason.counting import Clauses
 from ._text.amounts import spelled
@@ -23,10 +22,12 @@ __all__ = ["FORMATS", "asp", "cnf", "lp", "opb"]
 
 # So many terms of a sum stand in a line of an LP file: readers of the format take lines of some hundred characters.
 _TERMS = 12
+# The bounds of a secondary item.
+_SECONDARY = (0, 1)
 
 
-@dataclass(frozen=True)
-class _Item:
+# A tuple, since a problem may have 100,000 of them.
+class _Item(NamedTuple):
     """An item: the options that hold it, by their colour (None without), and its bounds."""
 
     name: str
@@ -34,29 +35,22 @@ class _Item:
     high: int
     options: dict[Hashable | None, list[int]]
 
-    def all(self) -> list[int]:
-        return [option for options in self.options.values() for option in options]
-
 
 def _items(problem: Problem[Any]) -> list[_Item]:
-    items: dict[Hashable, _Item] = {}
-    for item, (low, high) in problem.items.items():
-        items[item] = _Item(problem.name(item), low, high, {})
-    for item in problem.secondary:
-        items[item] = _Item(problem.name(item), 0, 1, {})
+    uses: dict[Hashable, dict[Hashable | None, list[int]]] = {}
+    for item in (*problem.items, *problem.secondary):
+        uses[item] = {}
     for number, option in enumerate(problem.options, 1):
         for item, colour in problem._pairs(option):
-            items[item].options.setdefault(colour, []).append(number)
-    return list(items.values())
+            uses[item].setdefault(colour, []).append(number)
+    names, bounds = problem._names, problem.items
+    return [_Item(names[item], *bounds.get(item, _SECONDARY), options) for item, options in uses.items()]
 
 
 def _ignored(problem: Problem[Any]) -> list[int]:
     """The options without a primary item, which are in no solution."""
-    return [
-        number
-        for number, option in enumerate(problem.options, 1)
-        if not any(item in problem.items for item, _ in problem._pairs(option))
-    ]
+    is_without = problem.items.keys().isdisjoint
+    return [number for number, option in enumerate(problem.options, 1) if is_without(option)]
 
 
 def _choices(item: _Item, fresh: Iterator[int]) -> dict[int, list[int]]:

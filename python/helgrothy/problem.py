@@ -218,11 +218,12 @@ class Problem(Generic[Option]):
         problem: Problem[dict[str, str | None]] = Problem(
             items, secondary, comments=(text for _, text in sheet.comments)
         )
-        # The reader has looked at the options.
-        for option in sheet.options:
-            list.append(problem.options, option.uses)
-            problem._use_count += len(option.uses)
-            problem._colours.update((colour, None) for colour in option.uses.values() if colour is not None)
+        # The reader has looked at the names and the options.
+        problem._item_names = {name: name for name in (*items, *secondary)}
+        uses = [option.uses for option in sheet.options]
+        list.extend(problem.options, uses)
+        problem._use_count = sum(map(len, uses))
+        problem._colours = {colour: None for option in uses for colour in option.values() if colour is not None}
         return problem
 
     @property
@@ -606,7 +607,7 @@ def _fault(token: object, reason: str, hint: str = "", option: int | None = None
 
 def _bounds(item: Hashable, given: BoundsLike) -> Bounds:
     """The bounds of an item as they were given. Raises `ProblemFault`."""
-    if given is None:
+    if given is None or given is ONCE:
         return ONCE
     pair: Any = (given, given) if isinstance(given, Integral) else given
     if not (isinstance(pair, (tuple, list)) and len(pair) == 2 and all(isinstance(one, Integral) for one in pair)):

@@ -1,6 +1,7 @@
 """The commands: what they print, and their statuses."""
 
 import contextlib
+import gc
 import io
 import os
 import re
@@ -10,7 +11,7 @@ from unittest import mock
 
 from folders import InFolder
 
-from helgrothy import OutOfTime, make, why
+from helgrothy import OutOfTime, Problem, export, make, why
 from helgrothy.__main__ import main
 from helgrothy._cli import solving
 from helgrothy._reason import sums
@@ -126,6 +127,16 @@ class Commands(InFolder):
         self.assertEqual(run("export", "lp", "--cost", "-")[0], 2)
         wishes = run("make", "roster", self.file("roster", "- mon\nearly 1\n\nann 0:1 early=3\nbob 0:1\n"))[1]
         self.assertIn("+ 3 x", run("export", "lp", given=wishes)[1])
+
+    def test_many_lines(self):
+        """They are written at once by a thousand, and come as the calls give them."""
+        self.assertEqual(run("make", "langford", "11")[1], make.langford.problem(11).text)
+        for items in (499, 999, 1000, 2345):
+            problem = Problem(range(items), options=[[number] for number in range(items)])
+            for name, form in export.FORMATS.items():
+                lines = "".join(f"{line}\n" for line in form(Problem.parse(problem.text)))
+                self.assertEqual(run("export", name, given=problem.text), (0, lines, ""))
+        self.assertTrue(gc.isenabled())
 
     # A machine that does other things too finds none in a second or two.
     @mock.patch.object(solving, "_REASON_SECONDS", 99.0)

@@ -11,7 +11,7 @@ from ..errors import HelgrothyError, OutOfTime
 from ..problem import Problem
 from . import console
 from . import count as count_command
-from .console import fail, write
+from .console import fail, write, write_lines
 from .line import Report
 
 if TYPE_CHECKING:
@@ -26,7 +26,7 @@ _SHARE = 0.9
 
 
 def make(arguments: argparse.Namespace) -> int:
-    write(f"{line}\n" for line in _made(arguments)._lines())
+    write_lines(_made(arguments)._lines())
     return 0
 
 
@@ -85,19 +85,24 @@ def lint(arguments: argparse.Namespace) -> int:
 
 
 def export(arguments: argparse.Namespace) -> int:
+    with console.nothing_collected():
+        return _export(arguments)
+
+
+def _export(arguments: argparse.Namespace) -> int:
     from .. import export as forms
 
     problem = _problem(arguments.problem)
     if arguments.format == "cnf":
         if arguments.cost is not None:
             raise ValueError("--cost isn't of cnf, which has no costs; asp, opb and lp have them")
-        write(f"{line}\n" for line in forms.cnf(problem))
+        write_lines(forms.cnf(problem))
         return 0
     from .solving import costs_of
 
     costs = costs_of(problem, arguments)
     form = forms.FORMATS[arguments.format]
-    write(f"{line}\n" for line in form(problem, () if costs is None else costs.numbers))
+    write_lines(form(problem, () if costs is None else costs.numbers))
     return 0
 
 

@@ -4,6 +4,7 @@ from __future__ import annotations
 
 import argparse
 import codecs
+import gc
 import os
 import re
 import signal
@@ -12,6 +13,7 @@ import threading
 import time
 from collections.abc import Callable, Iterable, Iterator, Sequence
 from contextlib import contextmanager, nullcontext, suppress
+from itertools import islice
 from typing import Any, NoReturn
 
 from .._run.programs import end_all
@@ -24,6 +26,8 @@ _MOST_TEXT = 1 << 30
 _CHUNK = 1 << 20
 # No option has so many items that the line of a listing is longer.
 _MOST_LINE = 1 << 23
+# So many lines are written at once where all of them are quickly made.
+_LINES = 1000
 # Numbers in the arguments of commands: the programs take these too.
 _MOST_NUMBER = (1 << 64) - 1
 # Python reads so many digits at once, and so many of a wrong number are shown.
@@ -193,6 +197,12 @@ def write(texts: Iterable[str]) -> None:
     write_bytes(map(bytes_of, texts))
 
 
+def write_lines(lines: Iterable[str]) -> None:
+    """Writes lines, without their ends, as `write` writes texts, many at once. Raises `OSError`."""
+    left = iter(lines)
+    write(iter(lambda: "".join(f"{line}\n" for line in islice(left, _LINES)), ""))
+
+
 def write_bytes(pieces: Iterable[bytes]) -> None:
     """Writes to standard output, to a terminal only what it prints. Raises `OSError`."""
     out = sys.stdout.buffer
@@ -269,6 +279,18 @@ def seconds(word: str) -> float:
     if not time > 0:
         raise argparse.ArgumentTypeError(f"{word}: it has to be more than 0 seconds")
     return min(time, _MOST_SECONDS)
+
+
+@contextmanager
+def nothing_collected() -> Iterator[None]:
+    """Has Python look for no rubbish meanwhile: of a large problem and what is made of it nothing becomes any."""
+    was_enabled = gc.isenabled()
+    gc.disable()
+    try:
+        yield
+    finally:
+        if was_enabled:
+            gc.enable()
 
 
 @contextmanager
