@@ -126,7 +126,7 @@ bin: ## copy the programs and scripts to bin
 
 # The library for C is the crate with the toolchain's three calls of malloc, in one object that tells no other names, as
 # an archive and as a shared library.
-lib: ## build the library for C
+lib: ## build the library for C, which proves it first
 	cd crates/xc_c && rt lib
 	@rm -rf bindings/out && mkdir bindings/out
 	@cd bindings/out && ar x ../../crates/xc_c/out/libxc_c.a && ar x "$$(dirname "$$(rt doc)")/c/liblibc_c.a" && \
