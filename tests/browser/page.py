@@ -514,6 +514,15 @@ class Page(Pages):
         self.assertTrue(self.tab.is_shown("#text"))
         self.choose("queens")
         self.assertEqual(self.typed("text", "value-board"), ["mine\nmine\n", "8"])
+        # None is named any longer where another kind is chosen, or a text.
+        kind = "document.querySelector('#kind')"
+        for turn in (
+            lambda: self.tab.value(f"{kind}.value = 'sudoku', {kind}.dispatchEvent(new Event('change'))"),
+            lambda: self.tab.click("#as-text"),
+        ):
+            self.example("Queens in coloured regions")
+            turn()
+            self.assertEqual(self.typed("example"), [""])
         self.is_quiet()
 
     def test_a_problem_is_saved_and_opened(self):

@@ -179,10 +179,16 @@ class Form {
 
   // ---- what people do
 
+  // To what may be another problem than the example that was chosen.
+  turn(isKind) {
+    get("example").value = "";
+    this.show(isKind);
+  }
+
   bind() {
-    get("as-kind").addEventListener("click", () => this.show(true));
-    get("as-text").addEventListener("click", () => this.show(false));
-    get("kind").addEventListener("change", () => this.show(true));
+    get("as-kind").addEventListener("click", () => this.turn(true));
+    get("as-text").addEventListener("click", () => this.turn(false));
+    get("kind").addEventListener("change", () => this.turn(true));
     get("example").addEventListener("change", () => {
       if (get("example").value) this.exemplify(start.examples[get("example").value]);
     });
