@@ -1,4 +1,4 @@
--- The moves of a level of a search, and where an option's nodes are.
+-- The moves of a level of a search, where an option's nodes are, and its first primary item.
 use Rattle.std.specs.Prelude.{ℕ, ◌+◌, ◌-◌, ◌<◌, ◌≤◌, ◌≡◌, ◌⊎◌, ◌==◌, nat_le, Option, Some, None, option_map, unwrap_or}
 use Rattle.std.specs.Prelude.{slice_get, List, [], ◌∷◌, ◌++◌, length, take, drop, if◌then◌else◌, All, Contains}
 use Rattle.xc_input.specs.UsePlaces.{place_in}
@@ -59,3 +59,8 @@ pub record IsUseAt (p : Puzzle) (i x q : ℕ) : Type 0 where
 -- the trail once the other uses of option x were committed, from that of item i on
 abbrev pub after_option : Puzzle → ℕ → ℕ → List Move → List Move
 after_option p i x t = after_uses p (others i (uses_of p x)) t
+
+-- the first primary item of these uses; 0 where there is none
+abbrev pub first_primary : Puzzle → List Use → ℕ
+first_primary p [] = 0
+first_primary p (u ∷ us) = if nat_le u.item (primary_count p) then u.item else first_primary p us

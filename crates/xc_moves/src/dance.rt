@@ -7,11 +7,12 @@
 //! no option's number, which is needed only to show choices. That saves 4 % of the instructions. Places follow from the
 //! problem alone, so these calls have bodies here, for a keeper without nodes.
 ghost use Rattle.std.specs.Prelude.{◌≡◌, ◌+◌, ◌<◌, ◌↔◌, ◌⊎◌, ℕ, ◌∷◌, length, drop, reverse, IsTrue, IsOk, OnOk, OnErr};
-ghost use Rattle.std.specs.Prelude.{Contains, All};
+ghost use Rattle.std.specs.Prelude.{Contains, All, ◌==◌};
 ghost use Rattle.xc_moves.specs.Dancing.{Dancing};
-ghost use Rattle.xc_input.specs.Problem.{IsItem, IsPrimary, high_at};
+ghost use Rattle.xc_input.specs.Problem.{IsItem, IsPrimary, high_at, uses_of};
 ghost use Rattle.xc_moves.specs.Places.{link_place, first_above};
 ghost use Rattle.xc_moves.specs.Commits.{CanStand, IsListedAt, IsUseAt, option_at, after_option, after_uses, after_use};
+ghost use Rattle.xc_moves.specs.Commits.{first_primary};
 ghost use Rattle.xc_moves.specs.Moves.{IsLegal, AreTweaks, listed, listed_numbers, next_above, open_items};
 ghost use Rattle.xc_moves.specs.Moves.{IsOpenPrimary, spends};
 
@@ -122,6 +123,12 @@ pub trait Dance {
         requires { IsPrimary (state self.now).puzzle i }
         ensures { result + spends i (state self.now).trail ≡ high_at (state self.now).puzzle i };
 
+    /// Whether a search may count the solutions of what is left by this keeper's answers alone, without a move. No for
+    /// a keeper that counts moves, or that is to make each. It has no clause: a search is right with either answer.
+    fn counts_unmoved(&self) -> bool {
+        false
+    }
+
     /// Makes a legal move for which there is room, as `apply` does.
     fn make(&mut self, m: Move) -> Count
         requires legal { IsLegal (state self.old).puzzle (state self.old).trail m }
@@ -165,6 +172,22 @@ pub trait Dance {
         ensures { (x : ℕ) → IsUseAt (state self.now).puzzle i x place → result ≡ x }
     {
         number_at(problem, place)
+    }
+
+    /// Whether the option whose use of the primary item is at `place` holds no primary item before that use.
+    fn is_first_at(&self, problem: &Problem, i: u32, place: u32) -> bool
+        requires same { (state self.now).puzzle ≡ problem.now.puzzle }
+        requires item { IsPrimary (state self.now).puzzle i }
+        requires place { (x : ℕ) × IsUseAt (state self.now).puzzle i x place }
+        ensures { (x : ℕ) → IsUseAt (state self.now).puzzle i x place →
+            result ≡ (first_primary (state self.now).puzzle (uses_of (state self.now).puzzle x) == i) }
+    {
+        for u in problem.option(number_at(problem, place)) {
+            if u.item <= problem.primary() {
+                return u.item == i;
+            }
+        }
+        false
     }
 
     /// Commits the option whose use of the item is at `place`: for each of its other uses, in turn from that one
