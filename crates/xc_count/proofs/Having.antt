@@ -18,7 +18,7 @@ use Rattle.xc_moves.proofs.MoveLemmas.{options_rise}
 use Rattle.xc_search.proofs.Completeness.{Solves, members_solve, is_listed, listed_in, in_listed}
 use Rattle.xc_search.proofs.ListingLemmas.{takes, nones, behind, uses_known, same_number}
 use Rattle.xc_search.specs.inner.Levels.{take_branch}
-use Rattle.xc_count.proofs.AnyItem.{Match, any_level_by}
+use Rattle.xc_search.proofs.AnyItem.{Match, any_level_by}
 use Rattle.xc_count.proofs.Below.{are_once, end_left, item_at, known}
 use Rattle.xc_count.proofs.LeftBy.{proper_left, picked, not_both}
 use Rattle.xc_count.proofs.Split.{sum-map, sum-enumerated, sum-filter, sum-same}

@@ -15,7 +15,7 @@ use Rattle.xc_search.specs.Listing.{Wanted, whole, spend_one, may_stay, stays, p
 use Rattle.std.proofs.lemmas.List.Elements.{recursion_from_All}
 use Rattle.xc_moves.proofs.MoveLemmas.{rises_filter}
 use Rattle.xc_search.proofs.ListingLemmas.{IsProper, proper_whole, goes_on, use_passes, in-find, is_option, holds_use}
-use Rattle.xc_count.proofs.Matched.{EachTwo-filter}
+use Rattle.xc_search.proofs.Matched.{EachTwo-filter}
 use Rattle.xc_count.specs.inner.Held.{Held, fits, left_by, holding_option, without_item}
 
 -- ---- the uses of an option

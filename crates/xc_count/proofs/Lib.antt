@@ -1,5 +1,3 @@
-pub mod AnyItem
-pub mod Apart
 pub mod Below
 pub mod ByNumber
 pub mod ByOption
@@ -9,7 +7,6 @@ pub mod HashLemmas
 mod HolderLemmas
 pub mod KeyLemmas
 pub mod LeftBy
-pub mod Matched
 pub mod Number
 pub mod OptionCounts
 pub mod Orders

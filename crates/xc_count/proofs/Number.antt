@@ -11,7 +11,7 @@ use Rattle.xc_moves.proofs.MoveLemmas.{options_rise}
 use Rattle.xc_search.specs.Listing.{whole}
 use Rattle.xc_search.proofs.Completeness.{each_member_covers, each_cover_is_listed, is_listed, member_of_set}
 use Rattle.xc_search.proofs.Completeness.{all_differ, Differ}
-use Rattle.xc_count.proofs.Matched.{no_more}
+use Rattle.xc_search.proofs.Matched.{no_more}
 use Rattle.xc_count.specs.Number.{AreTheCovers, HasCovers}
 
 module _ (p : Puzzle) (v : IsValid p) where

@@ -10,7 +10,7 @@ use Rattle.xc_search.specs.Listing.{Wanted, Branch, whole, branch_count, pick}
 use Rattle.xc_input.proofs.ListLemmas.{by_bool, filter_both, IsIn, in-filter, each_in, each_from}
 use Rattle.xc_search.proofs.ListingLemmas.{proper_whole, takes, nones}
 use Rattle.xc_search.specs.inner.Levels.{take_branch}
-use Rattle.xc_count.proofs.AnyItem.{count, count_by_item}
+use Rattle.xc_search.proofs.AnyItem.{count, count_by_item}
 use Rattle.xc_count.proofs.LeftBy.{AreOnce, proper_left, picked, given_up}
 use Rattle.xc_count.specs.inner.Held.{Held, fits, left_by, holding_option, without_item, below}
 

@@ -437,7 +437,7 @@ module _ (p : Puzzle) (v : IsValid p) where
 -- ======== Members at two places have different sets of options.
 
 -- no choice fits two branches
-abbrev AreApart : Residual → Branch → Branch → Type 0
+abbrev pub AreApart : Residual → Branch → Branch → Type 0
 AreApart r a b = (chosen : ℕ → Bool) → Fits r chosen a → Fits r chosen b → ⊥
 
 -- an option that the one takes isn't left behind the other
@@ -448,7 +448,7 @@ takes_apart r w n a b h less chosen f g = grind (arith, in-filter, le-leb, and_l
 none_apart : (r : Residual) (w : Wanted) (a b : Branch) → IsIn (takes r w) a → IsIn (nones r w) b → AreApart r a b
 none_apart r w a b h k chosen f g = grind (arith, in-map, in-enumerated, in-take, in-filter, in-nones)
 
-branches_apart : (r : Residual) (w : Wanted) → Rises 0 (numbers r.options) → EachTwo (AreApart r) (branches_of r w)
+pub branches_apart : (r : Residual) (w : Wanted) → Rises 0 (numbers r.options) → EachTwo (AreApart r) (branches_of r w)
 branches_apart r w rise =
     let n = branch_count r w in
     let hs = holding w.item r.options in

@@ -10,11 +10,10 @@ use Rattle.xc_input.proofs.ListLemmas.{EachTwo, EachTwo-map, EachTwo-flat_map, E
 use Rattle.xc_input.proofs.ListLemmas.{filter-in, in-map, each_from, keep_all}
 use Rattle.xc_search.proofs.Completeness.{Solves, members_solve, solves_back, listed_for, is_listed, listed_in}
 use Rattle.xc_search.proofs.Completeness.{in_listed, member_of_set, Fits, Covers, IsMemberOf, member_on, member_back}
-use Rattle.xc_search.proofs.Completeness.{branch_for, covers_on, all_differ, Differ}
-use Rattle.xc_count.proofs.Apart.{branches_apart, AreApart}
+use Rattle.xc_search.proofs.Completeness.{branch_for, covers_on, all_differ, Differ, branches_apart, AreApart}
 use Rattle.xc_search.proofs.ListingLemmas.{IsProper, proper_behind, behind, in-branches, rise_behind, in-level}
 use Rattle.xc_search.proofs.ListingLemmas.{level-in}
-use Rattle.xc_count.proofs.Matched.{no_more, EachTwo-filter}
+use Rattle.xc_search.proofs.Matched.{no_more, EachTwo-filter}
 
 -- ---- the members of a level by any item
 
