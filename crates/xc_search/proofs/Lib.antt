@@ -1,6 +1,7 @@
 pub mod ListingLemmas
 pub mod Completeness
 pub mod ResidualLemmas
+pub mod CollectLemmas
 pub mod MoveLemmas
 pub mod LoopSteps
 pub mod BranchLemmas
@@ -9,3 +10,15 @@ pub mod RowLemmas
 pub mod SpanSteps
 pub mod SpanRuns
 pub mod SpanHalts
+pub mod Matched
+pub mod AnyItem
+pub mod Picked
+pub mod Numbering
+pub mod Shown
+pub mod WordsCount
+pub mod LeftProper
+pub mod LeftShares
+pub mod LeftCollected
+pub mod LeftWords
+pub mod FillLemmas
+pub mod FewLemmas

@@ -262,7 +262,7 @@ pub not_found : (p : Puzzle) (t : List Move) (j : ℕ) → primary_count p < j
 not_found p t j h = grind (arith, each-map, each-filter, each_weaker, ne_eqb, in_range)
 
 -- an item that isn't left has nothing to spend
-untouched : (j : ℕ) (ws : List Wanted) → AllByRecursion (λ w. eqb w.item j ≡ false) ws
+pub untouched : (j : ℕ) (ws : List Wanted) → AllByRecursion (λ w. eqb w.item j ≡ false) ws
     → (find (λ w. eqb w.item j) ws ≡ None) × (map (dec j) ws ≡ ws)
 untouched j [] a = (refl, refl)
 untouched j (w ∷ ws) a = grind (arith, untouched j ws a.1)

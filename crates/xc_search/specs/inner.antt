@@ -1,3 +1,5 @@
 pub mod Ahead
 pub mod Levels
 pub mod Spanning
+pub mod Few
+pub mod Filled
