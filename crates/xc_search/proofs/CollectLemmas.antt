@@ -1,0 +1,315 @@
+-- The open items, and the options that are left, as they are collected.
+use Rattle.std.proofs.Common.{ℕ, ◌≡◌, ◌<◌, ◌≤◌, ◌+◌, ◌*◌, ◌-◌, ◌≢◌, ◌⊎◌, inl, inr, Bool, true, false, List, [], ◌∷◌}
+use Rattle.std.proofs.Common.{length, take, filter, map, Some, None, refl, sym, ap, ◌∙◌, subst, arith, zero, suc, ltb}
+use Rattle.std.proofs.Common.{◌++◌, set, get_or, IsTrue, ◌↔◌}
+use Rattle.std.specs.Prelude.{slice_get, All, flat_map, unwrap_or, ◌==◌}
+use Rattle.std.specs.List.{AllByRecursion, range_with_len}
+use Rattle.std.proofs.lemmas.List.{take_more_set, append-nil, append_assoc, length-set, take_all}
+use Rattle.std.proofs.lemmas.List.Elements.{recursion_from_All, All-from_recursion}
+use Rattle.std.proofs.lemmas.Bool.{false≢true}
+use Rattle.std.proofs.lemmas.Grind.{flat_map-append}
+use Rattle.std.proofs.lemmas.Option.{slice_get-get_or}
+use Rattle.xc_input.specs.declared.problem.Use.{Use}
+use Rattle.xc_input.specs.Named.{Named, IsSound}
+use Rattle.xc_input.specs.Problem.{Puzzle, Numbered, IsValid, IsItem, IsPrimary, IsSoundUse, IsSoundOption, uses_of}
+use Rattle.xc_input.specs.Problem.{primary_count, item_count, option_count}
+use Rattle.xc_input.proofs.ListLemmas.{by_bool, by_number, by_option, each_weaker, each_both, each-filter, each_passes}
+use Rattle.xc_input.proofs.ListLemmas.{each_at, each-append}
+use Rattle.xc_moves.specs.declared.dance.Move.{Move}
+use Rattle.xc_moves.specs.declared.dance.Move.TheVariants.{Purify}
+use Rattle.xc_moves.specs.Commits.{IsListedAt, IsUseAt, first_primary, option_at}
+use Rattle.xc_moves.specs.Places.{link_place, first_above}
+use Rattle.xc_moves.specs.Moves.{open_items, next_above, IsOpenPrimary, IsLegal, listed, listed_numbers, is_open}
+use Rattle.xc_moves.proofs.PlaceLemmas.{at_option, take_more-get, behind_items}
+use Rattle.xc_moves.proofs.PlaceAnswers.{listed_use, next_contained}
+use Rattle.xc_moves.proofs.MoveLemmas.{next_above-split, next_above-none, next_above-open, next_above-gt, above_all}
+use Rattle.xc_moves.proofs.MoveLemmas.{rises_listed, holders, IsHolder}
+use Rattle.xc_search.specs.inner.Few.{owned, collected, IsSettled}
+use Rattle.xc_search.proofs.ResidualLemmas.{open_rises}
+
+-- ======== Open items.
+
+-- the first n of these are the open items up to item at, whose lists have so many options
+pub record AreUpTo (p : Puzzle) (t : List Move) (at n total : ℕ) (into : List ℕ) : Type 0 where
+  pub at_open : (at ≡ 0) ⊎ IsOpenPrimary p t at
+  pub items : take n into ++ filter (λ j. ltb at j) (open_items p t) ≡ open_items p t
+  pub few : n ≤ 64
+  pub short : total ≤ 64 * n
+  pub full : length into ≡ 64
+
+pub items_first : (p : Puzzle) (t : List Move) (into : List ℕ) → length into ≡ 64 → AreUpTo p t 0 0 0 into
+items_first p t into full = record {
+  at_open = inl refl;
+  items = above_all 0 (open_items p t) (open_rises p t);
+  few = omega arith;
+  short = omega arith;
+  full = full;
+}
+
+-- one item more
+pub items_on : (p : Puzzle) (t : List Move) (at n total k len : ℕ) (into : List ℕ) → AreUpTo p t at n total into
+    → next_above at (open_items p t) ≡ Some k → n < 64 → len ≤ 64
+    → AreUpTo p t k (n + 1) (total + len) (set into n k)
+items_on p t at n total k len into up e lt short =
+    let more = take_more_set into n k (omega (arith, lt, up.full)) in
+    let split = next_above-split 0 at k (open_items p t) (open_rises p t) e in
+    record {
+      at_open = inr (next_above-open p t at k e);
+      items = ap (λ l. l ++ filter (λ j. ltb k j) (open_items p t)) more
+          ∙ append_assoc (take n into) (k ∷ []) (filter (λ j. ltb k j) (open_items p t))
+          ∙ ap (λ l. take n into ++ l) (sym split) ∙ up.items;
+      few = omega (arith, lt);
+      short = omega (arith, up.short, short);
+      full = length-set into n k ∙ up.full;
+    }
+
+pub items_end : (p : Puzzle) (t : List Move) (at n total : ℕ) (into : List ℕ) → AreUpTo p t at n total into
+    → next_above at (open_items p t) ≡ None → take n into ≡ open_items p t
+items_end p t at n total into up e =
+    let none = next_above-none at (open_items p t) e in
+    sym (append-nil (take n into)) ∙ ap (λ l. take n into ++ l) (sym none) ∙ up.items
+
+in_range : (p : Puzzle) (a n : ℕ) → 1 ≤ a → a + n ≤ primary_count p + 1
+    → AllByRecursion (IsPrimary p) (range_with_len a n)
+in_range p a zero low most = tt
+in_range p a (suc n) low most =
+    ((low, omega (arith, most)), in_range p (a + 1) n (omega (arith, low)) (omega (arith, most)))
+
+-- each of them is open
+open_each : (p : Puzzle) (t : List Move) → AllByRecursion (IsOpenPrimary p t) (open_items p t)
+open_each p t = each_both (IsPrimary p) (λ i. is_open i t ≡ true) (IsOpenPrimary p t) (open_items p t) (λ i a b. (a, b))
+    (each-filter (IsPrimary p) (λ i. is_open i t) (range_with_len 1 (primary_count p))
+    (in_range p 1 (primary_count p) (omega arith) (omega arith)))
+    (each_passes (λ i. is_open i t) (range_with_len 1 (primary_count p)))
+
+pub open_at : (p q : Puzzle) (t : List Move) (is : List ℕ) (k : ℕ) → q ≡ p → is ≡ open_items p t → k < length is
+    → IsOpenPrimary q t (get_or is k 0)
+open_at p q t is k same e lt = subst (λ r. IsOpenPrimary r t (get_or is k 0)) (sym same)
+    (each_at (IsOpenPrimary p t) is k _
+    (subst (λ is. AllByRecursion (IsOpenPrimary p t) is) (sym e) (open_each p t)) (slice_get-get_or is k 0 lt))
+
+pub is_item : (p : Puzzle) (t : List Move) (i : ℕ) → IsOpenPrimary p t i → IsItem p i
+is_item p t i h = (h.0.0, omega (arith, h.0.1))
+
+-- ======== Options that give open items no colour.
+
+-- the use gives no open item a colour
+abbrev pub HasNone : List Move → Use → Type 0
+HasNone t u = (u.colour ≡ 0) ⊎ (is_open u.item t ≡ false)
+
+sound_use : (p : Puzzle) (o k : ℕ) (u : Use) → IsValid p → slice_get (uses_of p o) k ≡ Some u → IsSoundUse p u
+sound_use p o k u valid e = each_at (IsSoundUse p) (uses_of p o) k u
+    (at_option (IsSoundOption p) (AllByRecursion (IsSoundUse p)) p tt
+    (λ us s. recursion_from_All (IsSoundUse p) us s.sound) valid.options o) e
+
+-- a use that no Purify could be made for
+pub use_none : (a : Named) (p : Puzzle) (t : List Move) (o k : ℕ) (us : List Use) (u : Use) (can : Bool) → IsSound a
+    → p ≡ a.puzzle → us ≡ uses_of a.puzzle o → slice_get us k ≡ Some u
+    → (IsTrue can ↔ IsLegal p t (Purify u.item u.colour)) → can ≡ false → HasNone t u
+use_none a p t o k us u can sound same is e tells cannot = by_bool (is_open u.item t)
+    (λ yes. by_number u.colour (λ z. inl z) (λ c some.
+    let sound_here = sound_use a.puzzle o k u sound.valid (ap (λ vs. slice_get vs k) (sym is) ∙ e) in
+    let count : primary_count p ≡ primary_count a.puzzle = ap primary_count same in
+    let items : item_count p ≡ item_count a.puzzle = ap item_count same in
+    let high : primary_count p < u.item = grind (arith, sound_here, count, some) in
+    let legal : IsLegal p t (Purify u.item u.colour) =
+    ((high, omega (arith, sound_here.0.1, items)), yes, omega (arith, some)) in
+    absurd (false≢true (sym cannot ∙ tells.1 legal))))
+    (λ shut. inr shut)
+
+pub uses_on : (t : List Move) (us : List Use) (k : ℕ) (u : Use) → AllByRecursion (HasNone t) (take k us)
+    → slice_get us k ≡ Some u → HasNone t u → AllByRecursion (HasNone t) (take (k + 1) us)
+uses_on t us k u each e none = subst (AllByRecursion (HasNone t)) (sym (take_more-get us k u e))
+    (each-append (HasNone t) (take k us) (u ∷ []) each (none, tt))
+
+pub uses_end : (p : Puzzle) (t : List Move) (o k : ℕ) (us : List Use) → us ≡ uses_of p o
+    → AllByRecursion (HasNone t) (take k us) → length us ≤ k → IsSettled p t o
+uses_end p t o k us is each all = subst (λ us. All (HasNone t) us) (take_all k us all ∙ is)
+    (All-from_recursion (HasNone t) (take k us) each)
+
+-- ======== Options that are left.
+
+-- an option's first primary item is this one
+abbrev pub is_own : Puzzle → ℕ → ℕ → Bool
+is_own p i x = first_primary p (uses_of p x) == i
+
+owned_numbers : (p : Puzzle) (i : ℕ) (os : List Numbered) → AllByRecursion (λ o. uses_of p o.number ≡ o.uses) os
+    → map (λ o. o.number) (owned p i os) ≡ filter (is_own p i) (map (λ o. o.number) os)
+owned_numbers p i [] each = refl
+owned_numbers p i (o ∷ os) each =
+    let rest = owned_numbers p i os each.1 in
+    let same = each.0 in grind arith
+
+-- the numbers of one item
+own_numbers : (p : Puzzle) (t : List Move) (i : ℕ) → map (λ o. o.number) (owned p i (listed p t i))
+    ≡ filter (is_own p i) (listed_numbers p t i)
+own_numbers p t i = owned_numbers p i (listed p t i) (each_weaker (IsHolder p i) (λ o. uses_of p o.number ≡ o.uses) _
+    (λ o h. h.0) (holders p t i))
+
+-- The first n of these are the options of the items so far, each settled.
+pub record AreTaken (p : Puzzle) (t : List Move) (gone : List ℕ) (n : ℕ) (into : List ℕ) : Type 0 where
+  pub few : n ≤ 64
+  pub full : length into ≡ 64
+  pub taken : take n into ≡ gone
+  pub settled : AllByRecursion (IsSettled p t) (take n into)
+
+-- They are those, and the options of item i up to the one before the place in its list.
+pub record AreTakenTo (p : Puzzle) (t : List Move) (i : ℕ) (gone : List ℕ) (n : ℕ) (into : List ℕ) (place : ℕ)
+    : Type 0 where
+  pub few : n ≤ 64
+  pub full : length into ≡ 64
+  pub last : ℕ
+  pub taken : take n into ++ filter (is_own p i) (filter (λ x. ltb last x) (listed_numbers p t i))
+      ≡ gone ++ filter (is_own p i) (listed_numbers p t i)
+  pub settled : AllByRecursion (IsSettled p t) (take n into)
+  pub place_is : place ≡ link_place p i (first_above 0 last (listed_numbers p t i))
+  pub option_is : option_at p i place ≡ next_above last (listed_numbers p t i)
+
+pub taken_none : (p : Puzzle) (t : List Move) (into : List ℕ) → length into ≡ 64 → AreTaken p t [] 0 into
+taken_none p t into full = record { few = omega arith; full = full; taken = refl; settled = tt }
+
+-- at the first option of item i
+pub taken_first : (p : Puzzle) (t : List Move) (i : ℕ) (gone : List ℕ) (n : ℕ) (into : List ℕ) (place : ℕ)
+    → AreTaken p t gone n into → place ≡ link_place p i (first_above 0 0 (listed_numbers p t i))
+    → option_at p i place ≡ next_above 0 (listed_numbers p t i) → AreTakenTo p t i gone n into place
+taken_first p t i gone n into place a is option = record {
+  few = a.few;
+  full = a.full;
+  last = 0;
+  taken = ap (λ l. take n into ++ filter (is_own p i) l)
+      (above_all 0 (listed_numbers p t i) (rises_listed p t i))
+      ∙ ap (λ l. l ++ filter (is_own p i) (listed_numbers p t i)) a.taken;
+  settled = a.settled;
+  place_is = is;
+  option_is = option;
+}
+
+-- the option at the place
+pub record OptionThere (p : Puzzle) (t : List Move) (i last place : ℕ) : Type 0 where
+  pub x : ℕ
+  pub next : next_above last (listed_numbers p t i) ≡ Some x
+  pub use_at : IsUseAt p i x place
+  pub listed_at : IsListedAt p t i x place
+
+pub there : (p : Puzzle) (t : List Move) (i : ℕ) {gone : List ℕ} {n : ℕ} {into : List ℕ} {place : ℕ} → IsValid p
+    → (a : AreTakenTo p t i gone n into place) → place ≢ i → OptionThere p t i a.last place
+there p t i {place = place} valid a other = by_option (next_above a.last (listed_numbers p t i))
+    (λ none. absurd (other (a.place_is ∙ ap (λ o. link_place p i (unwrap_or o 0)) none)))
+    (λ x e.
+    let at : place ≡ link_place p i x = a.place_is ∙ ap (λ o. link_place p i (unwrap_or o 0)) e in
+    let is = next_contained a.last x (listed_numbers p t i) e in record {
+      x = x;
+      next = e;
+      use_at = subst (IsUseAt p i x) (sym at) (listed_use t i x valid is);
+      listed_at = record { listed = inr is; at = at };
+    })
+
+-- it is not item i's own
+pub taken_passed : (p : Puzzle) (t : List Move) (i : ℕ) {gone : List ℕ} {n : ℕ} {into : List ℕ} {place : ℕ} (next : ℕ)
+    → (a : AreTakenTo p t i gone n into place) → (o : OptionThere p t i a.last place) → is_own p i o.x ≡ false
+    → next ≡ link_place p i (first_above 0 o.x (listed_numbers p t i))
+    → option_at p i next ≡ next_above o.x (listed_numbers p t i) → AreTakenTo p t i gone n into next
+taken_passed p t i {gone} {n} {into} next a o other is option =
+    let rest = next_above-split 0 a.last o.x (listed_numbers p t i) (rises_listed p t i) o.next in
+    let skip : filter (is_own p i) (o.x ∷ filter (λ y. ltb o.x y) (listed_numbers p t i))
+    ≡ filter (is_own p i) (filter (λ y. ltb o.x y) (listed_numbers p t i)) = rw other refl in
+    record {
+      few = a.few;
+      full = a.full;
+      last = o.x;
+      taken = ap (λ l. take n into ++ l) (sym skip) ∙ ap (λ l. take n into ++ filter (is_own p i) l) (sym rest)
+          ∙ a.taken;
+      settled = a.settled;
+      place_is = is;
+      option_is = option;
+    }
+
+-- it is
+pub taken_more : (p : Puzzle) (t : List Move) (i : ℕ) {gone : List ℕ} {n : ℕ} {into : List ℕ} {place : ℕ} (next : ℕ)
+    → (a : AreTakenTo p t i gone n into place) → (o : OptionThere p t i a.last place) → is_own p i o.x ≡ true → n < 64
+    → IsSettled p t o.x → next ≡ link_place p i (first_above 0 o.x (listed_numbers p t i))
+    → option_at p i next ≡ next_above o.x (listed_numbers p t i)
+    → AreTakenTo p t i gone (n + 1) (set into n o.x) next
+taken_more p t i {gone} {n} {into} next a o own lt settled is option =
+    let rest = next_above-split 0 a.last o.x (listed_numbers p t i) (rises_listed p t i) o.next in
+    let later = filter (is_own p i) (filter (λ y. ltb o.x y) (listed_numbers p t i)) in
+    let first : filter (is_own p i) (o.x ∷ filter (λ y. ltb o.x y) (listed_numbers p t i)) ≡ o.x ∷ later =
+    rw own refl in
+    let more = take_more_set into n o.x (omega (arith, lt, a.full)) in
+    record {
+      few = omega (arith, lt);
+      full = length-set into n o.x ∙ a.full;
+      last = o.x;
+      taken = ap (λ l. l ++ later) more ∙ append_assoc (take n into) (o.x ∷ []) later
+          ∙ ap (λ l. take n into ++ l) (sym first) ∙ ap (λ l. take n into ++ filter (is_own p i) l) (sym rest)
+          ∙ a.taken;
+      settled = subst (AllByRecursion (IsSettled p t)) (sym more)
+          (each-append (IsSettled p t) (take n into) (o.x ∷ []) a.settled (settled, tt));
+      place_is = is;
+      option_is = option;
+    }
+
+-- so far as variables hold them
+pub passed_on : (p : Puzzle) (t : List Move) (i : ℕ) {gone : List ℕ} {n m : ℕ} {into out : List ℕ} {place : ℕ}
+    (next : ℕ) → (a : AreTakenTo p t i gone n into place) → (o : OptionThere p t i a.last place) → m ≡ n → out ≡ into
+    → is_own p i o.x ≡ false → next ≡ link_place p i (first_above 0 o.x (listed_numbers p t i))
+    → option_at p i next ≡ next_above o.x (listed_numbers p t i) → AreTakenTo p t i gone m out next
+passed_on p t i {gone} {n} {m} {into} {out} next a o count list other is option =
+    subst (λ k. AreTakenTo p t i gone k out next) (sym count)
+    (subst (λ l. AreTakenTo p t i gone n l next) (sym list) (taken_passed p t i next a o other is option))
+
+pub more_on : (p : Puzzle) (t : List Move) (i : ℕ) {gone : List ℕ} {n m y : ℕ} {into out : List ℕ} {place : ℕ}
+    (next : ℕ) → (a : AreTakenTo p t i gone n into place) → (o : OptionThere p t i a.last place) → m ≡ n + 1
+    → out ≡ set into n y → y ≡ o.x → is_own p i o.x ≡ true → n < 64 → IsSettled p t y
+    → next ≡ link_place p i (first_above 0 o.x (listed_numbers p t i))
+    → option_at p i next ≡ next_above o.x (listed_numbers p t i) → AreTakenTo p t i gone m out next
+more_on p t i {gone} {n} {m} {y} {into} {out} next a o count list same own lt settled is option =
+    subst (λ k. AreTakenTo p t i gone k out next) (sym count)
+    (subst (λ l. AreTakenTo p t i gone (n + 1) l next) (ap (set into n) (sym same) ∙ sym list)
+    (taken_more p t i next a o own lt (subst (IsSettled p t) same settled) is option))
+
+-- at the item's own node all were met
+pub taken_all : (p : Puzzle) (t : List Move) (is : List ℕ) (k i : ℕ) {n : ℕ} {into : List ℕ} {place : ℕ} → IsValid p
+    → IsItem p i → slice_get is k ≡ Some i → AreTakenTo p t i (collected p t (take k is)) n into place → place ≡ i
+    → AreTaken p t (collected p t (take (k + 1) is)) n into
+taken_all p t is k i {n} {into} {place} valid item e a own =
+    let none : next_above a.last (listed_numbers p t i) ≡ None = by_option (next_above a.last (listed_numbers p t i))
+    (λ none. none)
+    (λ x f.
+    let at : place ≡ link_place p i x = a.place_is ∙ ap (λ o. link_place p i (unwrap_or o 0)) f in
+    absurd (omega (
+      arith,
+      behind_items p i x (omega (arith, next_above-gt a.last x (listed_numbers p t i) f)),
+      at,
+      own,
+      item.1,
+    ))) in
+    let rest = next_above-none a.last (listed_numbers p t i) none in
+    let one : List ℕ → List ℕ = λ is. flat_map (λ i. map (λ o. o.number) (owned p i (listed p t i))) is in
+    record {
+      few = a.few;
+      full = a.full;
+      taken = sym (append-nil (take n into)) ∙ ap (λ l. take n into ++ filter (is_own p i) l) (sym rest) ∙ a.taken
+          ∙ ap (λ l. collected p t (take k is) ++ l) (sym (own_numbers p t i) ∙ sym (append-nil _))
+          ∙ sym (flat_map-append _ (take k is) (i ∷ [])) ∙ ap one (sym (take_more-get is k i e));
+      settled = a.settled;
+    }
+
+-- what is at the next place is further on
+pub option_nearer : (p : Puzzle) (t : List Move) (i : ℕ) {gone : List ℕ} {n : ℕ} {into : List ℕ} {place : ℕ} (next : ℕ)
+    → (a : AreTakenTo p t i gone n into place) → (o : OptionThere p t i a.last place)
+    → option_at p i next ≡ next_above o.x (listed_numbers p t i)
+    → option_count p + 1 - unwrap_or (option_at p i next) (option_count p + 1)
+    < option_count p + 1 - unwrap_or (option_at p i place) (option_count p + 1)
+option_nearer p t i {place = place} next a o is =
+    let most = o.use_at.known.1 in
+    let here : unwrap_or (option_at p i place) (option_count p + 1) ≡ o.x =
+    ap (λ n. unwrap_or n (option_count p + 1)) (a.option_is ∙ o.next) in
+    by_option (next_above o.x (listed_numbers p t i))
+    (λ none.
+    let end : unwrap_or (option_at p i next) (option_count p + 1) ≡ option_count p + 1 =
+    ap (λ n. unwrap_or n (option_count p + 1)) (is ∙ none) in omega (arith, most, here, end))
+    (λ y e.
+    let then : unwrap_or (option_at p i next) (option_count p + 1) ≡ y =
+    ap (λ n. unwrap_or n (option_count p + 1)) (is ∙ e) in
+    omega (arith, most, here, then, next_above-gt o.x y (listed_numbers p t i) e))

@@ -1,0 +1,112 @@
+use Rattle.std.proofs.Common.{◌≡◌, length, length-set, get_or, ◌∙◌, ap, refl, arith, w64, ◌==◌, ◌&&◌, is_some}
+use Rattle.std.proofs.Common.{◌<◌, ◌-◌, ◌^◌, set}
+use Rattle.std.proofs.lemmas.List.Elements.{All-get_or}
+use Rattle.std.specs.Int.{bit_at, trailing_zeros}
+use Rattle.std.proofs.lemmas.Bool.{eq-eqb, eqb-true, lt-ltb}
+use Rattle.std.proofs.lemmas.Option.{slice_get_within, get_or_from_slice_get}
+use Rattle.std.proofs.lemmas.Nat.{and_le_r}
+use Rattle.std.proofs.lemmas.Nat.Bits.{bit_at-trailing_zeros}
+use Rattle.xc_input.specs.Problem.{uses_of, colour_in}
+use Rattle.xc_search.specs.inner.Few.{share}
+use Rattle.xc_search.specs.inner.Filled.{held_at, TellsHolders}
+use Rattle.xc_search.proofs.FillLemmas.{lowest_gone, others_kept, from_rest, share_told, turned_on, turned_all, written}
+use Rattle.xc_search.proofs.few.filling.fill.Goals as goal
+
+pub loop-x-preserved : goal.loop-x-preserved
+loop-x-preserved c =
+    let os = c.args.options.now in
+    let p = c.args.problem.now.puzzle in
+    let ws = c.loop-x.words in
+    record {
+      sizes = (
+        c.loop-x.invariant.sizes.0,
+        omega (arith, length-set ws.alone c.loop-x.x 0, c.loop-x.invariant.sizes.1),
+        omega (arith, length-set ws.apart c.loop-x.x c.all_apart.result, c.loop-x.invariant.sizes.2),
+      );
+      apart = λ k y h. written ws.apart c.loop-x.x c.all_apart.result
+          (λ z v. (bit_at v y == 1) ≡ share (uses_of p (get_or os z 0)) (uses_of p (get_or os y 0)))
+          (omega (arith, c.loop-x.invariant.sizes.2, c.requires.few_options, c.loop-x-test.true))
+          (c.all_apart.ensures y ∙ share_told p os c.note_holders.new.holders c.option.result.now c.loop-x.x y
+          c.option.ensures.value c.note_holders.ensures.held) (λ z l. c.loop-x.invariant.apart z y l) k h;
+      alone = written ws.alone c.loop-x.x 0 (λ z v. v ≡ 0)
+          (omega (arith, c.loop-x.invariant.sizes.1, c.requires.few_options, c.loop-x-test.true)) refl
+          c.loop-x.invariant.alone;
+    }
+
+pub loop-rest-smaller : goal.loop-rest-smaller
+loop-rest-smaller c = omega (arith, c.loop-rest-test.true, and_le_r c.loop-rest.rest (c.loop-rest.rest - 1))
+
+pub loop-rest-preserved : goal.loop-rest-preserved
+loop-rest-preserved c =
+    let some : 0 < c.loop-rest.rest = omega (arith, c.loop-rest-test.true) in
+    let fits : c.loop-rest.rest < 2 ^ 64 = omega (arith, c.loop-rest.auto.rest-fits) in
+    let t = bit_at-trailing_zeros w64 c.loop-rest.rest some fits in
+    let x = trailing_zeros w64 c.loop-rest.rest in
+    let one = eq-eqb _ 1 t.1 in
+    let os = c.args.options.now in
+    let p = c.args.problem.now.puzzle in
+    let size : length c.loop-rest.words.alone ≡ 64 = c.loop-rest.invariant.size in
+    record {
+      size = length-set c.loop-rest.words.alone x _ ∙ size;
+      apart = c.loop-rest.invariant.apart;
+      holders = c.loop-rest.invariant.holders;
+      rest = λ y e. c.loop-rest.invariant.rest y (from_rest _ y e);
+      alone = λ k y below. turned_on c.loop-rest.words.alone c.loop-rest.rest _ x c.loop-i.i k y _ _
+          (omega (arith, c.requires.few_items)) (omega (arith, t.0, size)) one (lowest_gone c.loop-rest.rest some fits)
+          (others_kept c.loop-rest.rest y some fits)
+          (λ e q. ap (λ z. held_at p os (get_or c.args.items.now z 0) y) (eqb-true k c.loop-i.i q)
+          ∙ ap (held_at p os (get_or c.args.items.now c.loop-i.i 0)) e ∙ c.loop-rest.invariant.rest x one)
+          (c.loop-rest.invariant.alone k y below);
+    }
+
+pub loop-i-preserved : goal.loop-i-preserved
+loop-i-preserved c =
+    let os = c.args.options.now in
+    let is = c.args.items.now in
+    let p = c.args.problem.now.puzzle in
+    let ws = c.loop-i.words.holders in
+    let i = c.loop-i.i in
+    let hs = c.note_holders.new.holders in
+    let w = get_or hs (get_or is i 0) 0 in
+    let now : c.loop-rest.words.holders ≡ set ws i w = c.loop-rest.invariant.holders in
+    let told : TellsHolders p os (get_or is i 0) w =
+    All-get_or (λ j. TellsHolders p os j (get_or hs j 0)) is i 0 c.loop-i-test.true c.note_holders.ensures.items in
+    record {
+      sizes = (ap length now ∙ length-set ws i w ∙ c.loop-i.invariant.sizes.0, c.loop-rest.invariant.size);
+      apart = c.loop-rest.invariant.apart ∙ c.loop-i.invariant.apart;
+      holders = λ k y h. ap (λ v. bit_at (get_or v k 0) y == 1) now
+          ∙ written ws i w (λ z v. (bit_at v y == 1) ≡ held_at p os (get_or is z 0) y)
+          (omega (arith, c.loop-i.invariant.sizes.0, c.requires.few_items, c.loop-i-test.true)) (told y)
+          (λ z l. c.loop-i.invariant.holders z y l) k h;
+      alone = λ k y below. c.loop-rest.invariant.alone k y below
+          ∙ turned_all c.loop-rest.rest i k y (held_at p os (get_or is k 0) y) (omega (arith, c.loop-rest-test.false));
+    }
+
+pub returns : goal.returns
+returns c =
+    let os = c.args.options.now in
+    let is = c.args.items.now in
+    let p = c.args.problem.now.puzzle in
+    record {
+      few_items = c.requires.few_items;
+      few_options = c.requires.few_options;
+      alone_fits = c.know_words.ensures;
+      apart_fits = c.know_words-2.ensures;
+      holders = λ i x j o hi hx.
+          let li = slice_get_within is i j hi in
+          c.loop-i.invariant.holders i x (omega (arith, li, c.loop-i-test.false))
+          ∙ ap (λ z. held_at p os z x) (get_or_from_slice_get is i j 0 hi)
+          ∙ ap (λ z. is_some (colour_in (uses_of p z) j)) (get_or_from_slice_get os x o 0 hx);
+      alone = λ i x j o hi hx.
+          let li = slice_get_within is i j hi in
+          c.loop-i.invariant.alone i x (slice_get_within os x o hx)
+          ∙ ap (λ t. t && held_at p os (get_or is i 0) x) (lt-ltb i c.loop-i.i (omega (arith, li, c.loop-i-test.false)))
+          ∙ ap (λ z. held_at p os z x) (get_or_from_slice_get is i j 0 hi)
+          ∙ ap (λ z. is_some (colour_in (uses_of p z) j)) (get_or_from_slice_get os x o 0 hx);
+      apart = λ x y o q hx hy.
+          let lx = slice_get_within os x o hx in
+          ap (λ ws. bit_at (get_or ws x 0) y == 1) c.loop-i.invariant.apart
+          ∙ c.loop-x.invariant.apart x y (omega (arith, lx, c.loop-x-test.false))
+          ∙ ap (λ z. share (uses_of p z) (uses_of p (get_or os y 0))) (get_or_from_slice_get os x o 0 hx)
+          ∙ ap (λ z. share (uses_of p o) (uses_of p z)) (get_or_from_slice_get os y q 0 hy);
+    }

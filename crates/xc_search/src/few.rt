@@ -1,0 +1,164 @@
+//! What is left of a problem, where it is little, counted by words of bits without a move.
+mod collecting;
+mod filling;
+
+ghost use Rattle.std.specs.Prelude.{◌≡◌, ◌<◌, ◌≤◌, ◌^◌, ◌-◌, length, IfSome};
+ghost use Rattle.xc_search.specs.Listing.{listing};
+ghost use Rattle.xc_search.specs.inner.Levels.{IsSearchable, IsOnce, residual_of};
+
+use crate::counts::count_primary;
+use crate::few::collecting::{Items, collect_items, collect_options};
+use crate::few::filling::fill;
+use std::alloc::{AllocError, Global};
+use xc_input::Problem;
+use xc_moves::Dance;
+use xc_words::{MOST, Words, count_left};
+
+/// Where what is left is gathered, and hints from how many levels on it is little.
+#[derive(Drop)]
+pub struct Few {
+    words: Words,
+    /// The open items, by their bits.
+    items: [u32; 64],
+    /// The options that are left, by their bits.
+    options: [u32; 64],
+    /// By item, the options that hold it.
+    holders: Vec<u64>,
+    /// From how many levels on it is tried.
+    from: usize,
+    /// How many primary items an option holds, about.
+    each: usize,
+    /// How many tries are still passed over, and how many were after the last count.
+    wait: usize,
+    pause: usize,
+    ghost some: { 0 < each },
+    ghost few: { each ≤ 64 },
+}
+
+impl Few {
+    /// Room for any problem with as many items, and hints for this one. Each count asks whether there is room.
+    pub fn new(alloc: Global, problem: &Problem) -> Result<Few, AllocError> {
+        let holders = vec![in alloc; 0; problem.items() as usize + 1]?;
+        Ok(Few {
+            words: Words::new(),
+            items: [0; 64],
+            options: [0; 64],
+            holders,
+            from: 1,
+            each: most_held(problem),
+            wait: 0,
+            pause: 0,
+        })
+    }
+
+    /// Whether it is tried below so many levels.
+    #[inline(always)]
+    pub fn is_tried(&mut self, depth: usize) -> bool {
+        if depth < self.from {
+            return false;
+        }
+        if self.wait > 0 {
+            self.wait -= 1;
+            return false;
+        }
+        true
+    }
+
+    /// Notes that there was too much below so many levels, by so many open items.
+    fn pass_by(&mut self, depth: usize, beside: usize) {
+        self.from = depth.saturating_add((beside / self.each).max(1));
+    }
+
+    /// Notes that a count over so many options took so many nodes. Where these are few, moves would have taken as long:
+    /// then the next tries are passed over, twice as many as before and one, up to 63.
+    fn weigh(&mut self, nodes: u64, options: usize) {
+        self.pause = if nodes < options as u64 / 2 {
+            self.pause.min(31) * 2 + 1
+        } else {
+            0
+        };
+        self.wait = self.pause;
+    }
+
+    /// How many solutions what is left has, if it is little, and they are no more than `most`.
+    pub fn count<D: Dance>(
+        &mut self,
+        dance: &D,
+        problem: &Problem,
+        depth: usize,
+        most: u64,
+    ) -> Option<u64>
+        requires same { (D.state dance.now).puzzle ≡ problem.now.puzzle }
+        requires once { IsOnce problem.now.puzzle }
+        requires searchable { IsSearchable problem.now.puzzle (D.state dance.now).trail }
+        requires some { 0 < most }
+        ensures counted { IfSome result (λ n.
+            n ≡ length (listing (residual_of problem.now.puzzle (D.state dance.now).trail))) }
+        ensures within { IfSome result (λ n. n ≤ most) }
+    {
+        if self.holders.len() <= problem.items() as usize {
+            return None;
+        }
+        let room = self.each * MOST;
+        let items = match collect_items(dance, &mut self.items, room) {
+            Items::All(items) => items,
+            Items::Dead => return Some(0),
+            Items::TooMany(beside) => {
+                self.pass_by(depth, beside);
+                return None;
+            }
+        };
+        let items = &self.items[..items];
+        let Some(options) = collect_options(dance, problem, items, &mut self.options) else {
+            self.pass_by(depth, 0);
+            return None;
+        };
+        let options = &self.options[..options];
+        fill(
+            problem,
+            items,
+            options,
+            self.holders.as_mut_slice(),
+            &mut self.words,
+        );
+        let most_nodes = most / 16 + 2000;
+        let mut budget = most_nodes;
+        let found = count_left(
+            &self.words,
+            full(options.len()),
+            full(items.len()),
+            most,
+            &mut budget,
+        );
+        let nodes = most_nodes - budget;
+        let many = options.len();
+        let little = many <= 32;
+        self.weigh(nodes, many);
+        if found.is_none() {
+            self.pass_by(depth, 0);
+        } else if little && depth > 1 {
+            self.from = depth - 1;
+        }
+        found
+    }
+}
+
+/// How many primary items one of the first options holds at most, from 1 to as many as are counted by words.
+fn most_held(problem: &Problem) -> usize
+    ensures some { 0 < result }
+    ensures few { result ≤ 64 }
+{
+    let mut each: usize = 1;
+    for o in 0..problem.options().min(1000) {
+        each = each.max(count_primary(problem, problem.option(o + 1)));
+    }
+    each.min(MOST)
+}
+
+/// The word of so many bits.
+fn full(n: usize) -> u64
+    requires { n ≤ 64 }
+    ensures { result ≡ 2 ^ n - 1 }
+{
+    if n == MOST { u64::MAX } else { (1u64 << n) - 1 }
+}
