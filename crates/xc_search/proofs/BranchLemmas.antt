@@ -478,7 +478,7 @@ level_moved p t l at =
 
 -- as many levels as some near number are some
 pub levels_moved : (p : Puzzle) (t : List Move) (ls : List Level) (n : ℕ) → AreStacked p t ls
-    → (ls ≡ [] → 2 ^ 64 - 1 ≤ n) → length ls ≡ n → 0 < length t
+    → (ls ≡ [] → 0 < n) → length ls ≡ n → 0 < length t
 levels_moved p t [] n stacked far many = absurd (omega (arith, far refl, many))
 levels_moved p t (l ∷ ls) n stacked far many = level_moved p t l stacked.0
 

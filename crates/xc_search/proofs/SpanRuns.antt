@@ -441,7 +441,7 @@ module _ {bound : Bool} {c : ℕ} {u until : Option (List ℕ)} {d e : Dancing} 
 pub seen_rest : {bound : Bool} {first : ℕ} {u until : Option (List ℕ)} {d e : Dancing} {ls ks : Levels}
     {m most n begun steps last : ℕ} → IsSeenBy bound u until first most d.puzzle ls.levels
     → Stands first u d ls m e ks n begun → (bound ≡ true → begun + steps ≡ most) → (bound ≡ true → 0 < steps)
-    → (begun ≡ 0 → 2 ^ 64 - 1 ≤ last) → IsRest until e.puzzle ks.levels last first
+    → (bound ≡ true → begun ≡ 0 → 2 ^ 64 - 1 ≤ last) → IsRest until e.puzzle ks.levels last first
     → IsRest u e.puzzle ks.levels last first
 seen_rest (inl same) s count going far rest = rw same rest
 seen_rest {begun = begun} (inr (is, one, before, leaves)) s count going far rest =
@@ -449,7 +449,7 @@ seen_rest {begun = begun} (inr (is, one, before, leaves)) s count going far rest
     let here = s.same none in
     rw (here.0, here.1) (record {
       before = before;
-      all = λ near. absurd (omega (arith, near, far none));
+      all = λ near. absurd (omega (arith, near, far is none));
       leaves = leaves;
     })
 

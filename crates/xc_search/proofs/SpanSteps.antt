@@ -72,14 +72,14 @@ over_more {os = os} a b = record {
 
 -- all that is left below the levels
 pub over_below : (until : Option (List ℕ)) (p : Puzzle) (t : List Move) (ls : List Level) (last c m n : ℕ)
-    → IsRest until p ls last c → last < 2 ^ 64 - 1 → length ls ≡ last → m ≡ n + length (listing (residual_of p t))
+    → IsRest until p ls last c → last < 2 ^ 64 - 1 → m ≡ n + length (listing (residual_of p t))
     → PassesOver c until m n (coming p t ls true) (coming p t ls false)
-over_below until p t ls last c m n is near as_many count = record {
+over_below until p t ls last c m n is near count = record {
   passed = map (λ x. choices_of p ls ++ x) (listing (residual_of p t));
   members = refl;
   before = each-map _ (λ x. choices_of p ls ++ x) (listing (residual_of p t))
       (each_of_all _ (listing (residual_of p t)) (λ x.
-      ap (is_before until) (map-append (λ c. c.k) (choices_of p ls) x) ∙ is.all near as_many (row_of x)));
+      ap (is_before until) (map-append (λ c. c.k) (choices_of p ls) x) ∙ is.all near (row_of x)));
   count = λ _. omega (
     arith,
     count,
@@ -119,7 +119,7 @@ over_keeps {u = u} {ns = ns} a =
 
 -- what is known where there is no end
 pub rest_of_all : (p : Puzzle) (ls : List Level) (last first : ℕ) → IsRest None p ls last first
-rest_of_all p ls last first = record { before = refl; all = λ _ _ _. refl; leaves = λ _ _ _ _. refl }
+rest_of_all p ls last first = record { before = refl; all = λ _ _. refl; leaves = λ _ _ _ _. refl }
 
 -- nothing is left out where the first branch comes first
 pub none_left_out : (until : Option (List ℕ)) (p : Puzzle) (ls : List Level) (first : ℕ) → first ≡ 1
@@ -160,7 +160,7 @@ rest_before p vs ls u until last first e some before =
     let row : row_at p ls ≡ map (λ (l : Level). l.begun) vs = sym (row_levels p vs ls e) in
     record {
       before = ap₂ is_before some (row ∙ sym (append-nil (map (λ (l : Level). l.begun) vs))) ∙ before [];
-      all = λ _ _ x. ap₂ is_before some (ap (λ r. r ++ x) row) ∙ before x;
+      all = λ _ x. ap₂ is_before some (ap (λ r. r ++ x) row) ∙ before x;
       leaves = λ k _ _ x. ap₂ is_before some (ap (λ r. r ++ k ∷ x) row) ∙ before (k ∷ x);
     }
 

@@ -41,7 +41,7 @@ pub fn is_once(problem: &Problem) -> bool
 }
 
 /// How many primary items these uses hold.
-fn count_primary(problem: &Problem, uses: &[Use]) -> usize
+pub fn count_primary(problem: &Problem, uses: &[Use]) -> usize
     ensures { result ≡ primary_uses problem.now.puzzle uses.now }
 {
     let primary = problem.primary();

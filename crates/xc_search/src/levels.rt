@@ -10,6 +10,10 @@
 //! of the instructions. Open items are counted only at the depth of the last choice of the solution found last. That
 //! depth is a hint, so no invariant ties levels to open items.
 //!
+//! Where what is left is little, its solutions are counted by words (`few.rt`), with no move. That is tried only where
+//! all that is left is known to come before a span's end, and where a level was begun, so that a walk that went on made
+//! a move.
+//!
 //! `run` isn't marked inline, so that it is inlined after what it calls; a level is pushed with its first branch: 1 %
 //! each. `unwind` ends levels by code of its own, so that the loop has the one call of `end_level`, which is inlined
 //! there (8 %). The end of a tweaked level is in the loop too (3 % with bounds). Tried and not faster: levels or their
@@ -28,6 +32,7 @@ ghost use Rattle.xc_search.specs.Room.{room_for};
 ghost use Rattle.xc_search.specs.Spans.{is_before, precedes};
 ghost use Rattle.xc_search.specs.Residuals.{choice_after};
 
+use crate::few::Few;
 use crate::level::{Begun, Level, begin_level};
 use crate::position::Position;
 use crate::ran::{Ran, Stop};
@@ -222,10 +227,45 @@ fn skip_rest<D: Dance>(position: &Position<D>, more: &mut u64) -> bool
     true
 }
 
+/// Counts all that is left by words, with no move, where it is little, and its solutions are no more than are to be
+/// passed over: not where there are no levels, and not where what is left may reach the end, which `last` says.
+#[inline(always)]
+fn count_rest<D: Dance>(
+    position: &Position<D>,
+    few: &mut [Few],
+    depth: usize,
+    last: usize,
+    more: &mut u64,
+) -> bool
+    requires { IsSearchable position.now.puzzle position.now.trail }
+    ensures counted { result ≡ true →
+        more.old ≡ more.new + length (listing (residual_of position.now.puzzle position.now.trail)) }
+    ensures not_counted { result ≡ false → more.new ≡ more.old }
+    ensures deep { result ≡ true → 0 < depth }
+    ensures all { result ≡ true → last < 2 ^ 64 - 1 }
+{
+    // Where no more than one is to be passed over, the search is soon there.
+    if *more <= 1 {
+        return false;
+    }
+    let Some(few) = few.first_mut() else {
+        return false;
+    };
+    // Mostly the hint says no, so that what comes after it takes no time of a turn.
+    if !few.is_tried(depth) || depth == 0 || last == usize::MAX {
+        return false;
+    }
+    let Some(found) = position.count_few(few, depth, *more) else {
+        return false;
+    };
+    *more -= found;
+    true
+}
+
 /// Goes below the levels: enters a branch of another level, the first that isn't left out, where what is left has any.
 /// A solution is passed over where `more` are to be, and is one of them. `last` is how many levels there were where the
-/// last choice led to a solution: where there are as many again, and all that is left comes before the end, the
-/// solutions may be counted at once.
+/// last choice led to a solution: where there are as many again, the solutions may be counted at once. It is the
+/// greatest number where what is left may reach the end, and elsewhere all that is left comes before it.
 #[inline(always)]
 fn go_below<D: Dance, const WAY: bool>(
     position: &mut Position<D>,
@@ -233,6 +273,7 @@ fn go_below<D: Dance, const WAY: bool>(
     first: u32,
     more: &mut u64,
     last: &mut usize,
+    few: &mut [Few],
 ) -> Below
     requires standing { IsStanding position.old.puzzle position.old.trail stack.old.levels true }
     requires levels_fit { most_levels position.old.puzzle ≤ stack.old.room }
@@ -251,10 +292,14 @@ fn go_below<D: Dance, const WAY: bool>(
         Pays position.old stack.old true more.old (branched position.new b.item b.place) stack.new true more.new }
     ensures back_pays { result ≡ Below.Nothing → first ≡ 1 →
         Pays position.old stack.old true more.old position.new stack.new false more.new }
-    ensures moved { result ≡ Below.Nothing → (stack.old.levels ≡ [] → 2 ^ 64 - 1 ≤ last.old) →
+    ensures moved { result ≡ Below.Nothing → (stack.old.levels ≡ [] → 0 < last.old) →
         0 < moves_made position.new }
 {
-    if stack.levels().len() == *last && skip_rest(position, more) {
+    let depth = stack.levels().len();
+    if depth == *last && skip_rest(position, more) {
+        return Below::Nothing;
+    }
+    if !WAY && count_rest(position, few, depth, *last, more) {
         return Below::Nothing;
     }
     let next = position.choose_early();
@@ -280,6 +325,7 @@ fn enter_branch<D: Dance, const WAY: bool>(
     first: u32,
     more: &mut u64,
     last: &mut usize,
+    few: &mut [Few],
 ) -> Next
     requires standing { IsStanding position.old.puzzle position.old.trail stack.old.levels true }
     requires levels_fit { most_levels position.old.puzzle ≤ stack.old.room }
@@ -300,10 +346,10 @@ fn enter_branch<D: Dance, const WAY: bool>(
         Pays position.old stack.old true more.old (branched position.new b.item b.place) stack.new true more.new }
     ensures done_pays { result ≡ Next.Nothing → first ≡ 1 →
         Pays position.old stack.old true more.old position.new stack.new false more.new }
-    ensures moved { result ≡ Next.Nothing → (stack.old.levels ≡ [] → 2 ^ 64 - 1 ≤ last.old) →
+    ensures moved { result ≡ Next.Nothing → (stack.old.levels ≡ [] → 0 < last.old) →
         0 < moves_made position.new }
 {
-    match go_below::<D, WAY>(position, stack, first, more, last) {
+    match go_below::<D, WAY>(position, stack, first, more, last, few) {
         Below::Branch(entered) => return Next::Branch(entered),
         Below::Solution => return Next::Solution,
         Below::Nothing => {}
@@ -344,6 +390,16 @@ fn fixed<'u, const WAY: bool>(task: Task<'u>) -> Task<'u>
     }
 }
 
+/// How many levels there were where the last choice led to a solution, before there was one: more than there ever are,
+/// and for a run with an end the greatest number.
+#[inline(always)]
+fn no_last<const BOUND: bool>() -> usize
+    ensures some { 0 < result }
+    ensures bound { BOUND ≡ true → 2 ^ 64 - 1 ≤ result }
+{
+    if BOUND { usize::MAX } else { usize::MAX - 1 }
+}
+
 /// Does what a task says. A search that is at a solution finds that one again, as the first.
 // One loop for all searches, which at each turn first looks at what is below, so that no flag says whether that was
 // searched.
@@ -352,6 +408,7 @@ pub fn run<'u, D: Dance, const BOUND: bool, const WAY: bool>(
     position: &mut Position<D>,
     stack: &mut Stack,
     task: Task<'u>,
+    few: &mut [Few],
 ) -> Ran
     requires standing { IsStanding position.old.puzzle position.old.trail stack.old.levels true }
     requires levels_fit { most_levels position.old.puzzle ≤ stack.old.room }
@@ -375,12 +432,12 @@ pub fn run<'u, D: Dance, const BOUND: bool, const WAY: bool>(
     let task = fixed::<WAY>(task);
     let (until, first) = (task.until, task.first);
     let (mut more, mut steps) = (task.over, task.steps);
-    let mut last = usize::MAX;
+    let mut last = no_last::<BOUND>();
     if BOUND && steps == 0 {
         return halted(Stop::Steps, more, steps);
     }
     loop {
-        match enter_branch::<D, WAY>(position, stack, first, &mut more, &mut last) {
+        match enter_branch::<D, WAY>(position, stack, first, &mut more, &mut last, few) {
             Next::Branch(at) => position.commit_branch::<WAY>(at.item, at.place as u32),
             Next::Solution => return halted(Stop::Member, more, steps),
             Next::Nothing => return halted(Stop::Nothing, more, steps),

@@ -15,6 +15,7 @@ mod begin;
 mod branch_item;
 mod choice;
 mod counts;
+mod few;
 pub mod laws;
 mod level;
 mod levels;

@@ -10,6 +10,7 @@ mod moves;
 
 use crate::branch_item::{choose_early, choose_next, first_of_open};
 use crate::counts::{even_size, is_once};
+use crate::few::Few;
 use std::marker::Model;
 use xc_input::Problem;
 use xc_moves::Dance;
@@ -131,6 +132,21 @@ impl<'a, D: Dance> Position<'a, D> {
         }
         let first = first_of_open(&self.dance, self.each_holds)?;
         Some(self.dance.len(first))
+    }
+
+    /// How many solutions what is left has, below so many levels, where it is little, and these are no more than
+    /// `most`.
+    #[inline(always)]
+    pub fn count_few(&self, few: &mut Few, depth: usize, most: u64) -> Option<u64>
+        requires searchable { IsSearchable self.now.puzzle self.now.trail }
+        requires some { 0 < most }
+        ensures counted { IfSome result (λ n. n ≡ length (listing (residual_of self.now.puzzle self.now.trail))) }
+        ensures within { IfSome result (λ n. n ≤ most) }
+    {
+        if !self.once || !self.dance.counts_unmoved() {
+            return None;
+        }
+        few.count(&self.dance, self.problem, depth, most)
     }
 
     /// How many moves are on the trail.

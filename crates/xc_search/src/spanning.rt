@@ -61,7 +61,7 @@ pub fn run_on<'a, 'u, D: Dance>(state: State<'a, D>, task: Task<'u>) -> (State<'
         over,
         steps,
     };
-    let ran = run::<D, true, false>(&mut position, &mut stack, task);
+    let ran = run::<D, true, false>(&mut position, &mut stack, task, &mut []);
     (State { position, stack }, ran)
 }
 
@@ -79,7 +79,7 @@ pub fn run_way<'a, 'u, D: Dance>(state: State<'a, D>, task: Task<'u>) -> (State<
         mut position,
         mut stack,
     } = state;
-    let ran = run::<D, true, true>(&mut position, &mut stack, task);
+    let ran = run::<D, true, true>(&mut position, &mut stack, task, &mut []);
     (State { position, stack }, ran)
 }
 

@@ -22,6 +22,7 @@ ghost use Rattle.xc_search.specs.inner.Levels.{most_levels, coming, choices_of, 
 
 use crate::choice::Choice;
 use crate::counts::most_levels;
+use crate::few::Few;
 use crate::level::Level;
 use crate::levels::{Task, run, unwind};
 use crate::marks::{Mark, Marks};
@@ -29,7 +30,7 @@ use crate::position::Position;
 use crate::ran::Stop;
 use crate::stack::Stack;
 use core::mem::replace_with;
-use std::alloc::Global;
+use std::alloc::{AllocError, Global};
 use std::marker::Model;
 use xc_input::Problem;
 use xc_moves::{Dance, Memory};
@@ -49,6 +50,8 @@ pub struct Walk<'a, D: Dance> {
 struct Standing<'a, D: Dance> {
     position: Position<'a, D>,
     stack: Stack,
+    /// Where what is left is counted by words: one place, or none where it never is.
+    few: Vec<Few>,
     /// What is left wasn't searched yet.
     unsearched: bool,
     /// By how many solutions it went on last. It is returned here, and not beside the rest: else the whole would be
@@ -106,10 +109,14 @@ impl<'a, D: Dance> Walk<'a, D> {
         let Ok(stack) = Stack::new(alloc, most_levels(problem)) else {
             return Err((dance, Memory));
         };
+        let Ok(few) = place_for_few(alloc, &dance, problem) else {
+            return Err((dance, Memory));
+        };
         Ok(Walk {
             standing: Standing {
                 position: Position::new(dance, problem),
                 stack,
+                few,
                 unsearched: true,
                 passed: 0,
             },
@@ -193,6 +200,7 @@ impl<'a, D: Dance> Walk<'a, D> {
         let Standing {
             mut position,
             mut stack,
+            few: _,
             unsearched: _,
             passed: _,
         } = self.standing;
@@ -270,7 +278,7 @@ impl<'a, D: Dance> Standing<'a, D> {
         ensures moved { 0 < moves_made result.0.position }
     {
         let unsearched = self.unsearched;
-        let (mut position, mut stack) = (self.position, self.stack);
+        let (mut position, mut stack, mut few) = (self.position, self.stack, self.few);
         // Where it is at a solution, it finds that one again.
         let more = if unsearched { many - 1 } else { many };
         let ran = run::<D, false, false>(
@@ -282,6 +290,7 @@ impl<'a, D: Dance> Standing<'a, D> {
                 over: more,
                 steps: 0,
             },
+            few.as_mut_slice(),
         );
         let passed = match ran.stop {
             Stop::Member => many,
@@ -291,12 +300,26 @@ impl<'a, D: Dance> Standing<'a, D> {
             Standing {
                 position,
                 stack,
+                few,
                 unsearched: false,
                 passed,
             },
             (),
         )
     }
+}
+
+/// A place where what is left is counted by words, where that may be.
+fn place_for_few<D: Dance>(
+    alloc: Global,
+    dance: &D,
+    problem: &Problem,
+) -> Result<Vec<Few>, AllocError> {
+    let mut few = Vec::with_capacity(alloc, 1)?;
+    if dance.counts_unmoved() {
+        few.push_reserved(Few::new(alloc, problem)?);
+    }
+    Ok(few)
 }
 
 /// How many solutions were passed over of `many`, where the search then ended and `more` lacked beside the last.

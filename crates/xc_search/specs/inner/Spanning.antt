@@ -35,11 +35,11 @@ abbrev pub LeavesOut : Option (List ℕ) → Puzzle → List Level → ℕ → T
 LeavesOut until p ls first =
     (k : ℕ) → 0 < k → k < first → (x : List ℕ) → is_before until (row_at p ls ++ k ∷ x) ≡ true
 
--- The row of the levels comes before the end of a span, and so does all below them if there are so many levels, and
--- what is left out below.
+-- The row of the levels comes before the end of a span, and so does all below them, unless last is the greatest
+-- number, and what is left out below.
 pub record IsRest (until : Option (List ℕ)) (p : Puzzle) (ls : List Level) (last first : ℕ) : Type 0 where
   pub before : is_before until (row_at p ls) ≡ true
-  pub all : last < 2 ^ 64 - 1 → length ls ≡ last → (x : List ℕ) → is_before until (row_at p ls ++ x) ≡ true
+  pub all : last < 2 ^ 64 - 1 → (x : List ℕ) → is_before until (row_at p ls ++ x) ≡ true
   pub leaves : LeavesOut until p ls first
 
 -- Of the members ms that were to come it passed over the first, which come before the end of the span, and ns are left.

@@ -13,12 +13,23 @@ returns-then-skip_rest-clause-back g c _ until is =
     let d = c.args.position.now in
     falls_over c.args.first until d c.args.stack.now _ _ c.requires.standing
     (over_below until d.puzzle d.trail c.args.stack.now.levels c.args.last.now c.args.first _ _ is
-    (grind (arith, length-reverse)) (grind (arith, length-reverse))
+    (grind (arith, length-reverse))
     (c.skip_rest.ensures.skipped c.if-skip_rest.true))
 
 pub returns-then-skip_rest-clause-back_pays : goal.returns-then-skip_rest-clause-back_pays
 returns-then-skip_rest-clause-back_pays g c _ _ =
     pays_over _ _ _ _ (c.requires.standing.searchable refl) (c.skip_rest.ensures.skipped c.if-skip_rest.true)
+
+pub returns-then-count_rest-clause-back : goal.returns-then-count_rest-clause-back
+returns-then-count_rest-clause-back g c _ until is =
+    let d = c.args.position.now in
+    falls_over c.args.first until d c.args.stack.now _ _ c.requires.standing
+    (over_below until d.puzzle d.trail c.args.stack.now.levels c.args.last.now c.args.first _ _ is
+    (c.count_rest.ensures.all c.if-count_rest.true) (grind arith))
+
+pub returns-then-count_rest-clause-back_pays : goal.returns-then-count_rest-clause-back_pays
+returns-then-count_rest-clause-back_pays g c _ _ =
+    pays_over _ _ _ _ (c.requires.standing.searchable refl) (grind arith)
 
 pub deepen-requires-clause-next : goal.deepen-requires-clause-next
 deepen-requires-clause-next g c =
@@ -26,7 +37,7 @@ deepen-requires-clause-next g c =
     early_next _ _ _ here.valid here.legal c.choose_early-next.ensures.choice
 
 -- where the last choice wasn't counted, as many are to be passed over
-as_many : (g : _) (c : After-choose_early-next g) → c.else-levels-last.more ≡ c.args.more.now
+as_many : (g : _) (c : After-choose_early-next g) → c.else-not-this.more ≡ c.args.more.now
 as_many g c = grind (arith)
 
 pub returns-in-Branch-clause-entered : goal.returns-in-Branch-clause-entered
@@ -72,6 +83,15 @@ returns-then-skip_rest-clause-moved g c _ far =
       arith,
       levels_moved d.puzzle d.trail c.args.stack.now.levels c.args.last.now c.requires.standing.stacked far
           (grind (arith, length-reverse)),
+    )
+
+pub returns-then-count_rest-clause-moved : goal.returns-then-count_rest-clause-moved
+returns-then-count_rest-clause-moved g c _ _ =
+    let d = c.args.position.now in
+    omega (
+      arith,
+      levels_moved d.puzzle d.trail c.args.stack.now.levels _ c.requires.standing.stacked
+          (λ _. c.count_rest.ensures.deep c.if-count_rest.true) (grind (arith, length-reverse)),
     )
 
 pub returns-else-more-eq0-clause-moved : goal.returns-else-more-eq0-clause-moved

@@ -1,7 +1,7 @@
 use Rattle.std.proofs.Common.{ℕ, ◌≡◌, ◌+◌, ◌<◌, true, false, not, refl, sym, ap, ◌∙◌, arith, inl, inr, List, Option}
 use Rattle.std.specs.Prelude.{nat_eq, option_map}
 use Rattle.std.proofs.lemmas.Bool.Decides.{nat_tests}
-use Rattle.xc_input.proofs.ListLemmas.{by_option}
+use Rattle.xc_input.proofs.ListLemmas.{by_bool, by_option}
 use Rattle.xc_search.specs.inner.Spanning.{BeginsBranch, IsRest, IsSeenBy}
 use Rattle.xc_search.proofs.BranchLemmas.{none_begun}
 use Rattle.xc_search.proofs.EndLemmas.{Pays-trans}
@@ -19,8 +19,11 @@ loop-at-init g c = record {
   stands = λ u _. stands_first c.fixed-task.result.first u _ _ _ c.requires.standing;
   rest = rw c.fixed-task.ensures (by_option c.args.task.until
       (λ e. rw e (rest_of_all c.args.position.now.puzzle c.args.stack.now.levels _ _))
-      (λ v e. first_rest _ _ _ _ _ c.requires.before (omega arith) (c.requires.all (rw e refl))));
-  far = λ _. omega arith;
+      (λ v e. first_rest _ _ _ _ _ c.requires.before (c.no_last-last.ensures.bound
+      (by_bool (not (nat_eq g.row.BOUND 0)) (λ is. is) (λ not. absurd (cc (e, c.requires.free not)))))
+      (c.requires.all (rw e refl))));
+  some_last = λ _. c.no_last-last.ensures.some;
+  far = λ is _. c.no_last-last.ensures.bound is;
   same = refl;
   some = λ is. elim c.else-this-ne0.either [
     | inl both ↦ omega (arith, both.1)
@@ -136,7 +139,8 @@ loop-at-preserved-else-steps-eq0-2 g c =
         | in_default w ↦ rw (← s.same, w.in_default.is)
             (rest_of_all c.commit_branch.new.self.puzzle c.enter_branch.new.stack.levels _ _)
       ];
-      far = λ h. absurd (omega (arith, h));
+      some_last = λ h. absurd (omega (arith, h));
+      far = λ _ h. absurd (omega (arith, h));
       same = s.same;
       some = λ _. omega (arith, c.if-steps-eq0-2.false);
       pays = λ one. Pays-trans (s.pays one) (rw c.commit_branch.ensures (c.enter_branch.ensures.entered_pays
@@ -155,7 +159,8 @@ loop-at-preserved g c =
       stands = λ u is. stands_more (s.stands u is) (begins g on u (rest g at u is));
       rest = rw (rw (← c.fixed-task.ensures) at c.requires.free free)
           (rest_of_all c.commit_branch.new.self.puzzle c.enter_branch.new.stack.levels _ _);
-      far = λ h. absurd (omega (arith, h));
+      some_last = λ h. absurd (omega (arith, h));
+      far = λ _ h. absurd (omega (arith, h));
       same = s.same;
       some = λ is. absurd (cc (is, free));
       pays = λ one. Pays-trans (s.pays one) (rw c.commit_branch.ensures (c.enter_branch.ensures.entered_pays
@@ -196,4 +201,4 @@ returns-then-steps-eq0-2-clause-ran g c = rw (← c.fixed-task.ensures) (λ u is
 pub returns-in-Nothing-clause-moved : goal.returns-in-Nothing-clause-moved
 returns-in-Nothing-clause-moved g c _ =
     let s = c.loop-at.invariant in
-    c.enter_branch.ensures.moved c.in-Nothing.is (λ none. s.far (none_begun (s.stands _ (inl refl)) none))
+    c.enter_branch.ensures.moved c.in-Nothing.is (λ none. s.some_last (none_begun (s.stands _ (inl refl)) none))

@@ -14,7 +14,8 @@ invariant-loop-at g l = record {
       l.initial.steps l.initial.position.puzzle l.initial.stack.levels → Stands l.first u
       l.initial.position l.initial.stack l.initial.more l.position l.stack l.more begun;
   rest : IsRest (option_map (λ u. u.now) l.initial.until) l.position.puzzle l.stack.levels l.last l.first;
-  far : begun ≡ 0 → 2 ^ 64 - 1 ≤ l.last;
+  some_last : begun ≡ 0 → 0 < l.last;
+  far : not (nat_eq g.row.BOUND 0) ≡ true → begun ≡ 0 → 2 ^ 64 - 1 ≤ l.last;
   same : l.until ≡ l.initial.until;
   some : not (nat_eq g.row.BOUND 0) ≡ true → 0 < l.steps;
   pays : l.first ≡ 1 → Pays l.initial.position l.initial.stack true l.initial.more l.position l.stack true l.more;

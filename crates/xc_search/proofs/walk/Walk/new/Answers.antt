@@ -34,3 +34,11 @@ returns-in_default-clause-right g c = each_member_covers c.args.problem.now.puzz
 
 pub returns-in_default-clause-complete : goal.returns-in_default-clause-complete
 returns-in_default-clause-complete g c = each_cover_is_listed_once c.args.problem.now.puzzle c.most_levels.ensures.valid
+
+pub returns-in_default-place_for_few-clause-right : goal.returns-in_default-place_for_few-clause-right
+returns-in_default-place_for_few-clause-right g c =
+    each_member_covers c.args.problem.now.puzzle c.most_levels.ensures.valid
+
+pub returns-in_default-place_for_few-clause-complete : goal.returns-in_default-place_for_few-clause-complete
+returns-in_default-place_for_few-clause-complete g c =
+    each_cover_is_listed_once c.args.problem.now.puzzle c.most_levels.ensures.valid
