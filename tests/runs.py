@@ -7,6 +7,8 @@ programs; without it they are taken from where the gate leaves them. Prints what
 is then 1.
 """
 import os
+import random
+import re
 import resource
 import subprocess
 import sys
@@ -236,6 +238,36 @@ def solvers() -> Iterator[str]:
         text = REPEATED[:length]
         yield from differs(f"dlx1 of {text!r}", run(["dlx1", "m1"], text), at_cut(CUT, length))
     yield from large()
+    yield from passed_over()
+
+
+def mixed(generator: random.Random) -> str:
+    """A problem of some ten items, of which two are secondary, with options that take up to three neighbours."""
+    primary = [f"p{i}" for i in range(generator.randint(6, 14))]
+    options = {(f"p{i}",) for i in range(len(primary))} if generator.random() < 0.7 else set()
+    while len(options) < 3 * len(primary):
+        at, many = generator.randrange(len(primary)), generator.randint(1, 3)
+        options.add((*primary[at : at + many], *generator.sample(["s", "t"], generator.choice([0, 0, 0, 1]))))
+    lines = [" ".join(option) for option in sorted(options)]
+    generator.shuffle(lines)
+    return f"{' '.join(primary)} | s t\n" + "\n".join(lines) + "\n"
+
+
+def passed_over() -> Iterator[str]:
+    """What a run prints of solutions that it mostly passes over, beside the listing, which is made by moves alone."""
+    generator = random.Random(64)
+    for problem in [queens(6), queens(8), *(mixed(generator) for _ in range(30))]:
+        listing = run(["dlx1", "m1"], problem)
+        # The number of a solution is on a line of its own.
+        members = re.findall(r"[0-9]+:\n(?: [^\n]*\n)*", listing.output)
+        for spacing, limit in [(2, 5), (3, len(members)), (7, 10**6), (10**6, 10**6), (len(members) or 1, 10**6)]:
+            reached = min(limit, len(members))
+            output = "".join(members[spacing - 1 : reached : spacing])
+            plural = "" if reached == 1 else "s"
+            message = f"Altogether {reached} solution{plural}{' (limit)' * (reached == limit)}.\n"
+            found = run(["dlx1", f"m{spacing}", f"t{max(limit, 1)}"], problem)
+            if limit:
+                yield from differs(f"dlx1 m{spacing} t{limit} of {problem!r}", found, Answer(0, output, message))
 
 
 def large() -> Iterator[str]:
