@@ -167,6 +167,14 @@ tells 'There are fewer than 100000000000000000000 solutions.' dlx_count 3 b0 n10
 A
 A
 END
+tells 'There are no solutions.' dlx_count 1 n1 <<'END'
+A B
+A
+END
+tells 'There are fewer than 2 solutions.' dlx_count 1 n2 <<'END'
+A B
+A
+END
 tells 'Option ignored (no primary items): line 2
 Altogether 1 solution.' dlx_count 2 b0 o <<'END'
 A | x

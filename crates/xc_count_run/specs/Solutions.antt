@@ -1,5 +1,5 @@
 -- What is printed of the solution of a number.
-use Rattle.std.specs.Prelude.{◌⊎◌, ℕ, List, ◌++◌, MatchOption, codes, flat_map}
+use Rattle.std.specs.Prelude.{◌⊎◌, ℕ, ◌==◌, List, ◌++◌, MatchOption, codes, flat_map, if◌then◌else◌}
 use Rattle.natural.specs.Numerals.{numeral}
 use Rattle.xc_input.specs.Named.{Named}
 use Rattle.xc_input.specs.Problem.{numbered_get}
@@ -12,9 +12,11 @@ use Rattle.xc_tools.specs.WholeRuns.{Sinks, IsRefused, Prints}
 abbrev pub numbered_text : Named → ℕ → List Choice → List ℕ
 numbered_text a n m = numeral n ++ codes ":\n" ++ flat_map (choice_text a) m
 
--- the line where there is no solution of this number
+-- the line where there is no solution of this number, from 1
 abbrev pub fewer_text : ℕ → List ℕ
-fewer_text n = codes "There are fewer than " ++ numeral n ++ codes " solutions.\n"
+fewer_text n =
+    if n == 1 then codes "There are no solutions.\n"
+    else (codes "There are fewer than " ++ numeral n ++ codes " solutions.\n")
 
 -- What printing the solution of a number did, by the status. 0: it was printed; 3: or it couldn't be. 5: there are
 -- fewer. 4: there was no memory.

@@ -1,6 +1,8 @@
 //! What is reported of a count.
-ghost use Rattle.std.specs.Prelude.{◌≡◌, ◌==◌, ℕ, IfOk, codes, if◌then◌else◌};
+ghost use Rattle.std.specs.Prelude.{◌≡◌, ◌==◌, ◌++◌, ℕ, IfOk, codes, if◌then◌else◌};
+ghost use Rattle.natural.specs.Numerals.{numeral};
 ghost use Rattle.xc_count_run.specs.LastLine.{count_text};
+ghost use Rattle.xc_count_run.specs.Solutions.{fewer_text};
 
 use natural::Natural;
 use std::alloc::{AllocError, Global};
@@ -25,4 +27,30 @@ pub fn count_line(alloc: Global, count: &Natural) -> Result<Vec<u8>, AllocError>
     count.write_decimal(&mut line)?;
     line.extend_from_slice(tail(is_one))?;
     Ok(line)
+}
+
+/// A number between two texts.
+pub fn line_of(
+    alloc: Global,
+    before: &[u8],
+    number: &Natural,
+    after: &[u8],
+) -> Result<Vec<u8>, AllocError>
+    ensures { IfOk result (λ line. line.items ≡ before.now ++ numeral number.now ++ after.now) }
+{
+    let mut line = Vec::from_slice(alloc, before)?;
+    number.write_decimal(&mut line)?;
+    line.extend_from_slice(after)?;
+    Ok(line)
+}
+
+/// The line where there is no solution of a number.
+pub fn fewer_line(alloc: Global, number: &Natural) -> Result<Vec<u8>, AllocError>
+    ensures { IfOk result (λ line. line.items ≡ fewer_text number.now) }
+{
+    if *number == Natural::from_u64(alloc, 1) {
+        Vec::from_slice(alloc, b"There are no solutions.\n")
+    } else {
+        line_of(alloc, b"There are fewer than ", number, b" solutions.\n")
+    }
 }

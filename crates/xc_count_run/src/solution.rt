@@ -1,16 +1,16 @@
 //! The solution of a number is printed.
-ghost use Rattle.std.specs.Prelude.{◌≡◌, ◌⊎◌, ◌++◌, All, IfOk, codes, flat_map};
+ghost use Rattle.std.specs.Prelude.{◌≡◌, ◌⊎◌, ◌++◌, All, codes, flat_map};
 ghost use Rattle.std.specs.Str.Parse.{digits_value};
-ghost use Rattle.natural.specs.Numerals.{numeral};
 ghost use Rattle.xc_streams.specs.Texts.{WasTold, Writes};
 ghost use Rattle.xc_list.specs.Output.{choice_text};
 ghost use Rattle.xc_list.specs.Known.{IsKnownChoice};
 ghost use Rattle.xc_tools.specs.WholeRuns.{sinks, Prints};
 ghost use Rattle.xc_count_run.specs.Solutions.{DidFind, fewer_text};
 
+use crate::messages::{fewer_line, line_of};
 use crate::running::refuse;
 use natural::{Natural, parse};
-use std::alloc::{AllocError, Global};
+use std::alloc::Global;
 use xc_count::nth;
 use xc_input::Problem;
 use xc_list::{Sink, SinkFault, write_all, write_choices};
@@ -22,27 +22,12 @@ const COMPLETE: u8 = 0;
 /// There are fewer solutions.
 const FEWER: u8 = 5;
 
-/// A number between two texts.
-fn line_of(
-    alloc: Global,
-    before: &[u8],
-    number: &Natural,
-    after: &[u8],
-) -> Result<Vec<u8>, AllocError>
-    ensures { IfOk result (λ line. line.items ≡ before.now ++ numeral number.now ++ after.now) }
-{
-    let mut line = Vec::from_slice(alloc, before)?;
-    number.write_decimal(&mut line)?;
-    line.extend_from_slice(after)?;
-    Ok(line)
-}
-
 /// Reports that there are fewer solutions, as far as that goes, and returns its status; or that memory is out.
 fn tell_fewer<E: Sink>(alloc: Global, number: &Natural, err: &mut E) -> u8
     ensures { ((result ≡ 5) × WasTold (E.state err.old) (E.state err.new) (fewer_text number.now))
         ⊎ ((result ≡ 4) × WasTold (E.state err.old) (E.state err.new) (codes "Out of memory.\n")) }
 {
-    let Ok(line) = line_of(alloc, b"There are fewer than ", number, b" solutions.\n") else {
+    let Ok(line) = fewer_line(alloc, number) else {
         return out_of_memory(err);
     };
     refuse(FEWER, line.as_slice(), err)
