@@ -6,6 +6,7 @@ mod keepers;
 
 // What is there for callers.
 mod callers;
+mod places;
 
 // Memory, ample and scarce.
 mod memory;
