@@ -90,7 +90,8 @@ names: ## print the names that mean two things
 	@scripts/names
 
 # The tables of docs/BENCH.md, and what each form that was decided by speed gains. They need gcc, valgrind and Python.
-# WORDS are for the scripts, as `make bench WORDS='--page docs/BENCH.md --core 3'`.
+# WORDS are for the scripts: `make bench WORDS='--page docs/BENCH.md --core 3'` writes that page, and
+# `make bench-forms WORDS=--page` scripts/bench/FORMS.md with its rows in BENCH.
 bench: ## print the tables of docs/BENCH.md
 	@scripts/bench/tables.py $(WORDS)
 bench-forms: ## count what each form that was chosen for speed gains

@@ -1,5 +1,5 @@
 #!/usr/bin/env python3
-"""forms.py [--check] [--page PAGE] [NAME..]: what each form that was decided by speed gains today.
+"""forms.py [--check] [--page] [NAME..]: what each form that was decided by speed gains today.
 
 forms.edits has for each, after a line `# NAME`, the road not taken, in the format of must-fail/: `file:`, `old:`, a
 text that stands there once, and `new:`. Here several lines `old:` or `new:` in a row are a text of so many lines. In
@@ -8,8 +8,9 @@ counted on. Each edit is planted in a copy, which is built without proofs and co
 instructions of the code as it stands to those with the edit, the geometric mean over the set: below 1 the form gains,
 and from 0.995 to 1.005 it could go. Both have to end with the same last line. Builds and counts are kept in
 scripts/bench/out by the checksums of what they are made of, so after a run that was broken off only the rest is made.
---check only looks whether each file is there and has the old text once, which is looked at first in any case. --page
-puts the table in the place of that with the same head in a page.
+--page puts the table into FORMS.md, and the rows that docs/BENCH.md has of it into that page. --check only looks
+whether each file is there and has the old text once, which is looked at first in any case, and whether FORMS.md has
+each row of docs/BENCH.md.
 """
 
 from __future__ import annotations
@@ -23,11 +24,12 @@ from pathlib import Path
 from typing import NamedTuple
 
 from instructions import OUT, SETS, Run, ending, mean, taken
-from page import put
+from page import put, table
 from unproved import built, crates_of
 
 HERE = Path(__file__).resolve().parent
 TOP = HERE.parent.parent
+WHOLE, SOME = HERE / "FORMS.md", TOP / "docs" / "BENCH.md"
 HEAD = "| Form | Instead | Where | Counted on | Ratio |"
 LINE = re.compile(r"(# (?:form|instead|set)|file|old|new):(?: (.*))?")
 NAMED = re.compile(r"(?m)^ *(?:pub(?:\(crate\))? )?(?:const )?(?:fn|struct|enum|impl|trait|const) +(\w+)")
@@ -131,6 +133,18 @@ def ratio(form: Form) -> float:
     return mean(ratios)
 
 
+def row_of(row: str) -> tuple[str, str, str]:
+    """What a row of the table is about, whatever the place and the ratio are."""
+    form, instead, _, counted, _ = row.strip("| ").split(" | ")
+    return form, instead, counted
+
+
+def renewed(rows: list[str], made: list[str]) -> list[str]:
+    """Some rows, in their order, as they were made anew; those that no form has any more are dropped."""
+    anew = {row_of(it): it for it in made}
+    return [anew[row_of(it)] for it in rows if row_of(it) in anew]
+
+
 def told(runs: list[Run]) -> str:
     return ", ".join(f"{it.problem}" + (" `m1`" if it.less else "") for it in runs)
 
@@ -138,11 +152,20 @@ def told(runs: list[Run]) -> str:
 def main() -> None:
     parser = argparse.ArgumentParser(description=__doc__, formatter_class=argparse.RawDescriptionHelpFormatter)
     parser.add_argument("--check", action="store_true")
-    parser.add_argument("--page")
+    parser.add_argument("--page", action="store_true")
     parser.add_argument("name", nargs="*")
     given = parser.parse_args()
-    forms = [it for it in read_all() if not given.name or it.name in given.name]
-    if (faults := stale(forms)) or given.check:
+    forms = read_all()
+    if strange := set(given.name) - {it.name for it in forms}:
+        parser.error(f"forms.edits has no {', '.join(sorted(strange))}")
+    if given.name and given.page:
+        parser.error("the page is of all forms")
+    forms = [it for it in forms if not given.name or it.name in given.name]
+    faults = stale(forms)
+    if given.check:
+        whole = table(WHOLE, HEAD)
+        faults += [f"FORMS.md has no such row as BENCH.md: {it}" for it in table(SOME, HEAD) if it not in whole]
+    if faults or given.check:
         sys.exit("\n".join(faults) or 0)
     lines, failed = [HEAD, "|---|---|---|---|---|"], 0
     print("\n".join(lines), flush=True)
@@ -159,7 +182,8 @@ def main() -> None:
     for name in sorted({it.set for it in forms}):
         print(f"{name}: {told(SETS[name])}", file=sys.stderr)
     if given.page and not failed:
-        put(given.page, lines)
+        put(WHOLE, lines)
+        put(SOME, lines[:2] + renewed(table(SOME, HEAD)[2:], lines[2:]))
     sys.exit(failed > 0)
 
 
