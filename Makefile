@@ -157,8 +157,7 @@ install: checked install-lib ## install under PREFIX, in DESTDIR
 	install -D -m 644 release/completion.fish "$(DESTDIR)$(fishdir)/dlx1.fish"
 	for command in $(COMMANDS:dlx1=); do ln -sfn dlx1.fish "$(DESTDIR)$(fishdir)/$$command.fish" || exit 1; done
 	$(call copy,docs examples CHANGELOG.md python/README.md,$(DESTDIR)$(docdir))
-	cd release && $(call copy,README.md,$(DESTDIR)$(docdir))
-	sed -i '1s/$$/ $(VERSION)/' "$(DESTDIR)$(docdir)/README.md"
+	sh release/readme.sh $(VERSION) >"$(DESTDIR)$(docdir)/README.md" && chmod 644 "$(DESTDIR)$(docdir)/README.md"
 	cd python && $(call copy,helgrothy,$(DESTDIR)$(pythondir))
 
 install-lib: checked

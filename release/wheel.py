@@ -70,6 +70,13 @@ def programs(version):
     return files
 
 
+def description():
+    """README's first words, and what it says of limits, what the programs need, and the licence."""
+    first, *sections = read("README.md").decode().split("\n## ")
+    limits = next(it for it in sections if it.startswith("Limits"))
+    return "\n\n".join([*first.split("\n\n")[:2], *limits.strip().split("\n", 1)[1:]]) + "\n"
+
+
 def record(files, path):
     lines = []
     for name, content in files.items():
@@ -83,9 +90,7 @@ def main():
     executable = programs(version)
     files = dict(sorted({**package(), **executable}.items()))
     about = f"helgrothy-{version}.dist-info"
-    # What it is, and what it means that there is no licence.
-    description = "\n\n".join(read("release/README.md").decode().split("\n\n")[:3]) + "\n"
-    files[f"{about}/METADATA"] = METADATA.format(version=version, description=description).encode()
+    files[f"{about}/METADATA"] = METADATA.format(version=version, description=description()).encode()
     files[f"{about}/WHEEL"] = WHEEL.encode()
     files[f"{about}/RECORD"] = record(files, f"{about}/RECORD").encode()
 

@@ -289,7 +289,8 @@ class Packed(Tree):
         super().setUp()
         for name in ("docs", "examples", "man", "release", "python/helgrothy"):
             shutil.copytree(TOP / name, self.top / name, ignore=shutil.ignore_patterns("*.pyc"))
-        for name in ("CHANGELOG.md", ".gitignore", "python/README.md", "python/pyproject.toml", "bindings/c/helgrothy.h"):
+        python, pages = ("python/README.md", "python/pyproject.toml"), ("README.md", "CHANGELOG.md", ".gitignore")
+        for name in (*pages, *python, "bindings/c/helgrothy.h"):
             (self.top / name).parent.mkdir(parents=True, exist_ok=True)
             shutil.copy(TOP / name, self.top / name)
         # These name the version.
@@ -324,6 +325,10 @@ class Packed(Tree):
         self.assertEqual((ran.returncode, ran.stderr), (0, ""))
         for name in PROGRAMS:
             self.assertTrue(os.access(self.top / "to" / "bin" / name.replace("_", "-"), os.X_OK))
+        readme = (self.top / "to" / "share" / "doc" / "helgrothy" / "README.md").read_text()
+        self.assertTrue(readme.startswith(f"# Helgrothy {(self.top / 'VERSION').read_text()}"))
+        self.assertIn((self.top / "release" / "install.md").read_text(), readme)
+        self.assertNotIn("make all", readme)
 
     def test_a_program_of_other_sources_is_neither_installed_nor_packed(self) -> None:
         (self.top / "crates" / "xc_list" / "src" / "lib.rt").write_text("another")

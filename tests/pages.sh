@@ -18,8 +18,9 @@ for page; do
     (cd "$folder" && sh "$guide" "$plain") || differ=1
 done
 cd "$folder"
-# The page of a release is in the repository too, whose folder has all that a release has; a release has no crates.
-[ ! -e release/README.md ] || sh "$guide" release/README.md || differ=1
+# The repository's folder has all that a release has, so that one's README is tried too. A release has no crates.
+[ ! -e release/readme.sh ] ||
+    { sh release/readme.sh 0 >"$unpacked/README.md" && sh "$guide" "$unpacked/README.md"; } || differ=1
 [ ! -e crates.txt ] || sh "$guide" docs/CALLING.md || differ=1
 for page in README.md docs/GUIDE.md docs/MODELS.md docs/ENDLESS.md docs/LONG.md docs/COUNT.md docs/kinds/*.md; do
     sh "$guide" "$page" || differ=1
