@@ -29,7 +29,7 @@ _ANSWER = re.compile(r"(?:[c%] )?Answer: [0-9]+\Z|ANSWER\Z")
 _STATUS = re.compile(r"(?:s )?((?:UN)?SATISFIABLE|OPTIMUM FOUND|UNKNOWN|INCONSISTENT)\Z")
 _NONE = ("UNSATISFIABLE", "INCONSISTENT")
 # How the lines begin that say nothing of an answer.
-_TOLD = {
+_OTHERS = {
     "cadical": re.compile(r"c(?: |\Z)"),
     "clasp": re.compile(
         r"[c%o](?: |\Z)|clasp version |Reading from |Solving\.\.\.|Optimization\b|COST |Progression\b|Bounds\b|"
@@ -38,7 +38,7 @@ _TOLD = {
     ),
 }
 # Either of these two, for `solutions`: clasp prints lines of both kinds.
-ANY = " or ".join(_TOLD)
+ANY = " or ".join(_OTHERS)
 # What an answer without values may have been made without.
 _HINTS = {
     "cadical": "without -n it prints the values",
@@ -104,7 +104,7 @@ class _OfLogic(Reader):
 
     def __init__(self, solver: str, problem: Problem[Any]) -> None:
         super().__init__(solver, problem)
-        self._told = _TOLD["clasp" if solver == ANY else solver]
+        self._others = _OTHERS["clasp" if solver == ANY else solver]
         self._status: str | None = None
         self._has_answer = False
         # The variables of an answer that isn't at its end, and whether the line before said that one follows.
@@ -130,7 +130,7 @@ class _OfLogic(Reader):
             self._follows = True
         elif self._solver != "cadical" and (words and all(map(_ATOM.match, words)) or follows and not words):
             yield self._atoms(words)
-        elif words and not self._told.match(line):
+        elif words and not self._others.match(line):
             raise AnswerFault(number, line[:60], f"no line of an answer of {self._solver}")
 
     def end(self) -> Iterator[list[int]]:
@@ -279,7 +279,7 @@ class _OfHighs(_OfPrograms):
 
 
 _READERS: dict[str, Callable[[str, Problem[Any]], Reader]] = {"cbc": _OfCbc, "glpsol": _OfGlpsol, "highs": _OfHighs}
-SOLVERS = (*_TOLD, *_READERS)
+SOLVERS = (*_OTHERS, *_READERS)
 # How the files begin that glpsol and HiGHS write.
 _FIRST = {"c Problem:": "glpsol", "Model status": "highs"}
 
@@ -296,4 +296,4 @@ def begins(line: bytes) -> str | None:
         return "cbc"
     if words[:1] == ["v"] or words and all(map(_ATOM.match, words)):
         return ANY
-    return ANY if any(form.match(text) for form in (_STATUS, _ANSWER, *_TOLD.values())) else None
+    return ANY if any(form.match(text) for form in (_STATUS, _ANSWER, *_OTHERS.values())) else None

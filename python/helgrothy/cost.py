@@ -122,13 +122,13 @@ def least(
     problem: Problem[Option],
     costs: Sequence[Cost],
     seconds: float | None = None,
-    tell: Callable[[str], object] = lambda line: None,
+    say: Callable[[str], object] = lambda line: None,
     hint: Callable[[str], bool] = lambda line: False,
     report: Hear = unheard,
 ) -> Least[Option] | None:
     """The solution of least cost, as dlxcheck judges it to be one; None where there is no solution.
 
-    costs: of each option in their order. tell and hint: as `engines.solve` takes them. report: is told what is at work,
+    costs: of each option in their order. say and hint: as `engines.solve` takes them. report: gets what is at work,
     and the least cost so far. Raises `NotLeast`, also without seconds where `MOST_SECONDS` are over and a solution was
     found; `ValueError` for another number of costs; and `engines.Claimed` where an engine reports that there is no
     solution, and the program doesn't show that soon.
@@ -138,7 +138,7 @@ def least(
         raise ValueError(f"{len(costs)} costs, and the problem has {len(problem.options)} options")
     exact = [Fraction(str(cost)) if isinstance(cost, float) else Fraction(cost) for cost in costs]
     unit = math.lcm(1, *(cost.denominator for cost in exact))
-    with closing(_Search(problem, exact, [int(cost * unit) for cost in exact], deadline, tell, hint, report)) as search:
+    with closing(_Search(problem, exact, [int(cost * unit) for cost in exact], deadline, say, hint, report)) as search:
         return search.least()
 
 
@@ -162,7 +162,7 @@ class _Search(Generic[Option]):
         exact: Sequence[Fraction],
         costs: Sequence[int],
         deadline: float | None,
-        tell: Callable[[str], object],
+        say: Callable[[str], object],
         hint: Callable[[str], bool],
         report: Hear,
     ) -> None:
@@ -171,10 +171,10 @@ class _Search(Generic[Option]):
         self._exact = exact
         self._costs = costs
         self._deadline = deadline
-        self._tell = tell
+        self._say = say
         self._begun = self._looked = time.monotonic()
         self._reasoning = _Reasoning(problem, costs)
-        self._engines = _Engines(problem, costs, deadline, tell, hint)
+        self._engines = _Engines(problem, costs, deadline, say, hint)
         self._report = report
         self._found: Least[Option] | None = None
         # Whether dlxcheck has judged it to be a solution.
@@ -207,7 +207,7 @@ class _Search(Generic[Option]):
         except OutOfTime:
             self._hear(is_last=True)
             self._check()
-            self._engines.help(self.best, self._tell)
+            self._engines.help(self.best, self._say)
             raise NotLeast(self._found) from None
         self._check()
         if self._found is not None:
@@ -320,19 +320,19 @@ class _Engines:
         problem: Problem[Any],
         costs: Sequence[int],
         deadline: float | None,
-        tell: Callable[[str], object],
+        say: Callable[[str], object],
         hint: Callable[[str], bool],
     ) -> None:
         self._problem = problem
         self._costs = costs
-        self._tell = tell
+        self._say = say
         self._hint = hint
         self._begun = self._last = time.monotonic()
         self._has_deadline = deadline is not None
         self._deadline = self._begun + sat_solver.MOST_SECONDS if deadline is None else deadline
         self._waiting: list[Engine] | None = None
         self._at_work: list[Optimiser] = []
-        self._has_any = self._is_helped = self._is_told = False
+        self._has_any = self._is_helped = self._is_shown = False
         # When a solution was judged last, and how long that took.
         self._judged, self._judging = 0.0, 0.0
         self.claim: _Claim | None = None
@@ -369,7 +369,7 @@ class _Engines:
                     self._end(engine, best)
             except NoAnswer as error:
                 self._drop(engine)
-                self._tell(f"{error}; dlx3 goes on")
+                self._say(f"{error}; dlx3 goes on")
         return cheapest
 
     def doubt(self, best: int) -> None:
@@ -377,7 +377,7 @@ class _Engines:
         claim = self.claim
         if claim is not None and (claim.cost is None or claim.cost > best):
             self.claim = None
-            self._tell(f"{_wrong(claim.name, claim.cost is None)}; dlx3 goes on")
+            self._say(f"{_wrong(claim.name, claim.cost is None)}; dlx3 goes on")
 
     def _begin(self, now: float) -> None:
         """Begins one, where it is time for it."""
@@ -390,7 +390,7 @@ class _Engines:
             engine, *self._waiting = self._waiting
             left = self._deadline - now
             if sat_solver.writing_seconds(self._problem) > min(left / 2, _MOST_WRITING):
-                self._tell(f"the problem is too large for {engine.name} here; dlx3 goes on")
+                self._say(f"the problem is too large for {engine.name} here; dlx3 goes on")
             else:
                 self._at_work.append(Optimiser(engine, self._problem, self._costs, left))
             self._last = time.monotonic()
@@ -421,15 +421,15 @@ class _Engines:
         engine.end()
         self._at_work.remove(engine)
 
-    def help(self, best: int | None, tell: Callable[[str], object] | None = None) -> None:
+    def help(self, best: int | None, say: Callable[[str], object] | None = None) -> None:
         """Says which engines may find a solution, where the path has none: once, soon, or else at the end."""
         if best is None and not self._has_any and time.monotonic() - self._begun > _LONG_SECONDS:
             line = sat_solver.missing("clasp", "cbc")
-            if tell is not None and not self._is_told:
-                tell(line)
+            if say is not None and not self._is_shown:
+                say(line)
             elif not self._is_helped:
                 self._is_helped = True
-                self._is_told = self._hint(line)
+                self._is_shown = self._hint(line)
 
 
 def _wrong(name: str, is_none: bool) -> str:

@@ -109,14 +109,14 @@ class Json(Data):
 
     def solution(self, number: int, places: Sequence[int]) -> str:
         uses = [self._named(place) for place in places]
-        told = {
+        fields = {
             "number": number,
             "options": [place + 1 for place in places],
             "items": [list(option) for option in uses],
             # Options of one solution agree about the colour of an item.
             "colours": {item: colour for option in uses for item, colour in option.items() if colour is not None},
         }
-        return f"{json.dumps(told)}\n"
+        return f"{json.dumps(fields)}\n"
 
     def chances(self, total: int, times: Sequence[int]) -> str:
         return f"{json.dumps({'solutions': total, 'occurrences': list(times)})}\n"
@@ -185,8 +185,8 @@ class _JsonTable(_Table):
 
     def _rows(self, number: int, rows: Sequence[Row]) -> str:
         columns = list(map(to_json, self._sheet.columns))
-        told = [dict(zip(columns, (to_json(cell) if isinstance(cell, str) else cell for cell in row))) for row in rows]
-        return f"{json.dumps({'number': number, self._sheet.name: told})}\n"
+        found = [dict(zip(columns, (to_json(cell) if isinstance(cell, str) else cell for cell in row))) for row in rows]
+        return f"{json.dumps({'number': number, self._sheet.name: found})}\n"
 
 
 class _CsvTable(_Table):

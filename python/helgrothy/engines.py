@@ -58,20 +58,20 @@ class Claimed(HelgrothyError):
 def solve(
     problem: Problem[Option],
     seconds: float | None = None,
-    tell: Callable[[str], object] = lambda line: None,
+    say: Callable[[str], object] = lambda line: None,
     hint: Callable[[str], bool] = lambda line: False,
     report: Hear = unheard,
 ) -> Solutions[Option]:
     """One solution, whoever finds it.
 
-    tell: gets a line that says who found it, where that is an engine, and what an engine did wrong. hint: gets one,
+    say: gets a line that says who found it, where that is an engine, and what an engine did wrong. hint: gets one,
     once, that says which engine may find a solution, where none was found soon and the path has none, and says whether
-    it was shown; where it wasn't, `tell` gets it at the end of the time. report: is told what is at work. Raises what
+    it was shown; where it wasn't, `say` gets it at the end of the time. report: gets what is at work. Raises what
     `Problem.solve` does, and `Claimed`.
     """
 
     def begin(outcome: Outcome) -> Generator[Solution[Option], None, None]:
-        with _Beside(problem, seconds, tell, hint, report) as beside:
+        with _Beside(problem, seconds, say, hint, report) as beside:
             try:
                 with problem._search(limit=1, seconds=seconds, meanwhile=beside.look) as solutions:
                     yield from solutions
@@ -101,12 +101,12 @@ class _Beside:
         self,
         problem: Problem[Any],
         seconds: float | None,
-        tell: Callable[[str], object],
+        say: Callable[[str], object],
         hint: Callable[[str], bool],
         report: Hear,
     ) -> None:
         self._problem = problem
-        self._tell = tell
+        self._say = say
         self._hint = hint
         self._report = report
         self._program = f"dlx{problem.kind}"
@@ -147,7 +147,7 @@ class _Beside:
         """Says which engine may find a solution, where the path has none and it wasn't said."""
         if not self._has_engines and not self._is_over and self._passed() > _ALONE_SECONDS:
             self._is_over = True
-            self._tell(sat_solver.missing(sat_solver.in_order(self._problem)[0]))
+            self._say(sat_solver.missing(sat_solver.in_order(self._problem)[0]))
 
     @property
     def names(self) -> str:
@@ -171,7 +171,7 @@ class _Beside:
             self._is_over = not self._at_work
             self._waiting = []
             if self._is_over:
-                self._tell(f"no solution yet; the problem is too large for {engine.name} here; {_ORDER}")
+                self._say(f"no solution yet; the problem is too large for {engine.name} here; {_ORDER}")
             return
         turn = _Turn(Asked(engine, self._problem, sat_solver.text(engine, self._problem)))
         self._at_work.append(turn)
@@ -181,9 +181,9 @@ class _Beside:
         else:
             run.pause()
         self._names.append(engine.name)
-        self._tell_at_work()
+        self._report_at_work()
 
-    def _tell_at_work(self) -> None:
+    def _report_at_work(self) -> None:
         self._report(at_work=[self._program, *(turn.asked.name for turn in self._at_work)])
 
     def _look_at(self, turn: _Turn, run: Run) -> None:
@@ -198,16 +198,16 @@ class _Beside:
         except NoAnswer as error:
             asked.__exit__()
             self._at_work.remove(turn)
-            self._tell_at_work()
+            self._report_at_work()
             run.go_on()
-            self._tell(f"{error}; {self._program} goes on")
+            self._say(f"{error}; {self._program} goes on")
 
     def _end(self, name: str, numbers: list[int] | None) -> None:
         if numbers is None:
             raise Claimed(name, self._program)
         sat_solver.judge(name, self._problem, [self._problem.options[number] for number in numbers])
         found = f"{name} found a solution, and dlxcheck judges it to be one"
-        self._tell(f"{found}; {self._program} had none in {self._passed():.2g} seconds")
+        self._say(f"{found}; {self._program} had none in {self._passed():.2g} seconds")
         raise _Answered(numbers)
 
 

@@ -14,7 +14,7 @@ from ._run.solution import Solution
 from ._run.stream import Solutions
 from ._run.wire import OfNumbers
 from ._text.listing import Null, Step
-from ._text.named import Named, told
+from ._text.named import Named, in_words
 from .errors import ProblemFault
 from .problem import Problem
 
@@ -38,7 +38,7 @@ def given(problem: Problem[Any], options: Iterable[Which], word: str = "given", 
     found = []
     for text, places in _found(problem, options, word, by_names):
         if len({problem.line(problem.options[place]) for place in places}) > 1:
-            reason = f"{len(places)} options have this, name more items of one: {told(problem, places)}"
+            reason = f"{len(places)} options have this, name more items of one: {in_words(problem, places)}"
             raise ValueError(f"{word} {text}: {reason}")
         if len(places) > 1:
             raise ValueError(f"{word} {text}: the options {' '.join(map(str, places))} are equal; a number says one")
@@ -166,7 +166,7 @@ class Given(Generic[Option]):
         """A solution of what is searched as one of the problem."""
         return solution if self.inner is self.problem else Solution(self._reader, solution)
 
-    def told(self, lines: Iterable[str]) -> Iterator[str]:
+    def explained(self, lines: Iterable[str]) -> Iterator[str]:
         """Lines on what is searched, and what the items in them are that stand for options which are given."""
         words: set[str] = set()
         for line in lines:
@@ -211,12 +211,12 @@ class _Outer(OfNumbers[Any]):
         super().__init__(problem, nulls)
         self._places = places
 
-    def choices(self, told: Any) -> list[Any]:
-        numbers = iter(told.numbers)
-        return [choice if isinstance(choice, Null) else self._places[next(numbers)] for choice in told]
+    def choices(self, given: Any) -> list[Any]:
+        numbers = iter(given.numbers)
+        return [choice if isinstance(choice, Null) else self._places[next(numbers)] for choice in given]
 
-    def steps(self, told: Any) -> list[Step]:
+    def steps(self, given: Any) -> list[Step]:
         return [
             Step(step.item, None if step.option is None else self._places[step.option], step.branch, step.branches)
-            for step in told.steps
+            for step in given.steps
         ]

@@ -21,7 +21,7 @@ __all__ = ["Hint", "NoHint", "find", "lines"]
 
 # Items with so many options left are tried, and a choice is followed for so many forced steps; so many choices that
 # rule an item's options out are shown.
-_MOST_TRIED, _MOST_STEPS, _MOST_TOLD = 3, 12, 4
+_MOST_TRIED, _MOST_STEPS, _MOST_NAMED = 3, 12, 4
 _LONGEST = 60
 
 
@@ -157,8 +157,8 @@ class _State:
     def why_stuck(self, item: Hashable) -> str:
         """Why an item can't be held."""
         name, left = self.problem.name(item), len(self.left(item))
-        told = "no option left" if not left else f"{_options(left)} left and asks for {self.need(item)}"
-        return f"{name} has {told}{self.ruled_out(item)}"
+        left_to_it = "no option left" if not left else f"{_options(left)} left and asks for {self.need(item)}"
+        return f"{name} has {left_to_it}{self.ruled_out(item)}"
 
     def ruled_out(self, item: Hashable) -> str:
         """What ruled out other options of an item."""
@@ -166,10 +166,10 @@ class _State:
         if not others:
             return ""
         times = Counter(self._killer[place][0] for place in others if place in self._killer)
-        by = [self.line(place) for place, _ in times.most_common(_MOST_TOLD)]
+        by = [self.line(place) for place, _ in times.most_common(_MOST_NAMED)]
         if any(place in self._gone for place in others):
             by.append("what is forbidden")
-        more = f"; and {len(times) - _MOST_TOLD} more" if len(times) > _MOST_TOLD else ""
+        more = f"; and {len(times) - _MOST_NAMED} more" if len(times) > _MOST_NAMED else ""
         return f": {_options(len(others))} ruled out by {'; '.join(by)}{more}"
 
 
@@ -183,8 +183,8 @@ def _single(state: _State) -> Hint | None:
         forced = state.forced(item)
         if forced:
             name, need = state.problem.name(item), state.need(item)
-            told = "has one option left" if need == 1 else f"asks for {need} more, and has as many options left"
-            return Hint(forced[0], [f"{name} {told}{state.ruled_out(item)}"])
+            why = "has one option left" if need == 1 else f"asks for {need} more, and has as many options left"
+            return Hint(forced[0], [f"{name} {why}{state.ruled_out(item)}"])
     return None
 
 
@@ -203,8 +203,8 @@ def _by_trying(state: _State, deadline: float) -> Hint | None:
         open_ones = [place for place in left if ends[place] is None]
         if not open_ones:
             reasons = [f"{state.line(place)}: {ends[place]}" for place in left]
-            told = f"there is no solution: each option of {state.problem.name(item)} fails"
-            raise NoHint("\n".join([told, *reasons]))
+            first = f"there is no solution: each option of {state.problem.name(item)} fails"
+            raise NoHint("\n".join([first, *reasons]))
         if len(open_ones) == 1:
             reasons = [f"{state.line(place)}: then {ends[place]}" for place in left if ends[place] is not None]
             return Hint(open_ones[0], [f"{state.problem.name(item)} has no other option that works", *reasons])

@@ -42,7 +42,7 @@ def lint(
     kind: int = 3,
     seconds: float = 1.0,
     searching: float = 0.0,
-    tell: Callable[[str], object] = lambda line: None,
+    say: Callable[[str], object] = lambda line: None,
 ) -> list[Remark]:
     """All remarks on the text of a problem for dlx`kind`, in the order of its lines. Of bytes it raises nothing.
 
@@ -50,7 +50,7 @@ def lint(
     isn't read on, and of each kind of slip a thousand are reported.
 
     searching: whether there is a solution is searched so many seconds, by the programs and by another engine where the
-        path has one. tell: gets a line that says what that did wrong.
+        path has one. say: gets a line that says what that did wrong.
     """
     if not isinstance(text, (bytes, bytearray)):
         right = "lint(problem.text.encode())" if isinstance(text, Problem) else "lint(text.encode())"
@@ -74,14 +74,14 @@ def lint(
         if found is not None:
             remarks.append(Remark(sheet.item_line, "", f"{found.text(problem.name)}: there is no solution"))
         elif sat_solver.writing_seconds(problem) < searching:
-            remarks += [Remark(sheet.item_line, "", told) for told in _searched(problem, searching, tell)]
+            remarks += [Remark(sheet.item_line, "", reason) for reason in _searched(problem, searching, say)]
     return sorted(remarks, key=lambda remark: remark.line)
 
 
-def _searched(problem: Problem[Any], seconds: float, tell: Callable[[str], object]) -> Iterator[str]:
+def _searched(problem: Problem[Any], seconds: float, say: Callable[[str], object]) -> Iterator[str]:
     """That there is no solution, and who says so, where a search shows it in so many seconds."""
     try:
-        with engines.solve(problem, seconds, tell) as solutions:
+        with engines.solve(problem, seconds, say) as solutions:
             if next(iter(solutions), None) is None:
                 yield f"dlx{problem.kind} finds that there is no solution"
     except engines.Claimed as claim:

@@ -12,8 +12,8 @@ from collections.abc import Callable, Collection, Sequence
 from dataclasses import dataclass
 from typing import Any
 
-from ._text.named import told
-from ._text.sheet import teller
+from ._text.named import in_words
+from ._text.sheet import labelling
 from .errors import OutOfTime
 from .given import Given
 from .problem import Problem
@@ -94,9 +94,9 @@ def solutions(problem: Problem[Any], given: Sequence[int], deadline: float) -> l
 
 def differences(problem: Problem[Any], first: Collection[int], second: Collection[int]) -> list[str]:
     """What two solutions don't have in common, in words."""
-    tell = teller(problem)
+    label = labelling(problem)
     return [
-        f"only the {name} has {told(problem, [place for place in own if place not in other], tell)}"
+        f"only the {name} has {in_words(problem, [place for place in own if place not in other], label)}"
         for name, own, other in (("first", sorted(first), set(second)), ("second", sorted(second), set(first)))
         if not set(own) <= other
     ]

@@ -435,8 +435,8 @@ class Problem(Generic[Option]):
         text = bytes_of(listing) if isinstance(listing, str) else listing
         lines: Iterable[Any] = io.BytesIO(text) if isinstance(text, bytes) else text
         reader = OfListing(self, nulls)
-        for told in reader.read(bytes_of(line) if isinstance(line, str) else line for line in lines):
-            yield Listed(reader, told, told.number)
+        for found in reader.read(bytes_of(line) if isinstance(line, str) else line for line in lines):
+            yield Listed(reader, found, found.number)
 
     def count(
         self,

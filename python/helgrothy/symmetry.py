@@ -33,7 +33,7 @@ Motion = tuple[int, ...]
 # The options that hold an item, apart by its colours (True without one), and its bounds.
 _Holders = tuple[frozenset[tuple[bool, frozenset[int]]], Hashable]
 _MOST_DIGITS = 9
-_MOST_TOLD = 60
+_MOST_SHOWN = 60
 
 
 def motions(problem: Problem[Any], cell: str, grid: str = "square") -> list[Motion]:
@@ -55,7 +55,7 @@ def motions(problem: Problem[Any], cell: str, grid: str = "square") -> list[Moti
     if len(places) < len(keys):
         place = next(place for place, key in enumerate(keys) if places[key] != place)
         line = shown(problem.line(problem.options[place]))
-        raise NoPicture(f"two options lie in the same cells and are alike: {line[:_MOST_TOLD]}")
+        raise NoPicture(f"two options lie in the same cells and are alike: {line[:_MOST_SHOWN]}")
     holders = _holders(problem)
     found: dict[Motion, None] = {}
     for symmetry in symmetries(region, ways=None if grid == "square" else grids.GRIDS[grid].motions):
@@ -91,17 +91,17 @@ def _laid(problem: Problem[Any], cell: str, grid: str) -> tuple[list[frozenset[C
 
 def _cell(words: Sequence[str], grid: str) -> Cell:
     """A cell by its numbers, or by the point that motions of its grid take for it."""
-    told = [word for word in words if word]
+    numbers = [word for word in words if word]
     if grid == "square":
-        return tuple(map(_number, told))
-    if not 2 <= len(told) <= (3 if grid == "triangle" else 2):
-        raise NoPicture(f"a cell of the grid {grid} has a row and a column, and this one {len(told)} numbers")
-    place = _number(told[0]), _number(told[1])
-    if len(told) == 3:
+        return tuple(map(_number, numbers))
+    if not 2 <= len(numbers) <= (3 if grid == "triangle" else 2):
+        raise NoPicture(f"a cell of the grid {grid} has a row and a column, and this one {len(numbers)} numbers")
+    place = _number(numbers[0]), _number(numbers[1])
+    if len(numbers) == 3:
         try:
-            place = grids.of_rhombus(*place, grids.half(told[2]))
+            place = grids.of_rhombus(*place, grids.half(numbers[2]))
         except ValueError as error:
-            raise NoPicture(f"{shown(told[2])}: {error}") from None
+            raise NoPicture(f"{shown(numbers[2])}: {error}") from None
     return grids.GRIDS[grid].point(place)
 
 

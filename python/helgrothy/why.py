@@ -72,11 +72,11 @@ class Conflict:
 
 
 def find(
-    problem: Problem[Any], seconds: float = 10.0, tell: Callable[[str], object] = lambda line: None
+    problem: Problem[Any], seconds: float = 10.0, say: Callable[[str], object] = lambda line: None
 ) -> Conflict | None:
     """A conflict, as small as leaving out finds in so many seconds; None where there is a solution.
 
-    tell: gets a line that says what an engine did wrong. Raises `OutOfTime` where not even that is known in the time.
+    say: gets a line that says what an engine did wrong. Raises `OutOfTime` where not even that is known in the time.
     """
     deadline = time.monotonic() + seconds
     short = [item for item, count in _held(problem).items() if count < problem.items[item].low]
@@ -84,7 +84,7 @@ def find(
         return Conflict(short[:1], True)
     count = Count(problem)
     found = count.by_matching(seconds * _COUNTED)
-    question = _Question(problem, deadline, seconds * _SHARE, tell)
+    question = _Question(problem, deadline, seconds * _SHARE, say)
     if found is not None and found.is_whole:
         return Conflict(found.asking, question.needs_all(found), found)
     asked = [item for item, bounds in problem.items.items() if bounds.low]
@@ -122,10 +122,10 @@ class _Question:
     """
 
     def __init__(
-        self, problem: Problem[Any], deadline: float, most: float, tell: Callable[[str], object]
+        self, problem: Problem[Any], deadline: float, most: float, say: Callable[[str], object]
     ) -> None:
         self._problem = problem
-        self._tell = tell
+        self._say = say
         self._deadline = deadline
         self._most = most
         self._answers: list[tuple[str, _Answer]] = [(f"dlx{problem.kind}", self._searched)]
@@ -162,7 +162,7 @@ class _Question:
         """Whether there is a solution that holds all items. Raises `OutOfTime`."""
         by = f"dlx{self._problem.kind}"
         try:
-            with engines.solve(self._problem, self._deadline - time.monotonic(), self._tell) as solutions:
+            with engines.solve(self._problem, self._deadline - time.monotonic(), self._say) as solutions:
                 if next(iter(solutions), None) is not None:
                     return True
         except engines.Claimed as claim:
@@ -194,7 +194,7 @@ class _Question:
                     continue
                 except sat_solver.NoAnswer as error:
                     self._answers = [one for one in self._answers if one[0] != name]
-                    self._tell(f"{error}; dlx{self._problem.kind} goes on")
+                    self._say(f"{error}; dlx{self._problem.kind} goes on")
                     continue
                 self._answers.sort(key=lambda one: one[0] != name)
                 if not has_one:

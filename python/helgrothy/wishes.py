@@ -29,8 +29,8 @@ __all__ = ["Costs", "Wish", "of_table", "read"]
 
 _LONGEST = 60
 _WITHOUT = "without"
-# Of folded costs so many lines are told.
-_MOST_TOLD = 10
+# Of folded costs so many lines are printed.
+_MOST_LINES = 10
 
 
 @dataclass(frozen=True)
@@ -48,7 +48,7 @@ class Wish:
 class Costs:
     """What each option costs, in their order, and the wishes among which that is shared out.
 
-    is_folded: `told` leaves out wishes that cancel each other, and all but the ten that cost most.
+    is_folded: `lines` leaves out wishes that cancel each other, and all but the ten that cost most.
     """
 
     numbers: list[Fraction]
@@ -60,13 +60,13 @@ class Costs:
         return Costs(numbers, self.wishes + other.wishes)
 
     def folded(self) -> Costs:
-        """The same costs, of which a command tells as much as one likes to read."""
+        """The same costs, of which a command prints as much as one likes to read."""
         return replace(self, is_folded=True)
 
-    def told(self, numbers: Iterable[int]) -> Iterator[str]:
+    def lines(self, numbers: Iterable[int]) -> Iterator[str]:
         """What each wish costs in a solution of options with these numbers: a line for each that costs something."""
         costs = dict(self._costs(list(numbers)))
-        most = _MOST_TOLD if self.is_folded and len(costs) > _MOST_TOLD + 1 else len(costs)
+        most = _MOST_LINES if self.is_folded and len(costs) > _MOST_LINES + 1 else len(costs)
         kept = sorted(costs, key=lambda at: -abs(costs[at] * self.wishes[at].cost))[:most]
         for at in sorted(kept):
             wish, times = self.wishes[at], costs.pop(at)

@@ -76,7 +76,7 @@ def narrow(rng: random.Random, queens: int) -> bytes:
     """A problem whose solutions are those of some queens, in a narrow place of its tree.
 
     Some items before them have up to 11 branches, of which all but one lead nowhere. So each solution is the last of
-    more branches than the numbers of a processor tell apart.
+    more branches than the numbers of a processor distinguish.
     """
     gates = []
     while math.prod(gates) < 10 ** rng.uniform(13.5, 30):

@@ -128,18 +128,18 @@ class Designs(InFolder):
     def test_command(self):
         path = self.file("factors", FACTORS + RULES)
         with mock.patch.object(allowed, "_MOST_LOOKS", 5_000):
-            status, text, told = run("tests", path, "--least")
-            self.assertEqual(run("tests", path, "--least"), (status, text, told))
+            status, text, messages = run("tests", path, "--least")
+            self.assertEqual(run("tests", path, "--least"), (status, text, messages))
         lines = [line.split() for line in text.splitlines()]
         self.assertEqual((status, lines[1]), (2, ["1", "mac", "edge", "mysql"]))
         self.assertNotIn(["linux", "safari"], [line[1:3] for line in lines])
         known = "helgrothy: 7 tests, the fewest that were found; whether 6 are enough isn't known"
-        self.assertEqual(told, f"{known}; --seconds S looks longer\n")
-        told = run("tests", path, "--tests", "6")
-        self.assertEqual(told, (2, "", "helgrothy: the table has lines that begin with - or +: --least takes them, --tests doesn't\n"))
+        self.assertEqual(messages, f"{known}; --seconds S looks longer\n")
+        done = run("tests", path, "--tests", "6")
+        self.assertEqual(done, (2, "", "helgrothy: the table has lines that begin with - or +: --least takes them, --tests doesn't\n"))
         for lines, wanted in BAD:
-            told = run("tests", self.file("bad", f"{FACTORS}{lines}\n"), "--least")
-            self.assertEqual(told, (2, "", f"helgrothy: {wanted}\n"))
+            done = run("tests", self.file("bad", f"{FACTORS}{lines}\n"), "--least")
+            self.assertEqual(done, (2, "", f"helgrothy: {wanted}\n"))
 
     def test_many_bans(self):
         """At most 33 tests by a tenth of the work (32 by all of it), and each pair that may be is in one of them."""
@@ -173,10 +173,10 @@ class Designs(InFolder):
 
         path = self.file("many", MANY + MANY_BANS)
         with mock.patch.object(Best, "few", few):
-            status, text, told = run_until("fewest that were found", "tests", path, "--least")
+            status, text, messages = run_until("fewest that were found", "tests", path, "--least")
         self.assertEqual(status, 2)
-        self.assertRegex(told, r"\Ahelgrothy: [0-9]+ tests, the fewest that were found in [0-9.]+ seconds; whether 29 to [0-9]+ are enough isn't known\n\Z")
-        self.assertEqual(text.count("\n"), 1 + int(told.split()[1]))
+        self.assertRegex(messages, r"\Ahelgrothy: [0-9]+ tests, the fewest that were found in [0-9.]+ seconds; whether 29 to [0-9]+ are enough isn't known\n\Z")
+        self.assertEqual(text.count("\n"), 1 + int(messages.split()[1]))
         with mock.patch.object(Shorter, "fewer", side_effect=OutOfTime("over")):
             for text in (MANY, MANY + MANY_BANS):
                 self.assertLess(make.tests.few(text).tests, 50)

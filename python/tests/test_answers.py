@@ -135,8 +135,8 @@ class Answers(InFolder):
         answer = f"s SATISFIABLE\nv {values} 0\n"
         drawn = str(problem.draw(solution))
         self.assertEqual(run("draw", path, given=answer), (0, drawn, ""))
-        status, listing, told = run("draw", path, "--listing", given=answer)
-        self.assertEqual((status, told), (0, ""))
+        status, listing, messages = run("draw", path, "--listing", given=answer)
+        self.assertEqual((status, messages), (0, ""))
         self.assertEqual(problem.check(listing), [True])
         self.assertEqual(run("draw", path, given=listing)[1], drawn)
         ones = {number + 1: int(number in solution.numbers) for number in range(16)}
@@ -150,14 +150,14 @@ class Answers(InFolder):
         # What isn't a solution is none for dlxcheck, and isn't drawn.
         wrong = f"v {values.replace('-1 ', '1 ', 1)} 0\n"
         self.assertEqual(problem.check(run("draw", path, "--listing", given=wrong)[1]), [False])
-        told = "helgrothy: answer 1 of the other solver is no solution, as dlxcheck judges it\n"
-        self.assertEqual(run("draw", path, given=wrong), (2, "", told))
-        self.assertEqual(run("draw", path, given=answer + wrong), (2, drawn, told.replace("1", "2")))
+        wanted = "helgrothy: answer 1 of the other solver is no solution, as dlxcheck judges it\n"
+        self.assertEqual(run("draw", path, given=wrong), (2, "", wanted))
+        self.assertEqual(run("draw", path, given=answer + wrong), (2, drawn, wanted.replace("1", "2")))
         for words in ([], ["--listing"], ["--json"]):
-            told = (1, "", "helgrothy: the other solver reports that there is no solution\n")
-            self.assertEqual(run("draw", path, *words, given="UNSATISFIABLE\n"), told)
-        told = (1, "", "helgrothy: the other solver gave no solution 2\n")
-        self.assertEqual(run("draw", path, "--number", "2", given=answer), told)
+            wanted = (1, "", "helgrothy: the other solver reports that there is no solution\n")
+            self.assertEqual(run("draw", path, *words, given="UNSATISFIABLE\n"), wanted)
+        wanted = (1, "", "helgrothy: the other solver gave no solution 2\n")
+        self.assertEqual(run("draw", path, "--number", "2", given=answer), wanted)
         self.assertEqual(run("draw", path, "--listing", given=listing)[0], 2)
         self.assertEqual(run("draw", "-", given="UNSATISFIABLE\n")[0], 2)
 
@@ -170,8 +170,8 @@ class Answers(InFolder):
         for words in ([], ["--svg"]):
             self.assertEqual(run("draw", path, *words, given=answer), (2, "", none + listed))
             self.assertEqual(run("draw", path, *words, given=listing), (2, "", f"{none}\n"))
-        told = run("draw", path, "--cell", r"(x)(\d)", given=answer)
-        self.assertEqual((told[:2], told[2].endswith(listed)), ((2, ""), True))
+        ran = run("draw", path, "--cell", r"(x)(\d)", given=answer)
+        self.assertEqual((ran[:2], ran[2].endswith(listed)), ((2, ""), True))
         self.assertEqual(run("draw", path, "--listing", given=answer), (0, listing, ""))
         # Data has the options, and needs no picture.
         self.assertEqual(run("draw", path, "--json", given=answer)[0], 0)
@@ -203,8 +203,8 @@ class Answers(InFolder):
             path = self.file("exported", "".join(f"{line}\n" for line in FORMATS[form](problem)))
             first = f"gringo {path} |" if form == "asp" else ""
             command = f"{first} {solver} {' '.join(words)} {'' if first else path}"
-            told = subprocess.run(["sh", "-c", command], capture_output=True).stdout
-            found = list(solutions(solver, problem, told.splitlines()))
+            printed = subprocess.run(["sh", "-c", command], capture_output=True).stdout
+            found = list(solutions(solver, problem, printed.splitlines()))
             self.assertEqual(problem.check(found), [True] * len(found))
             self.assertEqual(len(found), 4 if words[:1] == ["0"] else 1)
 

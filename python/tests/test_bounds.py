@@ -66,8 +66,8 @@ class Shown(unittest.TestCase):
             words = (command, "cnf") if command == "export" else (command,)
             self.assertIn(f"line 2: {name}B: unknown item", run(*words, given=text)[2])
         self.assertIn(f"{name}: No such file", run("lint", ESCAPES)[2])
-        for words, told in (([], "No such file"), (["--status"], "no such folder"), (["--result"], "no such folder")):
-            self.assertIn(f"{name}nowhere: {told}", run("search", *words, f"{ESCAPES}nowhere")[2])
+        for words, wanted in (([], "No such file"), (["--status"], "no such folder"), (["--result"], "no such folder")):
+            self.assertIn(f"{name}nowhere: {wanted}", run("search", *words, f"{ESCAPES}nowhere")[2])
         self.assertIn(f"{name}: one argument too many", run("lint", "-", ESCAPES)[2])
         self.assertIn(f"--{name}: no such option", run("lint", f"--{ESCAPES}")[2])
         self.assertIn(f"{name}: no such command", run(ESCAPES)[2])
@@ -118,7 +118,7 @@ class Pictures(unittest.TestCase):
             with self.assertRaises(NoPicture):
                 problem = Problem.parse(text)
                 problem.draw(next(problem.solve()))
-            # The options are told all the same.
+            # The options are shown all the same.
             status, out, _ = run("solve", "--seconds", ENOUGH, given=text)
             self.assertEqual((status, out), (0, "\n".join(text.split("\n")[2 : -1 if "D@" in text or "sudoku" in text else 3]) + "\n"))
             status, _, error = run("solve", "--seconds", ENOUGH, "--svg", given=text)
@@ -329,20 +329,20 @@ class Time(unittest.TestCase):
                     time.sleep(9)
                 raise self.fault("lost")
 
-        told = Pipe()
+        errors = Pipe()
         start = used()
-        with contextlib.redirect_stderr(told), self.assertRaises(OutOfTime), console.limited(0.1):
+        with contextlib.redirect_stderr(errors), self.assertRaises(OutOfTime), console.limited(0.1):
             Slow(OutOfTime)
             while True:
                 pass
-        self.assertEqual(told.text(), "")
-        with contextlib.redirect_stderr(told), console.limited(9):
+        self.assertEqual(errors.text(), "")
+        with contextlib.redirect_stderr(errors), console.limited(9):
             Slow(KeyError)
-        self.assertIn("KeyError", told.text())
+        self.assertIn("KeyError", errors.text())
         self.assertLess(used() - start, HANG)
 
     def test_no_second_exception_comes_while_the_first_is_on_its_way(self):
-        """On a machine that does other things an end may take seconds, and what is told there is told."""
+        """On a machine that does other things an end may take seconds, and what was raised once isn't raised again."""
         done = []
         with self.assertRaises(OutOfTime), console.limited(0.05):
             try:

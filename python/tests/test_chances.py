@@ -78,16 +78,16 @@ class Occurrences(InFolder):
 
 class Pictures(InFolder):
     def picture(self, *words, given=""):
-        status, text, told = run(*words, "--chances", given=given)
-        self.assertEqual(status, 0, told)
+        status, text, messages = run(*words, "--chances", given=given)
+        self.assertEqual(status, 0, messages)
         ElementTree.fromstring(run(*words, "--chances", "--svg", given=given)[1])
-        return text, told
+        return text, messages
 
     def test_boards(self):
         # Four solutions, two of which are the other two mirrored (OEIS A000170).
-        text, told = self.picture("queens", "6")
+        text, messages = self.picture("queens", "6")
         self.assertEqual(text.splitlines()[:2], [".  25 25 25 25 .", "25 .  25 25 .  25"])
-        self.assertEqual(told, "Altogether 4 solutions.\n")
+        self.assertEqual(messages, "Altogether 4 solutions.\n")
         # 288 Sudokus (OEIS A107739), in which each digit is as often in each place.
         self.assertEqual(self.picture("sudoku", "." * 16)[0].splitlines()[0], "1 25% 1 25% | 1 25% 1 25%")
         text, _ = self.picture("sudoku", "1234341221434321".replace("2", "."))
@@ -135,11 +135,11 @@ class Pictures(InFolder):
     def test_what_is_refused(self):
         self.assertEqual(run("queens", "3", "--chances"), (1, "", "Altogether 0 solutions; `helgrothy why` may say which items conflict.\n"))
         self.assertEqual(run("queens", "4", "--chances", "--html")[2], "helgrothy: --chances has no page: --svg is its picture\n")
-        told = run("queens", "4", "--chances", "--up-to-symmetry")[2]
-        self.assertEqual(told, "helgrothy: --chances is of all solutions: without --shuffle and --up-to-symmetry\n")
+        messages = run("queens", "4", "--chances", "--up-to-symmetry")[2]
+        self.assertEqual(messages, "helgrothy: --chances is of all solutions: without --shuffle and --up-to-symmetry\n")
         with mock.patch.object(occurrences, "find", side_effect=OutOfTime("no")):
-            told = run("queens", "4", "--chances")
-        self.assertEqual(told, (2, "", "helgrothy: no; --seconds S gives it more than 60 seconds\n"))
+            done = run("queens", "4", "--chances")
+        self.assertEqual(done, (2, "", "helgrothy: no; --seconds S gives it more than 60 seconds\n"))
 
     def test_percents(self):
         for times, wanted in ((0, "0"), (1, "<1"), (10, "1"), (500, "50"), (999, ">99"), (1000, "100")):

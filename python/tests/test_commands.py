@@ -79,11 +79,11 @@ def run(*words: str, given: str = ""):
     return status, out.text(), error.text()
 
 
-def run_until(told: str, *words: str, given: str = ""):
+def run_until(pattern: str, *words: str, given: str = ""):
     """The same, with ever more seconds, until standard error says this: a machine that does other things takes longer."""
     for seconds in ("0.5", "5", "50"):
         done = run(*words, "--seconds", seconds, given=given)
-        if re.search(told, done[2]):
+        if re.search(pattern, done[2]):
             break
     return done
 
@@ -96,8 +96,8 @@ class Commands(InFolder):
         self.assertEqual(run("solve", given=text), (0, board, "Altogether 1 solution (limit).\n"))
         self.assertEqual(run("queens", "4", "--all")[1].count("\n\n"), 1)
         self.assertEqual(run("queens", "4", "--number", "2")[1][:7], ". Q . .")
-        status, _, told = run("queens", "3")
-        self.assertEqual((status, told.splitlines()[0]), (1, "Altogether 0 solutions."))
+        status, _, messages = run("queens", "3")
+        self.assertEqual((status, messages.splitlines()[0]), (1, "Altogether 0 solutions."))
         path = self.file("q.dlx", text)
         listing = "2:\n r1 c3 a3 b6 (1 of 2)\n"
         self.assertEqual(run("draw", path, given=listing)[:2], (0, ". . Q .\n" + ". . . .\n" * 3))
@@ -121,8 +121,8 @@ class Commands(InFolder):
         self.assertEqual(run("why", given="A B\nA\n")[1].splitlines()[0], "can't all be held: B")
         self.assertEqual(run("export", "cnf", given="A\nA\n")[1].splitlines()[1:], ["p cnf 1 1", "1 0"])
         path = self.file("costs", "A 2.5\nB -1\n")
-        status, text, told = run("export", "lp", "--cost", path, given="A B\nA\nB\nA B\n")
-        self.assertEqual((status, text.splitlines()[2], told), (0, " obj: + 2.5 x1 - 1 x2 + 1.5 x3", ""))
+        status, text, messages = run("export", "lp", "--cost", path, given="A B\nA\nB\nA B\n")
+        self.assertEqual((status, text.splitlines()[2], messages), (0, " obj: + 2.5 x1 - 1 x2 + 1.5 x3", ""))
         self.assertEqual(run("export", "cnf", "--cost", path, given="A\nA\n")[2], "helgrothy: --cost isn't of cnf, which has no costs; asp, opb and lp have them\n")
         self.assertEqual(run("export", "lp", "--cost", "-")[0], 2)
         wishes = run("make", "roster", self.file("roster", "- mon\nearly 1\n\nann 0:1 early=3\nbob 0:1\n"))[1]
@@ -142,25 +142,25 @@ class Commands(InFolder):
     @mock.patch.object(solving, "_REASON_SECONDS", 99.0)
     @mock.patch("helgrothy.lint.search", lambda problem, _: sums.search(problem, 100.0))
     def test_no_solution_has_its_reason(self):
-        told = "Altogether 0 solutions.\ncan't all be held: B\nit is in no option\n"
-        self.assertEqual(run("solve", given="A B\nA\n"), (1, "", told))
-        status, _, told = run("sudoku", "55" + "." * 79)
-        self.assertIn("r1c1 r1c2 ask for 2 in all, and r1=5 allows 1\n", told)
+        wanted = "Altogether 0 solutions.\ncan't all be held: B\nit is in no option\n"
+        self.assertEqual(run("solve", given="A B\nA\n"), (1, "", wanted))
+        status, _, messages = run("sudoku", "55" + "." * 79)
+        self.assertIn("r1c1 r1c2 ask for 2 in all, and r1=5 allows 1\n", messages)
         remarks = run("lint", given=run("make", "sudoku", "55" + "." * 79)[1])[1]
         self.assertIn("the sums can't work: r1c1 r1c2 ask for 2 in all, and r1=5 allows 1: there is no solution\n", remarks)
         grid, words = self.file("grid.txt", "..#\n#.#\n"), self.file("words.txt", "cat dog")
-        told = run("words", grid, words)[2]
-        self.assertIn("can't all be held: across-r1c1\nit is in no option\n", told)
+        messages = run("words", grid, words)[2]
+        self.assertIn("can't all be held: across-r1c1\nit is in no option\n", messages)
         box = "F I L N P T U V W X Y Z ask for 60 in all, 5 each, and the 54 items r1c1 r1c2 r1c3 .. allow 54"
         self.assertIn(f"{box}: there is no solution\n", run("polyominoes", "pentominoes", "6x9")[2])
         self.assertIn(f"{box}: there is no solution\n", run("lint", given=run("make", "polyominoes", "pentominoes", "6x9")[1])[1])
         with mock.patch.object(why, "find", side_effect=OutOfTime("no")):
-            told = run("queens", "3")[2]
-        self.assertRegex(told, "no reason was found in [0-9.]+ seconds; `helgrothy why` may look longer\n")
+            messages = run("queens", "3")[2]
+        self.assertRegex(messages, "no reason was found in [0-9.]+ seconds; `helgrothy why` may look longer\n")
         found = r"[0-9]+ solutions? till then\n\Z"
-        status, _, told = run_until(found, "langford", "15", "--all")
+        status, _, messages = run_until(found, "langford", "15", "--all")
         self.assertEqual(status, 2)
-        self.assertRegex(told, found)
+        self.assertRegex(messages, found)
 
     def test_failures(self):
         for words, wanted in (
@@ -183,25 +183,25 @@ class Commands(InFolder):
 
     def test_no_such_solution(self):
         for words in ((), ("--json",), ("--shuffle", "3")):
-            told = run("queens", "6", "--number", "9", *words)
-            self.assertEqual(told, (1, "", "Altogether 4 solutions.\nhelgrothy: there is no solution 9: --number takes 1 to 4\n"))
+            done = run("queens", "6", "--number", "9", *words)
+            self.assertEqual(done, (1, "", "Altogether 4 solutions.\nhelgrothy: there is no solution 9: --number takes 1 to 4\n"))
         self.assertIn("no solution 5000: --number takes 1 alone\n", run("queens", "1", "--number", "5000")[2])
         self.assertNotIn("no solution 9", run("queens", "3", "--number", "9")[2])
         board = make.queens.problem(6)
         path = self.file("q.dlx", board.text)
-        for given, told in (
+        for given, wanted in (
             ([2, 4], "the listing has no solution 9: its numbers are 2 to 4"),
             ([3], "the listing has no solution 9: its numbers are 3"),
             ([], "the listing has no solution to draw; with m1 a program lists each, with m1 t1 the first"),
         ):
             listing = b"".join(line for number in given for line in board._listing([board.solution(number)], number))
-            told = (1, "", f"helgrothy: {told}\n")
-            self.assertEqual(run("draw", path, "--number", "9", given=listing.decode()), told)
+            wanted = (1, "", f"helgrothy: {wanted}\n")
+            self.assertEqual(run("draw", path, "--number", "9", given=listing.decode()), wanted)
 
     def test_help_has_groups(self):
         def groups(*words):
-            told = run(*words, "--help")[1].partition("\n\n")[2]
-            parts = re.findall(r"^([\w ]+):\n((?:(?: .*)?\n)+)", told, re.MULTILINE)
+            printed = run(*words, "--help")[1].partition("\n\n")[2]
+            parts = re.findall(r"^([\w ]+):\n((?:(?: .*)?\n)+)", printed, re.MULTILINE)
             return {title: re.findall(r"^  (?:-h, )?(--[\w-]+|[A-Z|]+)", text, re.MULTILINE) for title, text in parts}
 
         own = groups("polyominoes")
@@ -215,8 +215,8 @@ class Commands(InFolder):
 
     def test_as_a_program(self):
         how = {"cwd": PACKAGE, "capture_output": True, "text": True}
-        told = subprocess.run([sys.executable, "-m", "helgrothy", "--version"], **how)
-        self.assertEqual(told.stdout, "helgrothy 0.1.0\n")
+        done = subprocess.run([sys.executable, "-m", "helgrothy", "--version"], **how)
+        self.assertEqual(done.stdout, "helgrothy 0.1.0\n")
         script = f"{sys.executable} -m helgrothy queens 10 --all | head -n 1"
-        told = subprocess.run(["sh", "-c", script], **how)
-        self.assertEqual((told.stdout.count("\n"), told.stderr), (1, ""))
+        done = subprocess.run(["sh", "-c", script], **how)
+        self.assertEqual((done.stdout.count("\n"), done.stderr), (1, ""))

@@ -144,19 +144,19 @@ class Cost(unittest.TestCase):
 
             self.assertEqual(solve("5 1.5 7 3.25"), (0, "B\nA\n", "The least cost is 4.75.\n"))
             self.assertEqual(solve("5 1 0 3", "--csv")[1].splitlines()[1:], ["1,3,A,B"])
-            status, _, told = solve("5", given="A B\nA\n")
-            self.assertEqual((status, told.splitlines()[0]), (1, "Altogether 0 solutions."))
-            told = "helgrothy: this search finds one solution: without --all, --limit, --number, --random, --count, --chances and --unique\n"
-            self.assertEqual(solve("5", "--all")[2], told)
+            status, _, messages = solve("5", given="A B\nA\n")
+            self.assertEqual((status, messages.splitlines()[0]), (1, "Altogether 0 solutions."))
+            wanted = "helgrothy: this search finds one solution: without --all, --limit, --number, --random, --count, --chances and --unique\n"
+            self.assertEqual(solve("5", "--all")[2], wanted)
             self.assertEqual(solve("5", "--html")[0], 2)
-            told = f"helgrothy: {path}: line 1: 1 costs, and the problem has 4 options\n"
-            self.assertEqual(solve("5"), (2, "", told))
+            wanted = f"helgrothy: {path}: line 1: 1 costs, and the problem has 4 options\n"
+            self.assertEqual(solve("5"), (2, "", wanted))
             self.assertEqual(run("solve", "--cost", "-")[0], 2)
             rng = random.Random(9)
             costs = " ".join(str(rng.randint(1, 10**5)) for _ in range(400))
-            status, text, told = solve(costs, "--seconds", "2", given=make.queens.problem(20).text)
+            status, text, messages = solve(costs, "--seconds", "2", given=make.queens.problem(20).text)
             self.assertEqual((status, text.count("Q") in (0, 20)), (2, True))
-            self.assertRegex(told, "is the least cost that was found; in 2 seconds it wasn't proved that there is no less|no solution|done")
+            self.assertRegex(messages, "is the least cost that was found; in 2 seconds it wasn't proved that there is no less|no solution|done")
 
     def test_a_solution_of_an_engine_narrows_the_bounds(self):
         """dlx3 proves what another way found, and prices begin before their time where it is urgent."""

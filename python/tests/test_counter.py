@@ -64,9 +64,9 @@ class Counts(InFolder):
             self.assertEqual(counter.read_number(digits), value)
 
     def test_a_count_without_memory_for_states(self):
-        told = []
-        counted = make.queens.problem(8)._count(None, megabytes=0, gives_up=told.append)
-        self.assertEqual((counted.total, told), (92, []))
+        messages = []
+        counted = make.queens.problem(8)._count(None, megabytes=0, gives_up=messages.append)
+        self.assertEqual((counted.total, messages), (92, []))
 
     def test_a_search_that_is_faster_gives_the_number(self):
         self.program("dlx-count", "exec sleep 1000")
@@ -95,7 +95,7 @@ class Counts(InFolder):
         with mock.patch.object(programs, "find", find):
             self.assertEqual(make.queens.problem(6)._count(None), counter.Count(4, "dlx1"))
 
-    def test_a_search_that_fails_is_told(self):
+    def test_a_search_that_fails_is_reported(self):
         self.program("dlx1", "echo Out of memory. >&2; exit 4")
         self.program("dlx-count", "exec sleep 1000")
         with self.assertRaisesRegex(ProgramFailed, "dlx1 ended with status 4: Out of memory."):
@@ -140,10 +140,10 @@ class Command(InFolder):
     def test_kinds(self):
         self.assertEqual(run("queens", "8", "--count"), (0, "92\n", ""))
         self.assertEqual(run("queens", "3", "--count"), (1, "0\n", ""))
-        for words, told in (
+        for words, wanted in (
             (["--svg"], "a number is printed as it is or by --json"),
             (["--csv"], "a number is printed as it is or by --json"),
             (["--shuffle", "3"], "all solutions are counted: without --shuffle and --up-to-symmetry"),
             (["--up-to-symmetry"], "all solutions are counted: without --shuffle and --up-to-symmetry"),
         ):
-            self.assertEqual(run("queens", "8", "--count", *words), (2, "", f"helgrothy: {told}\n"))
+            self.assertEqual(run("queens", "8", "--count", *words), (2, "", f"helgrothy: {wanted}\n"))

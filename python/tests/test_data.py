@@ -42,8 +42,8 @@ def exams():
 
 class Json(unittest.TestCase):
     def test_lines(self):
-        status, text, told = run("solve", "--json", "--all", given=ROOMS)
-        self.assertEqual((status, told), (0, "Altogether 1 solution.\n"))
+        status, text, messages = run("solve", "--json", "--all", given=ROOMS)
+        self.assertEqual((status, messages), (0, "Altogether 1 solution.\n"))
         self.assertEqual(
             json.loads(text),
             {"number": 1, "options": [1, 3], "items": [["ann", "door"], ["bob", "door"]], "colours": {"door": "red"}},
@@ -136,9 +136,9 @@ class Kinds(InFolder):
         head, *rows = csv.reader(io.StringIO(self.asked(kind, "--csv", *words)[1]))
         self.assertEqual(head, ["solution", *KINDS[kind][2]])
         self.assertEqual({row[0] for row in rows}, {"1"})
-        told = json.loads(self.asked(kind, "--json", *words)[1])
-        self.assertEqual(told.pop("number"), 1)
-        ((_, objects),) = told.items()
+        read = json.loads(self.asked(kind, "--json", *words)[1])
+        self.assertEqual(read.pop("number"), 1)
+        ((_, objects),) = read.items()
         start = 2 if kind == "tests" else 1
         self.assertEqual([list(each) for each in objects], [head[start:]] * len(rows))
         cells = [["" if cell is None else str(cell) for cell in each.values()] for each in objects]
@@ -178,24 +178,24 @@ class Kinds(InFolder):
             self.assertIn('"options": [', self.asked(kind, "--json", "--options")[1])
             self.assertTrue(self.asked(kind, "--csv", "--options")[1].startswith("solution,option,item 1,"))
         for words in ((), ("--html",), ("--csv", "--count"), ("--json", "--chances")):
-            status, _, told = self.asked("roster", "--options", *words)
-            self.assertEqual((status, told.startswith("helgrothy: --options is of ")), (2, True))
+            status, _, messages = self.asked("roster", "--options", *words)
+            self.assertEqual((status, messages.startswith("helgrothy: --options is of ")), (2, True))
 
     def test_a_problem_of_a_file(self):
         made = run("make", "tests", self.file("table", FACTORS), "--tests", "6")[1]
         self.assertIn("1,1,memcached,postgresql14,", run("solve", "--csv", given=made)[1])
         broken = made.replace("| system windows11home linux", "| system windows linux")
-        told = run("solve", "--csv", given=broken)[2]
-        self.assertIn("isn't as `helgrothy make tests` made it; with --options there are its options", told)
+        messages = run("solve", "--csv", given=broken)[2]
+        self.assertIn("isn't as `helgrothy make tests` made it; with --options there are its options", messages)
         self.assertEqual(run("solve", "--csv", "--options", given=broken)[0], 0)
 
     def test_no_item_of_a_rule_is_shown(self):
         signs = re.compile(r">>|>early|-off|\.\.|~[0-9]|@@|home=|@mon\b|t[0-9]/")
         for kind in KINDS:
             page = self.asked(kind, "--html", "--limit", "3")[1]
-            told = json.loads(re.search(r'<script type="application/json" id="data">(.*?)</script>', page, re.DOTALL).group(1))
-            self.assertIsNone(signs.search("\n".join(told[0]["problem"]["text"][2:])), kind)
-            words = [text for line in told if "solution" in line for text in line["solution"]["words"].values()]
+            lines = json.loads(re.search(r'<script type="application/json" id="data">(.*?)</script>', page, re.DOTALL).group(1))
+            self.assertIsNone(signs.search("\n".join(lines[0]["problem"]["text"][2:])), kind)
+            words = [text for line in lines if "solution" in line for text in line["solution"]["words"].values()]
             self.assertTrue(words)
             shown = [text for text in words if not text.startswith("days-off")]
             self.assertIsNone(signs.search("\n".join(shown)), kind)
@@ -209,8 +209,8 @@ class Cells(unittest.TestCase):
         for kind in ("words", "wordsearch"):
             given = f"| helgrothy make {kind}\na | r1c1 r1c2\na r1c1:x r1c2\n"
             for words, wanted in (((), "x ."), (("--svg",), ">x</text>"), (("--html",), '"a r1c1:x r1c2"')):
-                status, out, told = run("solve", *words, given=given)
-                self.assertEqual((status, told), (0, "Altogether 1 solution (limit).\n"), (kind, words))
+                status, out, messages = run("solve", *words, given=given)
+                self.assertEqual((status, messages), (0, "Altogether 1 solution (limit).\n"), (kind, words))
                 self.assertIn(wanted, out)
 
 
@@ -271,8 +271,8 @@ class Tables(unittest.TestCase):
         with self.assertRaisesRegex(NoPicture, r"tue is no row or column: .*\(--row, --column\)"):
             problem.draw((), Pattern(r"(mon|tue)(\d),\w+"))
         self.assertEqual(run("solve", "--row", "(", given=LESSONS)[0], 2)
-        told = run("solve", "--row", "mon", "--cell", r"(\d)", given=LESSONS)[2]
-        self.assertIn("not both", told)
+        messages = run("solve", "--row", "mon", "--cell", r"(\d)", given=LESSONS)[2]
+        self.assertIn("not both", messages)
         with self.assertRaisesRegex(NoPicture, "none"):
             Problem({"a": (0, 1)}).draw((), Table("a"))
 

@@ -120,12 +120,12 @@ class Designs(InFolder):
     def test_work_and_time_are_bounds(self):
         with mock.patch.object(fewest, "_MOST_LOOKS", 100_000_000):
             few, again = make.tests.few("4^7"), make.tests.few("4^7")
-            told = run("tests", "4^7", "--least")[2]
+            messages = run("tests", "4^7", "--least")[2]
         self.assertEqual((few.tests, few.numbers, few.reason), (again.tests, again.numbers, ""))
         known = f"helgrothy: {few.tests} tests, the fewest that were found; whether {few.least} to {few.tests - 1} are enough isn't known"
-        self.assertEqual(told, f"{known}; --seconds S looks longer\n")
-        told = r"\Ahelgrothy: [0-9]+ tests, the fewest that were found in [0-9.]+ seconds; whether [0-9]+ to [0-9]+ are enough isn't known\n\Z"
-        self.assertRegex(run_until(told, "tests", "3^7", "--least")[2], told)
+        self.assertEqual(messages, f"{known}; --seconds S looks longer\n")
+        expected = r"\Ahelgrothy: [0-9]+ tests, the fewest that were found in [0-9.]+ seconds; whether [0-9]+ to [0-9]+ are enough isn't known\n\Z"
+        self.assertRegex(run_until(expected, "tests", "3^7", "--least")[2], expected)
         one_less = fewest.Few(few.problem, few.numbers, few.tests, few.tests - 1, "")
         wanted = f"helgrothy: {few.tests} tests, the fewest that were found in 3 seconds; whether {few.tests - 1} are enough isn't known"
         self.assertEqual((one_less.found(3).remark, one_less.found(3).is_proved), (wanted, False))
@@ -157,11 +157,11 @@ class Designs(InFolder):
     def test_commands(self):
         path = self.file("factors.txt", FACTORS)
         table = "  system browser database   network\n1 linux  firefox mysql      v4\n"
-        status, out, told = run("tests", path, "--least")
+        status, out, messages = run("tests", path, "--least")
         self.assertEqual((status, out[: len(table)]), (0, table))
-        self.assertEqual(told, "5 tests; no fewer are enough: there is no design of 4.\n")
-        status, out, told = run("tests", "3,3,3,2,2,2", "--tests", "9")
-        self.assertEqual((status, out.count("\n"), told), (0, 10, "Altogether 1 solution (limit).\n"))
+        self.assertEqual(messages, "5 tests; no fewer are enough: there is no design of 4.\n")
+        status, out, messages = run("tests", "3,3,3,2,2,2", "--tests", "9")
+        self.assertEqual((status, out.count("\n"), messages), (0, 10, "Altogether 1 solution (limit).\n"))
         self.assertEqual(run("tests", "3^3", "--tests", "9", "--all")[2], "Altogether 12 solutions.\n")
         self.assertTrue(run("tests", path, "--least", "--svg")[1].startswith("<svg"))
         self.assertIn('"tests": [{"system": "linux", "browser": "firefox", ', run("tests", path, "--least", "--json")[1])

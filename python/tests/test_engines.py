@@ -28,7 +28,7 @@ PATH = os.environ.get("PATH", os.defpath)
 REAL = [name for name in sat_solver.SOLVERS if shutil.which(name)]
 REAL_FOR_COSTS = [name for name in optimisers.NAMES if shutil.which(name)]
 
-# What an engine does in place of an answer, and what is told of it.
+# What an engine does in place of an answer, and what is printed of it.
 FALSE = {
     "a flood of literals": ("while :; do echo v 1 -2 -3 4 -5 1 -2 -3 4 -5; done", "calls a solution is none, as dlxcheck judges it"),
     "nonsense": ("echo hello", "line 1: hello: no line of an answer"),
@@ -94,29 +94,29 @@ class WithEngines(InFolder):
         self.addCleanup(patch.stop)
 
     def after_the_engine(self):
-        """The programs begin once something is told of the engine."""
+        """The programs begin once something is printed of the engine."""
         done, say = os.path.join(self.folder, "done"), console.say
         self.program(f"until test -e {done}; do /bin/sleep 0.05; done")
 
-        def told(line: str) -> None:
+        def said(line: str) -> None:
             say(line)
             self.file("done", "")
 
-        patch = mock.patch.object(console, "say", told)
+        patch = mock.patch.object(console, "say", said)
         patch.start()
         self.addCleanup(patch.stop)
         return lambda: os.path.exists(done) and os.remove(done)
 
     def nothing_is_left(self) -> None:
-        """No process that told its number runs any more, a moment after."""
-        numbers = self.told_numbers()
+        """No process that wrote its number runs any more, a moment after."""
+        numbers = self.numbers()
         deadline = time.monotonic() + 60
         while any(map(self.runs, numbers)) and time.monotonic() < deadline:
             time.sleep(0.05)
         self.assertEqual([number for number in numbers if self.runs(number)], [])
         self.assertEqual(len(programs._running), 0)
 
-    def told_numbers(self) -> "list[int]":
+    def numbers(self) -> "list[int]":
         try:
             with open(self.pids) as file:
                 return [int(line) for line in file]
@@ -135,16 +135,16 @@ class Solving(WithEngines):
     def test_a_right_one(self):
         self.program("exec /bin/sleep 1000")
         self.engine("echo s SATISFIABLE; echo v 1 -2 -3 4 5 6 7 0; exit 10")
-        status, out, told = run("solve", self.problem)
+        status, out, messages = run("solve", self.problem)
         self.assertEqual((status, out), (0, FOUND))
         self.assertRegex(
-            told,
+            messages,
             r"\Acadical found a solution, and dlxcheck judges it to be one; dlx2 had none in [0-9.e+]+ seconds\n"
             r"Altogether 1 solution \(limit\)\.\n\Z",
         )
         for words in (["--limit", "1"], ["--json"], ["--html"], ["--csv"]):
-            status, _, told = run("solve", self.problem, *words)
-            self.assertIn("cadical found a solution", told)
+            status, _, messages = run("solve", self.problem, *words)
+            self.assertIn("cadical found a solution", messages)
             self.assertEqual(status, 0)
         solutions = engines.solve(Problem.parse(TEXT))
         solution = next(solutions)
@@ -154,10 +154,10 @@ class Solving(WithEngines):
     def test_none_is_a_claim(self):
         self.program("exec /bin/sleep 1000")
         self.engine("echo s UNSATISFIABLE; exit 20")
-        status, out, told = run("solve", self.problem, "--seconds", "300")
+        status, out, messages = run("solve", self.problem, "--seconds", "300")
         self.assertEqual((status, out), (1, ""))
         hint = "`helgrothy why` may say which items conflict"
-        self.assertEqual(told, f"cadical reports that there is no solution; dlx2 hasn't proved it; {hint}\n")
+        self.assertEqual(messages, f"cadical reports that there is no solution; dlx2 hasn't proved it; {hint}\n")
         self.assertIn("cadical reports", run("solve", self.problem, "--html")[1])
         with self.assertRaises(engines.Claimed) as raised:
             next(engines.solve(Problem.parse(TEXT)))
@@ -167,9 +167,9 @@ class Solving(WithEngines):
         self.program("/bin/sleep 0.5")
         self.engine("echo s UNSATISFIABLE; exit 20")
         for words in (["--number", "1"], ["--limit", "2"], ["--all"], ["--shuffle", "1"]):
-            status, out, told = run("solve", self.problem, *words)
+            status, out, messages = run("solve", self.problem, *words)
             self.assertEqual((status, out), (0, FOUND), words)
-            self.assertNotIn("cadical", told)
+            self.assertNotIn("cadical", messages)
 
     def test_false_ones(self):
         forget = self.after_the_engine()
@@ -177,10 +177,10 @@ class Solving(WithEngines):
             with self.subTest(name):
                 forget()
                 self.engine(script, "cadical")
-                status, out, told = run("solve", self.problem, "--seconds", "600")
-                self.assertEqual((status, out), (0, FOUND), told)
-                first, *rest = told.splitlines()
-                self.assertTrue(first.startswith(("cadical gave no answer (", "what cadical calls")), told)
+                status, out, messages = run("solve", self.problem, "--seconds", "600")
+                self.assertEqual((status, out), (0, FOUND), messages)
+                first, *rest = messages.splitlines()
+                self.assertTrue(first.startswith(("cadical gave no answer (", "what cadical calls")), messages)
                 self.assertIn(wanted, first)
                 self.assertTrue(first.endswith("; dlx2 goes on"))
                 self.assertEqual(rest, ["Altogether 1 solution (limit)."])
@@ -197,9 +197,9 @@ class Solving(WithEngines):
         self.engine(HANG, "cadical")
         self.engine("echo s SATISFIABLE; echo v 1 -2 -3 4 5 6 7 0; exit 10", "clasp")
         with mock.patch.multiple(engines, _MOST_TURN=600.0, _IDLE_SECONDS=0.2):
-            status, out, told = run("solve", self.problem, "--seconds", "600")
+            status, out, messages = run("solve", self.problem, "--seconds", "600")
         self.assertEqual((status, out), (0, FOUND))
-        self.assertIn("clasp found a solution", told)
+        self.assertIn("clasp found a solution", messages)
         self.engine(HANG)
         for name in ("dlx1", "dlx2", "dlx3"):
             os.remove(os.path.join(self.folder, "bin", name))
@@ -211,9 +211,9 @@ class Solving(WithEngines):
         self.program("exec /bin/sleep 1000")
         self.engine("echo hello", "cadical")
         self.engine("echo s UNSATISFIABLE; exit 20", "clasp")
-        status, _, told = run("solve", self.problem, "--seconds", "600")
+        status, _, messages = run("solve", self.problem, "--seconds", "600")
         self.assertEqual(status, 1)
-        first, second = told.splitlines()
+        first, second = messages.splitlines()
         self.assertIn("cadical gave no answer", first)
         self.assertIn("clasp reports that there is no solution; dlx2 hasn't proved it", second)
 
@@ -221,30 +221,30 @@ class Solving(WithEngines):
         self.engine(HANG, "cadical")
         self.after_the_engine()
         with mock.patch.object(engines, "_MOST_SECONDS", 0.5):
-            told = run("solve", self.problem)[2]
-        self.assertEqual(told.splitlines()[0], "cadical gave no answer in its time; dlx2 goes on")
+            messages = run("solve", self.problem)[2]
+        self.assertEqual(messages.splitlines()[0], "cadical gave no answer in its time; dlx2 goes on")
 
     def test_one_that_hangs_until_all_time_is_over(self):
         self.engine(HANG)
         self.program("exec /bin/sleep 1000")
-        status, out, told = run("solve", self.problem, "--seconds", "1")
+        status, out, messages = run("solve", self.problem, "--seconds", "1")
         self.assertEqual((status, out), (2, ""))
-        self.assertRegex(told, "0 solutions till then, and cadical(?: and clasp)? had none either\n")
+        self.assertRegex(messages, "0 solutions till then, and cadical(?: and clasp)? had none either\n")
 
     def test_one_that_would_take_too_long_to_write_to(self):
         self.program("/bin/sleep 1")
         self.engine(HANG)
         with mock.patch.object(engines, "_ALONE_SECONDS", 0.0), mock.patch.object(engines, "_MOST_WRITING", 0.0):
-            told = run("solve", self.problem)[2]
-        self.assertIn(f"no solution yet; the problem is too large for cadical here; {engines._ORDER}\n", told)
+            messages = run("solve", self.problem)[2]
+        self.assertIn(f"no solution yet; the problem is too large for cadical here; {engines._ORDER}\n", messages)
 
     def test_kinds(self):
         self.after_the_engine()
         clues = self.file("clues.txt", "1\n1\n\n1\n1\n")
         self.engine("echo hello", "cadical")
-        status, out, told = run("nonogram", clues)
+        status, out, messages = run("nonogram", clues)
         self.assertEqual((status, out.count("#")), (0, 2))
-        self.assertIn("cadical gave no answer (line 1: hello: no line of an answer of cadical); dlx2 goes on\n", told)
+        self.assertIn("cadical gave no answer (line 1: hello: no line of an answer of cadical); dlx2 goes on\n", messages)
 
     def test_which_one_is_asked(self):
         self.engine("exit 1")
@@ -263,18 +263,18 @@ class Solving(WithEngines):
         line = "no solution yet; cadical, which isn't on the path, may find one"
         self.assertEqual(sat_solver.missing("cadical"), line)
         with mock.patch.object(engines, "_LONG_SECONDS", 0.0), mock.patch.object(engines, "_ALONE_SECONDS", 0.0):
-            for is_terminal, told in ((True, f"{line}\n"), (False, "")):
+            for is_terminal, wanted in ((True, f"{line}\n"), (False, "")):
                 with mock.patch.object(Pipe, "isatty", lambda pipe: is_terminal):
-                    self.assertEqual(run("solve", self.problem)[2], f"{told}Altogether 1 solution (limit).\n")
-                    told = run("solve", self.problem, "--seconds", "0.4")[2]
-                    self.assertEqual((told.count(line), told.splitlines()[0]), (1, line))
+                    self.assertEqual(run("solve", self.problem)[2], f"{wanted}Altogether 1 solution (limit).\n")
+                    messages = run("solve", self.problem, "--seconds", "0.4")[2]
+                    self.assertEqual((messages.count(line), messages.splitlines()[0]), (1, line))
         self.assertEqual(run("solve", self.problem)[2], "Altogether 1 solution (limit).\n")
 
     def test_no_engine_for_a_kind(self):
         self.program("/bin/sleep 0.5")
         with mock.patch.object(engines, "_LONG_SECONDS", 0.0), mock.patch.object(Pipe, "isatty", lambda pipe: True):
-            told = run("queens", "6")[2]
-        self.assertEqual(told.splitlines()[0], "no solution yet; clasp, which isn't on the path, may find one")
+            messages = run("queens", "6")[2]
+        self.assertEqual(messages.splitlines()[0], "no solution yet; clasp, which isn't on the path, may find one")
 
     def test_where_the_command_is_killed(self):
         """The guard ends the engine, and what it has begun."""
@@ -284,7 +284,7 @@ class Solving(WithEngines):
         where = {**os.environ, "PYTHONPATH": os.path.dirname(os.path.dirname(engines.__file__))}
         command = subprocess.Popen([sys.executable, "-c", code, "solve", self.problem], env=where)
         deadline = time.monotonic() + 300
-        while len(self.told_numbers()) < 3 and time.monotonic() < deadline:
+        while len(self.numbers()) < 3 and time.monotonic() < deadline:
             time.sleep(0.1)
         command.kill()
         command.wait()
@@ -295,14 +295,14 @@ class Solving(WithEngines):
         for name in REAL:
             os.symlink(shutil.which(name, path=PATH), os.path.join(self.folder, "path", name))
             with self.subTest(name):
-                status, out, told = run("solve", self.problem)
+                status, out, messages = run("solve", self.problem)
                 self.assertEqual((status, out), (0, FOUND))
-                self.assertIn(f"{name} found a solution", told)
+                self.assertIn(f"{name} found a solution", messages)
                 self.assertIn(f"{name} reports that there is no solution", run("solve", self.none)[2])
             os.remove(os.path.join(self.folder, "path", name))
 
 
-# An answer that is right, one that is none, and what clasp does in place of a search, with what is told of it.
+# An answer that is right, one that is none, and what clasp does in place of a search, with what is printed of it.
 GOOD, WORSE = "echo v x1 -x2 -x3 x4 x5; echo o 2", "echo v x1 x2 -x3 -x4 x5; echo o 5"
 FALSE_COSTS = {
     "nonsense": ("echo hello", "gave no answer (line 1: hello: no line of an answer"),
@@ -366,7 +366,7 @@ IN_VAIN = {
     "cbc": lines("Stopped on time (no integer solution - continuous used) - objective value 1.5", "  0 x1  0.5  3"),
     "glpsol": lines("s mip 9 7 u 0", "j 1 0", "e o f", to=">&3"),
 }
-# What else they do wrong, with what is told of it.
+# What else they do wrong, with what is printed of it.
 FALSE_PROGRAMS = (
     ("highs", of_highs("Optimal", "Feasible", "# Columns 7", "x1 1", "x2 1", "# Rows 9"), "is none, as dlxcheck judges it"),
     ("highs", "echo hello; exit 3", "gave no answer (line 1: there is no answer of highs)"),
@@ -419,22 +419,22 @@ class Costs(WithEngines):
         self.addCleanup(patch.stop)
 
     def test_right_ones(self):
-        """What they report is told as theirs."""
+        """What they report is printed as theirs."""
         self.dlx3_hangs()
         for name, script in RIGHT.items():
             with self.subTest(name):
                 self.engine(script, name)
-                status, out, told = self.solve()
-                told = told.splitlines()[0]
+                status, out, messages = self.solve()
+                messages = messages.splitlines()[0]
                 self.assertEqual((status, out), (0, FOUND))
-                self.assertEqual(told, f"2 is the least cost that was found; {name} reports that none is cheaper.")
+                self.assertEqual(messages, f"2 is the least cost that was found; {name} reports that none is cheaper.")
                 found = cost.least(Problem.parse(TEXT), [3, 2, 0, -1, 0])
                 self.assertEqual((found.by, found.is_proved, found.cost), (name, False, 2))
                 self.nothing_is_left()
                 os.remove(os.path.join(self.folder, "path", name))
         for end in ("exec /bin/sleep 1000", "while :; do echo; done", "/bin/sleep 1000 & echo $! >> PIDS"):
             self.engine(f"{GOOD}; echo s OPTIMUM FOUND; {end}", "clasp")
-            status, out, told = self.solve()
+            status, out, messages = self.solve()
             self.assertEqual((status, out), (0, FOUND))
             self.nothing_is_left()
 
@@ -445,9 +445,9 @@ class Costs(WithEngines):
             with self.subTest(name):
                 self.engine(HANG, *RIGHT)
                 self.engine(RIGHT[name], name)
-                status, out, told = self.solve("--seconds", "600")
+                status, out, messages = self.solve("--seconds", "600")
                 self.assertEqual((status, out), (0, FOUND))
-                self.assertIn(f"; {name} reports that none is cheaper.", told)
+                self.assertIn(f"; {name} reports that none is cheaper.", messages)
                 self.nothing_is_left()
 
     def test_what_dlx3_shows_is_no_report(self):
@@ -455,24 +455,24 @@ class Costs(WithEngines):
         for script in (RIGHT["clasp"], HANG):
             self.engine(script, "clasp")
             with mock.patch.multiple(cost, _PROOF_SECONDS=600.0, _LEAST_PROOF_SECONDS=600.0):
-                status, out, told = self.solve("--seconds", "600")
-            self.assertEqual((status, out, told.splitlines()[0]), (0, FOUND, LEAST))
+                status, out, messages = self.solve("--seconds", "600")
+            self.assertEqual((status, out, messages.splitlines()[0]), (0, FOUND, LEAST))
             self.nothing_is_left()
 
     def test_a_wrong_report(self):
-        """dlx3 shows it to be wrong, before it is told and after."""
+        """dlx3 shows it to be wrong, before it is printed and after."""
         small, costs = self.file("small.dlx", SMALL), self.file("small.cost", SMALL_COSTS)
         self.engine(LIES, "clasp")
         with mock.patch.multiple(cost, _PROOF_SECONDS=600.0, _LEAST_PROOF_SECONDS=600.0):
-            status, _, told = run("solve", small, "--cost", costs)
+            status, _, messages = run("solve", small, "--cost", costs)
         self.assertEqual(status, 0)
-        self.assertIn(LEAST, told.splitlines())
+        self.assertIn(LEAST, messages.splitlines())
         self.after_the_engine()
         self.engine(LIES.replace("echo s", "echo c; echo s"), "clasp")
         self.engine("/bin/sleep 1; " + lines("Optimal - objective value 2", " 0 x1 1 1", " 1 x2 1 1"), "cbc")
         with mock.patch.multiple(cost, _PROOF_SECONDS=600.0, _LEAST_PROOF_SECONDS=600.0):
-            status, _, told = run("solve", small, "--cost", costs, "--seconds", "600")
-        first, second, *_ = told.splitlines()
+            status, _, messages = run("solve", small, "--cost", costs, "--seconds", "600")
+        first, second, *_ = messages.splitlines()
         wanted = "clasp reports that none costs less than its solution, and one does; dlx3 goes on"
         self.assertEqual((status, first, second), (0, wanted, LEAST))
 
@@ -481,15 +481,15 @@ class Costs(WithEngines):
             with self.subTest(name):
                 self.engine(script, name)
                 none = self.file("none.costs", "r1 1\n")
-                status, out, told = run("solve", self.none, "--cost", none)
-                self.assertEqual((status, out, told.splitlines()[0]), (1, "", "Altogether 0 solutions."))
+                status, out, messages = run("solve", self.none, "--cost", none)
+                self.assertEqual((status, out, messages.splitlines()[0]), (1, "", "Altogether 0 solutions."))
                 os.remove(os.path.join(self.folder, "path", name))
         self.dlx3_hangs()
         for name, script in NO_SOLUTION.items():
             with self.subTest(name):
                 self.engine(script, name)
-                told = f"{name} reports that there is no solution; dlx1 hasn't proved it; {HINT}\n"
-                self.assertEqual(run("solve", self.none, "--cost", none), (1, "", told))
+                wanted = f"{name} reports that there is no solution; dlx1 hasn't proved it; {HINT}\n"
+                self.assertEqual(run("solve", self.none, "--cost", none), (1, "", wanted))
                 os.remove(os.path.join(self.folder, "path", name))
 
     def test_none_where_there_is_one(self):
@@ -498,8 +498,8 @@ class Costs(WithEngines):
         for name in ("clasp", "glpsol"):
             self.engine(NO_SOLUTION[name], name)
             with mock.patch.object(cost, "_NONE_SECONDS", 600.0):
-                status, out, told = self.solve("--seconds", "600")
-            first, second, *_ = told.splitlines()
+                status, out, messages = self.solve("--seconds", "600")
+            first, second, *_ = messages.splitlines()
             self.assertEqual((status, out), (0, FOUND))
             self.assertEqual(first, f"{name} reports that there is no solution, and there is one; dlx3 goes on")
             self.assertEqual(second, "2 is the least cost that was found; cbc reports that none is cheaper.")
@@ -512,16 +512,16 @@ class Costs(WithEngines):
         for name, script in FOUND_ONLY.items():
             with self.subTest(name), mock.patch.object(cost, "MOST_SECONDS", 0.5):
                 self.engine(script, name)
-                status, out, told = self.solve()
-                self.assertEqual((status, out, told.splitlines()[0]), (2, FOUND, wanted))
+                status, out, messages = self.solve()
+                self.assertEqual((status, out, messages.splitlines()[0]), (2, FOUND, wanted))
                 os.remove(os.path.join(self.folder, "path", name))
         for name, script in IN_VAIN.items():
             with self.subTest(name):
                 self.engine(script, name)
-                status, out, told = self.solve("--seconds", "1")
+                status, out, messages = self.solve("--seconds", "1")
                 self.assertEqual((status, out), (2, ""))
-                self.assertIn("it found none in its time); dlx3 goes on\n", told)
-                self.assertTrue(told.endswith("helgrothy: no solution was found in 1 seconds\n"), told)
+                self.assertIn("it found none in its time); dlx3 goes on\n", messages)
+                self.assertTrue(messages.endswith("helgrothy: no solution was found in 1 seconds\n"), messages)
                 os.remove(os.path.join(self.folder, "path", name))
 
     def test_false_ones(self):
@@ -531,11 +531,11 @@ class Costs(WithEngines):
             with self.subTest(name=name, script=script):
                 forget()
                 self.engine(script, name)
-                status, out, told = self.solve("--seconds", "600")
-                first, *rest = told.splitlines()
-                self.assertEqual((status, out, rest[:1]), (0, FOUND, [LEAST]), told)
+                status, out, messages = self.solve("--seconds", "600")
+                first, *rest = messages.splitlines()
+                self.assertEqual((status, out, rest[:1]), (0, FOUND, [LEAST]), messages)
                 self.assertIn(wanted, first)
-                self.assertTrue(first.endswith("; dlx3 goes on"), told)
+                self.assertTrue(first.endswith("; dlx3 goes on"), messages)
                 self.assertLess(len(first), 400)
                 self.nothing_is_left()
                 os.remove(os.path.join(self.folder, "path", name))
@@ -548,10 +548,10 @@ class Costs(WithEngines):
         with mock.patch.dict(os.environ, PATH=f"{os.environ['PATH']}:/usr/bin:/bin"):
             path = [name for name in RIGHT if name != "clasp" and shutil.which(name)]
             with mock.patch.object(sat_solver, "path_of", lambda name: None if name in path else shutil.which(name)):
-                status, out, told = self.solve()
+                status, out, messages = self.solve()
         with open(other) as file:
             os.kill(int(file.read()), signal.SIGKILL)
-        self.assertEqual((status, out, told.splitlines()[1]), (0, FOUND, LEAST))
+        self.assertEqual((status, out, messages.splitlines()[1]), (0, FOUND, LEAST))
 
     def test_one_that_hangs(self):
         """dlx3 answers beside it, and without seconds an engine has a time of its own."""
@@ -559,16 +559,16 @@ class Costs(WithEngines):
         hanging = (HANG, f"/bin/sleep 1000 & echo $! >> PIDS; {HANG}", deaf)
         for script in hanging:
             self.engine(script, *RIGHT)
-            status, out, told = self.solve("--seconds", "600")
-            self.assertEqual((status, out, told.splitlines()[0]), (0, FOUND, LEAST))
+            status, out, messages = self.solve("--seconds", "600")
+            self.assertEqual((status, out, messages.splitlines()[0]), (0, FOUND, LEAST))
             self.nothing_is_left()
         self.after_the_engine()
         for name in list(RIGHT)[1:]:
             os.remove(os.path.join(self.folder, "path", name))
         self.engine(HANG, "clasp")
         with mock.patch.object(sat_solver, "MOST_SECONDS", 0.5):
-            told = self.solve()[2]
-        self.assertEqual(told.splitlines()[:2], ["clasp gave no answer in its time; dlx3 goes on", LEAST])
+            messages = self.solve()[2]
+        self.assertEqual(messages.splitlines()[:2], ["clasp gave no answer in its time; dlx3 goes on", LEAST])
 
     def test_where_all_hang(self):
         self.dlx3_hangs()
@@ -579,8 +579,8 @@ class Costs(WithEngines):
         self.after_the_engine()
         self.engine(HANG, "cbc")
         with mock.patch.object(cost, "_MOST_WRITING", 0.0):
-            told = self.solve()[2]
-        self.assertEqual(told.splitlines()[:2], ["the problem is too large for cbc here; dlx3 goes on", LEAST])
+            messages = self.solve()[2]
+        self.assertEqual(messages.splitlines()[:2], ["the problem is too large for cbc here; dlx3 goes on", LEAST])
 
     def test_no_engine(self):
         """The line comes once, soon where there is a terminal, and else at the end."""
@@ -588,8 +588,8 @@ class Costs(WithEngines):
         line = "no solution yet; clasp or cbc, which aren't on the path, may find one"
         for is_terminal in (True, False):
             with mock.patch.object(cost, "_LONG_SECONDS", 0.0), mock.patch.object(Pipe, "isatty", lambda pipe: is_terminal):
-                told = self.solve("--seconds", "1")[2]
-            self.assertEqual(told, f"{line}\nhelgrothy: no solution was found in 1 seconds\n")
+                messages = self.solve("--seconds", "1")[2]
+            self.assertEqual(messages, f"{line}\nhelgrothy: no solution was found in 1 seconds\n")
 
     def test_memory(self):
         """A flood takes no more than an answer does, and a little."""
@@ -623,8 +623,8 @@ class Costs(WithEngines):
             os.symlink(shutil.which(name, path=PATH), os.path.join(self.folder, "path", name))
             with self.subTest(name):
                 self.assertIn(f"; {name} reports that none is cheaper.", self.solve("--seconds", "600")[2])
-                told = run("solve", self.none, "--cost", self.file("none.costs", "r1 1\n"))[2]
-                self.assertIn(f"{name} reports that there is no solution", told)
+                messages = run("solve", self.none, "--cost", self.file("none.costs", "r1 1\n"))[2]
+                self.assertIn(f"{name} reports that there is no solution", messages)
             os.remove(os.path.join(self.folder, "path", name))
 
 
@@ -634,13 +634,13 @@ class Whys(WithEngines):
     def test_why_with_a_right_one(self):
         self.program("exec /bin/sleep 1000")
         self.engine("echo s UNSATISFIABLE; exit 20")
-        status, out, told = run("why", self.none, "--seconds", "300")
+        status, out, messages = run("why", self.none, "--seconds", "300")
         self.assertEqual(status, 0)
         self.assertIn("clasp reports so; dlx1, which would prove it, came to no end in the time\n", out)
         # The problem's options, and a variable for each item that lets it off.
         self.engine(f"echo s SATISFIABLE; echo v {' '.join(VALUES)} 0; exit 10")
-        told = run("why", self.problem, "--seconds", "300")[2]
-        self.assertRegex(told, r"\Acadical found a solution, and dlxcheck judges it .*\nhelgrothy: there is a solution\n\Z")
+        messages = run("why", self.problem, "--seconds", "300")[2]
+        self.assertRegex(messages, r"\Acadical found a solution, and dlxcheck judges it .*\nhelgrothy: there is a solution\n\Z")
 
     def test_why_with_false_ones(self):
         forget = self.after_the_engine()
@@ -649,39 +649,39 @@ class Whys(WithEngines):
             with self.subTest(name):
                 forget()
                 self.engine(script, "cadical")
-                status, out, told = run("why", self.problem, "--seconds", "600")
-                self.assertEqual((status, out), (1, ""), told)
-                self.assertIn(wanted, told)
-                self.assertTrue(told.endswith("; dlx2 goes on\nhelgrothy: there is a solution\n"), told)
+                status, out, messages = run("why", self.problem, "--seconds", "600")
+                self.assertEqual((status, out), (1, ""), messages)
+                self.assertIn(wanted, messages)
+                self.assertTrue(messages.endswith("; dlx2 goes on\nhelgrothy: there is a solution\n"), messages)
                 self.nothing_is_left()
 
     def test_why_with_one_that_hangs(self):
         self.program("exec /bin/sleep 1000")
         self.engine(HANG)
-        status, out, told = run("why", self.problem, "--seconds", "1")
+        status, out, messages = run("why", self.problem, "--seconds", "1")
         self.assertEqual((status, out), (2, ""))
         # A machine that does other things too may not come to say more than that the time is over.
-        self.assertRegex(told, "in 1 seconds it isn't known whether there is a solution|it wasn't done in 1 seconds")
+        self.assertRegex(messages, "in 1 seconds it isn't known whether there is a solution|it wasn't done in 1 seconds")
 
     def test_why_without_one(self):
         self.program("exec /bin/sleep 1000")
-        told = run_until("isn't known", "why", self.problem)[2]
-        self.assertIn(f"{sat_solver.missing('cadical')}\nhelgrothy: in ", told)
+        messages = run_until("isn't known", "why", self.problem)[2]
+        self.assertIn(f"{sat_solver.missing('cadical')}\nhelgrothy: in ", messages)
 
     @mock.patch.object(acts, "_SEARCH_SECONDS", 60.0)
     def test_lint(self):
         self.assertEqual(run("lint", self.none)[:2], (1, "line 3: dlx1 finds that there is no solution\n"))
         forget = self.after_the_engine()
         self.engine("echo s UNSATISFIABLE; exit 20", "cadical")
-        told = "line 1: cadical reports that there is no solution; dlx2 hasn't proved it\n"
-        self.assertEqual(run("lint", self.problem), (1, told, ""))
+        wanted = "line 1: cadical reports that there is no solution; dlx2 hasn't proved it\n"
+        self.assertEqual(run("lint", self.problem), (1, wanted, ""))
         for name in ("nonsense", "a wrong solution", "dies", "floods"):
             with self.subTest(name):
                 forget()
                 self.engine(FALSE[name][0], "cadical")
-                status, out, told = run("lint", self.problem)
+                status, out, messages = run("lint", self.problem)
                 self.assertEqual((status, out), (0, ""))
-                self.assertIn(FALSE[name][1], told)
+                self.assertIn(FALSE[name][1], messages)
                 self.nothing_is_left()
 
     @mock.patch.object(acts, "_SEARCH_SECONDS", 1.0)

@@ -88,11 +88,11 @@ class Choices(InFolder):
     def test_commands(self):
         self.assertEqual(run("solve", "--with", "mon bob", given=DAYS)[1], "mon bob\ntue ann\n")
         self.assertEqual(run("solve", "--without", "mon b*", given=DAYS)[1], "mon ann\ntue bob\n")
-        told = run("solve", "--with", "mon bob", "--json", given=DAYS)[1]
-        self.assertEqual(told, '{"number": 1, "options": [2, 3], "items": [["mon", "bob"], ["tue", "ann"]], "colours": {}}\n')
-        status, text, told = run("solve", "--with", "mon bob", "--with", "tue bob", given=DAYS)
-        self.assertEqual((status, text, told.splitlines()[0]), (1, "", "Altogether 0 solutions."))
-        self.assertIn("is what is given: mon bob\n", told)
+        printed = run("solve", "--with", "mon bob", "--json", given=DAYS)[1]
+        self.assertEqual(printed, '{"number": 1, "options": [2, 3], "items": [["mon", "bob"], ["tue", "ann"]], "colours": {}}\n')
+        status, text, messages = run("solve", "--with", "mon bob", "--with", "tue bob", given=DAYS)
+        self.assertEqual((status, text, messages.splitlines()[0]), (1, "", "Altogether 0 solutions."))
+        self.assertIn("is what is given: mon bob\n", messages)
         for words, wanted in (
             (["--with", "mon"], "--with mon: 2 options have this, name more items of one: mon ann; mon bob"),
             (["--with", "mon bbo"], "--with mon bbo: bbo: no such item (is it bob?)"),
@@ -102,8 +102,8 @@ class Choices(InFolder):
             (["--without", "x:r"], "--without x:r: x: no such item"),
         ):
             self.assertEqual(run("solve", *words, given=DAYS), (2, "", f"helgrothy: {wanted}\n"))
-        told = run("tests", "2,2", "--least", "--with", "x")
-        self.assertEqual(told[2], "helgrothy: this search has a problem of its own: without --cost, --with and --without\n")
+        done = run("tests", "2,2", "--least", "--with", "x")
+        self.assertEqual(done[2], "helgrothy: this search has a problem of its own: without --cost, --with and --without\n")
 
     def test_a_beginning_of_names(self):
         problem = Problem.parse("mon/hall mon/lab tue\nmon/hall\nmon/lab\ntue\n")
@@ -132,7 +132,7 @@ class Choices(InFolder):
 class Hints(InFolder):
     def test_random_problems(self):
         rng = random.Random(12)
-        told = {"single": 0, "trial": 0, "search": 0, "free": 0, "solved": 0, "none": 0}
+        times = {"single": 0, "trial": 0, "search": 0, "free": 0, "solved": 0, "none": 0}
         for case in range(400):
             problem = Problem.parse(problem_of(rng, case % 3 + 1, 9, 24, 0.25))
             covers = all_of(problem)
@@ -145,21 +145,21 @@ class Hints(InFolder):
             except hint.NoHint as none:
                 left = frozenset.intersection(*wanted) - set(held) if wanted else None
                 if none.is_solved:
-                    told["solved"] += 1
+                    times["solved"] += 1
                     self.assertIn(frozenset(held), wanted)
                 elif wanted:
-                    told["free"] += 1
+                    times["free"] += 1
                     self.assertEqual(left, frozenset(), none)
                 else:
-                    told["none"] += 1
+                    times["none"] += 1
                     self.assertRegex(str(none), "there is no solution")
                 continue
             for one in wanted:
                 self.assertIn(found.option, one)
             self.assertNotIn(found.option, held)
             reason = found.reasons[0]
-            told["search" if "search" in reason else "trial" if "works" in reason else "single"] += 1
-        self.assertGreater(min(told["single"], told["search"], told["free"], told["none"]), 3, told)
+            times["search" if "search" in reason else "trial" if "works" in reason else "single"] += 1
+        self.assertGreater(min(times["single"], times["search"], times["free"], times["none"]), 3, times)
 
     def test_a_sudoku_is_solved_by_hints(self):
         problem = make.sudoku.problem(CLUES)
@@ -176,38 +176,38 @@ class Hints(InFolder):
         self.assertEqual(len(held), CLUES.count("."))
 
     def test_reasons(self):
-        told = run("hint", given="a b c\na b\nb c\na\nc\n")
-        self.assertEqual(told, (1, "", "helgrothy: nothing is forced: no option that is left is in all solutions\n"))
-        told = run("hint", given="a b c | x\na x\nb\nb x\nc\nc x\n")
-        self.assertEqual(told, (0, "a x\na has one option left\n", ""))
-        told = run("hint", "--with", "a x", given="a b c | x\na x\nb\nb x\nc\nc x\n")
-        self.assertEqual(told[1], "b\nb has one option left: 1 option ruled out by a x\n")
-        told = run("hint", "--without", "b c", given="a b c\na b\nb c\na\nb\nc\n")
-        self.assertEqual(told[1], "c\nc has one option left: 1 option ruled out by what is forbidden\n")
-        told = run("hint", given="2|a b | x\na x\na x\na\na\nb\nb\n")
-        self.assertEqual(told[0], 1)
-        told = run("hint", "--with", "a", given="a b\na\nb a\n")
-        self.assertEqual(told[2], "helgrothy: --with a: 2 options have this, name more items of one: a; b a\n")
-        told = run("hint", given="a b\na\n")
-        self.assertEqual(told, (1, "", "helgrothy: there is no solution: b has no option left\n"))
-        told = run("hint", "--with", "mon ann", "--with", "tue ann", given=DAYS)
-        self.assertEqual(told[2], "helgrothy: there is no solution: tue ann and mon ann don't go together, by ann\n")
-        told = run("hint", "--with", "mon ann", "--with", "tue bob", given=DAYS)
-        self.assertEqual(told, (1, "", "helgrothy: nothing is left to choose: what is chosen is a solution\n"))
+        done = run("hint", given="a b c\na b\nb c\na\nc\n")
+        self.assertEqual(done, (1, "", "helgrothy: nothing is forced: no option that is left is in all solutions\n"))
+        done = run("hint", given="a b c | x\na x\nb\nb x\nc\nc x\n")
+        self.assertEqual(done, (0, "a x\na has one option left\n", ""))
+        done = run("hint", "--with", "a x", given="a b c | x\na x\nb\nb x\nc\nc x\n")
+        self.assertEqual(done[1], "b\nb has one option left: 1 option ruled out by a x\n")
+        done = run("hint", "--without", "b c", given="a b c\na b\nb c\na\nb\nc\n")
+        self.assertEqual(done[1], "c\nc has one option left: 1 option ruled out by what is forbidden\n")
+        done = run("hint", given="2|a b | x\na x\na x\na\na\nb\nb\n")
+        self.assertEqual(done[0], 1)
+        done = run("hint", "--with", "a", given="a b\na\nb a\n")
+        self.assertEqual(done[2], "helgrothy: --with a: 2 options have this, name more items of one: a; b a\n")
+        done = run("hint", given="a b\na\n")
+        self.assertEqual(done, (1, "", "helgrothy: there is no solution: b has no option left\n"))
+        done = run("hint", "--with", "mon ann", "--with", "tue ann", given=DAYS)
+        self.assertEqual(done[2], "helgrothy: there is no solution: tue ann and mon ann don't go together, by ann\n")
+        done = run("hint", "--with", "mon ann", "--with", "tue bob", given=DAYS)
+        self.assertEqual(done, (1, "", "helgrothy: nothing is left to choose: what is chosen is a solution\n"))
 
     def test_kinds_and_places_of_words(self):
         wanted = "r7c1 r7=9 c1=9 b7=9\nc1=9 has one option left: 3 options ruled out by r3c2 r3=9 c2=9 b1=9; "
         for words in ((), ("--seconds", "9")):
-            for told in (run("hint", *words, "sudoku", CLUES), run("hint", "sudoku", CLUES, *words)):
-                self.assertEqual((told[0], told[1][: len(wanted)], told[2]), (0, wanted, ""))
+            for done in (run("hint", *words, "sudoku", CLUES), run("hint", "sudoku", CLUES, *words)):
+                self.assertEqual((done[0], done[1][: len(wanted)], done[2]), (0, wanted, ""))
         path = self.file("q.dlx", make.queens.problem(6).text)
         for words in ((path, "--with", "r1 c4"), ("--with", "r1 c4", path), ("queens", "6", "--with", "r1 c4")):
             status, text, _ = run("hint", *words)
             self.assertEqual((status, text.splitlines()[1]), (0, "without this option there is no solution, as a search says"))
         self.assertEqual(run("hint", "nowhere.dlx")[2], "helgrothy: nowhere.dlx: No such file or directory\n")
         with mock.patch.object(hint, "find", side_effect=OutOfTime("no")):
-            told = run("hint", path)
-        self.assertEqual(told, (2, "", "helgrothy: in 5 seconds nothing was found that is forced\n"))
+            done = run("hint", path)
+        self.assertEqual(done, (2, "", "helgrothy: in 5 seconds nothing was found that is forced\n"))
 
 
 if __name__ == "__main__":

@@ -126,13 +126,13 @@ class Values(unittest.TestCase):
     def test_what_is_no_graph(self):
         directed = Graph("ab", ["ab"])
         directed.is_directed = lambda: True
-        for graph, error, told in (
+        for graph, error, wanted in (
             ([(0, 1)], TypeError, "a graph has edges, and this is of type list"),
             (directed, ValueError, "the graph is directed; graph.to_undirected.. has the same edges without directions"),
             (Graph("ab", [("a",)]), ValueError, r"an edge is a pair of nodes, and one is \('a',\)"),
             (Graph("ab", ["ac"]), ValueError, "an edge has 'c', which is no node of the graph"),
         ):
-            with self.subTest(told=told), self.assertRaisesRegex(error, f"^{told}$"):
+            with self.subTest(wanted=wanted), self.assertRaisesRegex(error, f"^{wanted}$"):
                 graphs.perfect_matchings(graph)
         with self.assertRaisesRegex(ValueError, r"^part 1 has \(0, 2\), which is no edge of the graph$"):
             graphs.edge_partitions(ring(4), [[(0, 1)], [(0, 2)]])
@@ -185,8 +185,8 @@ class Pictures(unittest.TestCase):
         (x0, y0), (x1, y1), (x2, y2) = ((float(end.get("cx")), float(end.get("cy"))) for end in ends)
         self.assertTrue(x0 < x1 == x2 and y0 == y1 > y2)
         self.assertAlmostEqual((y1 - y2) / (x1 - x0), 5, places=3)
-        for wrong, told in (({0: (0, 0)}, "no place for 1"), ({**places, 2: (float("nan"), 1)}, "no place on paper for 2")):
-            with self.assertRaisesRegex(ValueError, told):
+        for wrong, wanted in (({0: (0, 0)}, "no place for 1"), ({**places, 2: (float("nan"), 1)}, "no place on paper for 2")):
+            with self.assertRaisesRegex(ValueError, wanted):
                 graphs.colourings(ring(3), 3, positions=wrong)
 
     def test_others_have_none(self):

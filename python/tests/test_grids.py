@@ -58,10 +58,10 @@ class Motions(unittest.TestCase):
 class Drawing(InFolder):
     def test_text_and_svg(self):
         given = text(HEX, [*SEVEN[:3], *SEVEN[4:]])
-        status, told, _ = run("solve", "--cell", CELL, "--grid", "hex", "--all", given=given)
-        self.assertEqual((status, told), (0, " A A\nB   C\n B C\n\n A B\nA   B\n C C\n"))
-        status, told, _ = run("solve", "--cell", CELL, "--grid", "triangle", "--all", given=text(TRIANGLE, SIX))
-        self.assertEqual((status, told), (0, "AAB\nCCB\n\nABB\nACC\n"))
+        status, printed, _ = run("solve", "--cell", CELL, "--grid", "hex", "--all", given=given)
+        self.assertEqual((status, printed), (0, " A A\nB   C\n B C\n\n A B\nA   B\n C C\n"))
+        status, printed, _ = run("solve", "--cell", CELL, "--grid", "triangle", "--all", given=text(TRIANGLE, SIX))
+        self.assertEqual((status, printed), (0, "AAB\nCCB\n\nABB\nACC\n"))
         for grid, cells, corners in (("hex", [*SEVEN[:3], *SEVEN[4:]], 6), ("triangle", SIX, 3)):
             given = text(HEX if grid == "hex" else TRIANGLE, cells)
             svg = run("solve", "--cell", CELL, "--grid", grid, "--svg", given=given)[1]
@@ -90,8 +90,8 @@ class Drawing(InFolder):
         lines = [" ".join(f"q{c}r{r}" for r, c in around)]
         lines += [f"q{a[1]}r{a[0]} q{b[1]}r{b[0]}" for a, b in pairs(HEX, around)]
         words = ("solve", "--cell", r"q(?P<column>-?\d)r(?P<row>-?\d)", "--grid", "hex", "--up-to-symmetry", "--all")
-        told = run(*words, given="".join(f"{line}\n" for line in lines))
-        self.assertEqual(told, (0, " A B\nA   B\n C C\n", "Altogether 1 solution up to 12 symmetries.\n"))
+        done = run(*words, given="".join(f"{line}\n" for line in lines))
+        self.assertEqual(done, (0, " A B\nA   B\n C C\n", "Altogether 1 solution up to 12 symmetries.\n"))
 
     def test_halves_of_a_rhombus(self):
         """By the names that people give them; the picture is the same."""
@@ -100,10 +100,10 @@ class Drawing(InFolder):
             for pattern in (r"r(\d)c(\d)([ud01])", r"r(?P<row>\d)c(?P<column>\d)(?P<half>[ud01])"):
                 got = run("solve", "--cell", pattern, "--grid", "triangle", given=words)
                 self.assertEqual(got[:2], (0, "AABB\n"))
-        told = run("solve", "--cell", r"r(\d)c(\d)([xu])", "--grid", "triangle", given="r1c1x\nr1c1x\n")[2]
-        self.assertEqual(told, "helgrothy: x: a triangle is half 0 (or u) or half 1 (or d) of a rhombus\n")
-        told = run("solve", "--up-to-symmetry", "--cell", r"r(\d)c(\d)(\d)", "--grid", "hex", given="r1c1x r1c11\nr1c11\n")[2]
-        self.assertEqual(told, "helgrothy: a cell of the grid hex has a row and a column, and this one 3 numbers\n")
+        messages = run("solve", "--cell", r"r(\d)c(\d)([xu])", "--grid", "triangle", given="r1c1x\nr1c1x\n")[2]
+        self.assertEqual(messages, "helgrothy: x: a triangle is half 0 (or u) or half 1 (or d) of a rhombus\n")
+        messages = run("solve", "--up-to-symmetry", "--cell", r"r(\d)c(\d)(\d)", "--grid", "hex", given="r1c1x r1c11\nr1c11\n")[2]
+        self.assertEqual(messages, "helgrothy: a cell of the grid hex has a row and a column, and this one 3 numbers\n")
 
     def test_faults(self):
         given = "r1c1\nr1c1\n"
@@ -135,8 +135,8 @@ class Chances(unittest.TestCase):
         given = "r1c1 r1c2 r2c1 a b\n"
         given += "".join(f"{cell} {name}\n" for cell in ("r1c1", "r1c2") for name in "ab") + "r2c1\n"
         words = ("solve", "--cell", CELL, "--label", "[ab]", "--grid", "hex", "--chances")
-        status, told, _ = run(*words, given=given)
-        self.assertEqual((status, told.split()), (0, ["a", "50%", "a", "50%", "*"]))
+        status, printed, _ = run(*words, given=given)
+        self.assertEqual((status, printed.split()), (0, ["a", "50%", "a", "50%", "*"]))
         self.assertEqual(run(*words, "--svg", given=given)[1].count(">a 50%</text>"), 2)
 
 
@@ -167,8 +167,8 @@ class UpToSymmetry(unittest.TestCase):
         got = run(*words, given=text(TRIANGLE, SIX))
         self.assertEqual((got[0], got[2]), (0, "Altogether 1 solution up to 12 symmetries.\n"))
         # As squares they hang together in another way.
-        told = run(*words[:3], *words[5:], given=text(TRIANGLE, SIX))[2]
-        self.assertNotIn("12", told)
+        messages = run(*words[:3], *words[5:], given=text(TRIANGLE, SIX))[2]
+        self.assertNotIn("12", messages)
 
 
 if __name__ == "__main__":

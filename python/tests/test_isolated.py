@@ -133,8 +133,8 @@ class Isolated(unittest.TestCase):
                 programs.find("dlx1")
             # As a repository has it, and no release.
             self.file("crates.txt", "")
-            told = f"^dlx-span isn't built; `make all` in {self.folder} builds all programs"
-            with self.assertRaisesRegex(ProgramNotFound, told):
+            wanted = f"^dlx-span isn't built; `make all` in {self.folder} builds all programs"
+            with self.assertRaisesRegex(ProgramNotFound, wanted):
                 programs.find("dlx-span")
 
     def test_no_program_that_anybody_may_put_there_is_run(self):
@@ -152,10 +152,10 @@ class Isolated(unittest.TestCase):
             script = self.file("bin/helgrothy", file.read(), 0o755)
         self.file("python/helgrothy/__init__.py", "")
         self.file("python/helgrothy/__main__.py", "def run(): print('LOADED')\n")
-        for mode, told in ((0o755, "LOADED\n"), (0o1777, "")):
+        for mode, wanted in ((0o755, "LOADED\n"), (0o1777, "")):
             os.chmod(self.folder, mode)
             done = subprocess.run([script], stdout=subprocess.PIPE, stderr=subprocess.PIPE, text=True)
-            self.assertEqual(done.stdout, told)
+            self.assertEqual(done.stdout, wanted)
         said = f"helgrothy: no package is loaded from '{self.folder}', into which anybody may write\n"
         self.assertEqual((done.returncode, done.stderr), (2, said))
 
@@ -216,15 +216,15 @@ class ClosedStreams(unittest.TestCase):
             self.assertEqual((done.returncode, done.stderr), (2, ""))
 
     def test_a_listing(self):
-        """As the programs in one, but that its warnings come first: where they can't be told nothing is listed."""
+        """As the programs in one, but that its warnings come first: where they can't be printed nothing is listed."""
         listing, warning = "1:\n A x (1 of 2)\n2:\n A (2 of 2)\n", "Option ignored (no primary items): line 2\n"
         for words in (["search", "p.dlx", "--list"], ["search", "--result", "folder", "--list"]):
             for closed in itertools.product((False, True), repeat=3):
                 with self.subTest(words=words, closed=closed):
                     redirected = " ".join(text for is_closed, text in zip(closed, ("<&-", ">&-", "2>&-")) if is_closed)
                     done = command("helgrothy", *words, redirected=redirected, cwd=self.folder)
-                    told = "" if closed[2] else warning + ("Write failed.\n" if closed[1] else "Altogether 2 solutions.\n")
-                    self.assertEqual(done.stderr, told)
+                    wanted = "" if closed[2] else warning + ("Write failed.\n" if closed[1] else "Altogether 2 solutions.\n")
+                    self.assertEqual(done.stderr, wanted)
                     self.assertEqual(done.stdout, "" if closed[1] or closed[2] else listing)
                     self.assertEqual(done.returncode, 2 if closed[2] else 3 if closed[1] else 0)
 

@@ -62,7 +62,7 @@ def runs(process: int) -> bool:
         return False
 
 
-def told(folder: str) -> "list[int]":
+def numbers_of(folder: str) -> "list[int]":
     """The processes of programs so far."""
     path = os.path.join(folder, "pids")
     if not os.path.exists(path):
@@ -87,14 +87,14 @@ def begun(folder: str, call: str, does: str, by: signal.Signals) -> "list[int]":
     python = subprocess.Popen([sys.executable, "-c", code], env=where, cwd=folder, stderr=subprocess.DEVNULL)
     try:
         deadline = time.monotonic() + 60
-        while not told(folder) and python.poll() is None and time.monotonic() < deadline:
+        while not numbers_of(folder) and python.poll() is None and time.monotonic() < deadline:
             time.sleep(0.05)
         # There may be a second program beside the first one.
         time.sleep(0.5)
     finally:
         python.send_signal(by)
         python.wait()
-    return told(folder)
+    return numbers_of(folder)
 
 
 def left(programs: "list[int]", seconds: float) -> "list[int]":

@@ -25,7 +25,7 @@ ERASED = "\r\x1b[K"
 
 
 class OnTerminal:
-    """A command whose standard error is a terminal; `told` is what that got."""
+    """A command whose standard error is a terminal; `shown` is what that got."""
 
     def __init__(self, *words: str, **environment: str) -> None:
         own, its = pty.openpty()
@@ -34,7 +34,7 @@ class OnTerminal:
         how = {"stdin": subprocess.DEVNULL, "stdout": subprocess.DEVNULL, "stderr": its, "env": variables}
         self._process = subprocess.Popen(command, **how)  # type: ignore[call-overload]
         os.close(its)
-        self._told = b""
+        self._shown = b""
         self._reader = threading.Thread(target=self._read, args=[own])
         self._reader.start()
 
@@ -42,25 +42,25 @@ class OnTerminal:
         with open(own, "rb", buffering=0) as file:
             try:
                 while chunk := file.read(1 << 16):
-                    self._told += chunk
+                    self._shown += chunk
             except OSError:
-                # So the end of a terminal is told.
+                # So the end of a terminal shows.
                 pass
 
-    def told(self) -> str:
+    def shown(self) -> str:
         """All that it got, once the command has ended."""
         self._process.wait()
         self._reader.join()
-        return self._told.decode()
+        return self._shown.decode()
 
     def until(self, wanted: str) -> str:
         """The same, where the command is stopped as soon as it got this."""
         for _ in range(600):
-            if re.search(wanted, self._told.decode()) or self._process.poll() is not None:
+            if re.search(wanted, self._shown.decode()) or self._process.poll() is not None:
                 break
             time.sleep(0.1)
         self._process.send_signal(signal.SIGINT)
-        return self.told()
+        return self.shown()
 
 
 class Lines(InFolder):
@@ -82,15 +82,15 @@ class Lines(InFolder):
         }
         begun = {wanted: OnTerminal(*words) for wanted, words in commands.items()}
         for wanted, command in begun.items():
-            told = command.until(rf"\r\x1b\[K[0-9]+ s; {wanted}")
+            shown = command.until(rf"\r\x1b\[K[0-9]+ s; {wanted}")
             with self.subTest(wanted=wanted):
-                self.assertRegex(told, rf"\r\x1b\[K[0-9]+ s; {wanted}")
+                self.assertRegex(shown, rf"\r\x1b\[K[0-9]+ s; {wanted}")
                 # It is gone at the end, where the command may have come to before.
-                self.assertNotRegex(told.split(ERASED)[-1], r"\A[0-9:]+( s)?; ")
+                self.assertNotRegex(shown.split(ERASED)[-1], r"\A[0-9:]+( s)?; ")
 
     def test_it_is_gone_before_what_is_said(self):
-        told = OnTerminal("count", self.file("queens.dlx", make.queens.problem(20).text), "--seconds", "3.5").told()
-        self.assertRegex(told, r"\r\x1b\[Khelgrothy: it wasn't done in 3.5 seconds; [0-9]+ solutions till then\r\n\Z|\Ahelgrothy: ")
+        shown = OnTerminal("count", self.file("queens.dlx", make.queens.problem(20).text), "--seconds", "3.5").shown()
+        self.assertRegex(shown, r"\r\x1b\[Khelgrothy: it wasn't done in 3.5 seconds; [0-9]+ solutions till then\r\n\Z|\Ahelgrothy: ")
 
     def test_there_is_none_elsewhere(self):
         queens = self.file("queens.dlx", make.queens.problem(20).text)
@@ -98,11 +98,11 @@ class Lines(InFolder):
         environment = {**os.environ, "TERM": "xterm", "PYTHONPATH": PACKAGE}
         dumb = OnTerminal("count", queens, "--seconds", "3", TERM="dumb")
         done = subprocess.run(command, env=environment, stderr=subprocess.PIPE, text=True)
-        for told in (done.stderr, dumb.told().replace("\r\n", "\n")):
-            self.assertRegex(told, r"\Ahelgrothy: [^\r]+\n\Z")
+        for shown in (done.stderr, dumb.shown().replace("\r\n", "\n")):
+            self.assertRegex(shown, r"\Ahelgrothy: [^\r]+\n\Z")
 
     def test_a_short_command_has_none(self):
-        self.assertEqual(OnTerminal("queens", "6").told(), "Altogether 1 solution (limit).\r\n")
+        self.assertEqual(OnTerminal("queens", "6").shown(), "Altogether 1 solution (limit).\r\n")
 
     def test_text(self):
         report = Report(["dlx-count", "dlx1"], "count")
@@ -118,13 +118,13 @@ class Lines(InFolder):
         reports.unheard(at_work=["dlx3"], best="1")
 
     def test_line_is_cut_and_without_signs_that_steer(self):
-        told = []
+        written = []
         line = type(LINE)()
-        line._write = lambda text: bool(told.append(text)) or True
+        line._write = lambda text: bool(written.append(text)) or True
         line.show("a\x1b" + "b" * 1000)
         line.clear()
         line.clear()
-        self.assertEqual(told, [f"{ERASED}a\\x1b{'b' * 74}", ERASED])
+        self.assertEqual(written, [f"{ERASED}a\\x1b{'b' * 74}", ERASED])
 
     def test_how_far_a_listing_is(self):
         listing = b"2:\n a x (1 of 2)\n b (2 of 2)\n4:\n a x:1 (2 of 2)\n c (4 of 4)\n7:\n a (2 of 2)\n"
@@ -135,8 +135,8 @@ class Lines(InFolder):
             self.assertEqual((reached.number, reached.share()), (4, 0.875))
         self.assertEqual(progress.Reached().number, 0)
         self.assertEqual(progress.share_before([Step("a", 1, 2, 2), Step("c", 1, 4, 4)]), 0.875)
-        self.assertEqual(progress.told(1234, 0.875, 8.0), "1,234 found, 87.5 % of the tree, ~0:01 left")
-        self.assertEqual(progress.told(1, 0.0, 7.0), "1 found, less than 0.1 % of the tree")
+        self.assertEqual(progress.how_far(1234, 0.875, 8.0), "1,234 found, 87.5 % of the tree, ~0:01 left")
+        self.assertEqual(progress.how_far(1, 0.0, 7.0), "1 found, less than 0.1 % of the tree")
 
     def test_the_old_command_is_gone(self):
         with open(os.path.join(PACKAGE, "pyproject.toml")) as file:

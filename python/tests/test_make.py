@@ -112,7 +112,7 @@ class Makers(unittest.TestCase):
                 make.roster.problem(table)
 
     def test_names_of_a_roster(self):
-        for days, shift, people, told in (
+        for days, shift, people, wanted in (
             ("mon tue", "s 1 1", "ann 2\nann 1", "line 5: ann: this name is in line 4 already"),
             ("mon mon", "s 1 1", "ann 2", "line 1: mon: this name is in line 1 already"),
             ("mon tue", "s 1 1\ns 1 1", "ann 2", "line 3: s: this name is in line 2 already"),
@@ -122,9 +122,9 @@ class Makers(unittest.TestCase):
             ("mon tue", "s 1 2:1", "a 1", "line 2: 2:1: the least comes first"),
             ("mon tue", "s 1 1", "a 2:0", "line 4: 2:0: the least comes first"),
         ):
-            with self.subTest(told=told), self.assertRaises(TableFault) as raised:
+            with self.subTest(wanted=wanted), self.assertRaises(TableFault) as raised:
                 make.roster.problem(f"- {days}\n{shift}\n\n{people}\n", days_off=1)
-            self.assertEqual(str(raised.exception), told)
+            self.assertEqual(str(raised.exception), wanted)
         self.assertEqual(
             self.shown(make.roster.problem("- mon tue\ns 1 1\n\nann 0\nbob 2\n")), "    mon tue\nann .   .\nbob s   s\n"
         )
@@ -204,7 +204,7 @@ class Makers(unittest.TestCase):
 
     def test_wishes_of_teams_that_cannot_be(self):
         four = ["ann", "bob", "cat", "dan"]
-        for lines, told in (
+        for lines, wanted in (
             (["ann", "bob home:9"], "line 2: home:9: no such round: 4 teams play rounds 1 to 3"),
             (["ann away:4"], "line 1: away:4: no such round: 4 teams play rounds 1 to 3; with --double there are 6"),
             (["ann not:bob@0"], "line 1: not:bob@0: no such round: 4 teams play rounds 1 to 3"),
@@ -223,11 +223,11 @@ class Makers(unittest.TestCase):
         ):
             with self.subTest(lines=lines), self.assertRaises(TableFault) as raised:
                 make.roundrobin.problem([*lines, *four[len(lines) :]])
-            self.assertEqual(str(raised.exception), told)
-        told = "line 3: c: a, b, c share a place, each has 2 games there at least, and there are 5 rounds"
+            self.assertEqual(str(raised.exception), wanted)
+        wanted = "line 3: c: a, b, c share a place, each has 2 games there at least, and there are 5 rounds"
         with self.assertRaises(TableFault) as raised:
             make.roundrobin.problem(["a shares:b shares:c", "b", "c shares:b", *"def"])
-        self.assertEqual(str(raised.exception), told)
+        self.assertEqual(str(raised.exception), wanted)
         with self.assertRaisesRegex(TableFault, "^line 1: a: at home in rounds 2 to 4, and 2 in a row are allowed$"):
             make.roundrobin.problem(["a home:2 home:3 home:4", *"bcdef"], in_a_row=2)
         with self.assertRaisesRegex(ValueError, "^at most one round in a row: then two teams are at home in the same"):

@@ -37,30 +37,30 @@ def clues_of(marks, rows, columns):
 class Unique(InFolder):
     def test_commands(self):
         self.assertEqual(run("sudoku", CLUES, "--unique")[::2], (0, "There is exactly one solution.\n"))
-        status, text, told = run("queens", "4", "--unique")
+        status, text, messages = run("queens", "4", "--unique")
         self.assertEqual((status, text.count("Q")), (1, 8))
         lines = [
             "There are several solutions. Of these two:",
             "only the first has r1 c3 a3 b6; r2 c1 a2 b3; r3 c4 a6 b5; and 1 more",
             "only the second has r1 c2 a2 b5; r2 c4 a5 b6; r3 c1 a3 b2; and 1 more",
         ]
-        self.assertEqual(sorted(told.splitlines()[1:]), sorted(lines[1:]) if "first has r1 c3" in told else told.splitlines()[1:])
-        self.assertEqual(told.splitlines()[0], lines[0])
-        told = run("queens", "4", "--unique", "--up-to-symmetry")
-        self.assertEqual((told[0], told[2]), (0, "There is exactly one solution up to 8 symmetries.\n"))
+        self.assertEqual(sorted(messages.splitlines()[1:]), sorted(lines[1:]) if "first has r1 c3" in messages else messages.splitlines()[1:])
+        self.assertEqual(messages.splitlines()[0], lines[0])
+        done = run("queens", "4", "--unique", "--up-to-symmetry")
+        self.assertEqual((done[0], done[2]), (0, "There is exactly one solution up to 8 symmetries.\n"))
         self.assertEqual(run("queens", "4", "--unique", "--with", "r1 c2")[2], "There is exactly one solution.\n")
-        told = run("solve", "--unique", given="A B\nA\n")
-        self.assertEqual(told, (1, "", "There is no solution.\ncan't all be held: B\nit is in no option\n"))
-        told = run("solve", "--unique", "--json", given="A B\nA\nB\nA B\n")
-        self.assertEqual((told[0], told[1].count("number")), (1, 2))
-        self.assertIn("only the first has A; B\nonly the second has A B\n", told[2])
+        done = run("solve", "--unique", given="A B\nA\n")
+        self.assertEqual(done, (1, "", "There is no solution.\ncan't all be held: B\nit is in no option\n"))
+        done = run("solve", "--unique", "--json", given="A B\nA\nB\nA B\n")
+        self.assertEqual((done[0], done[1].count("number")), (1, 2))
+        self.assertIn("only the first has A; B\nonly the second has A B\n", done[2])
         for words in (["--all"], ["--limit", "3"], ["--number", "2"]):
             self.assertEqual(run("queens", "4", "--unique", *words)[0], 2)
         self.assertEqual(run("queens", "4", "--unique", "--svg")[2], "helgrothy: an SVG is of one solution: --number says which\n")
         page = run("queens", "4", "--unique", "--html")
         self.assertEqual((page[0], '"total":2' in page[1]), (1, True))
-        told = run("tests", "2,2", "--least", "--unique")
-        self.assertEqual(told[2], "helgrothy: this search finds one solution: without --all, --limit, --number, --random, --count, --chances and --unique\n")
+        done = run("tests", "2,2", "--least", "--unique")
+        self.assertEqual(done[2], "helgrothy: this search finds one solution: without --all, --limit, --number, --random, --count, --chances and --unique\n")
 
 
 class Minimal(InFolder):
@@ -70,17 +70,17 @@ class Minimal(InFolder):
 
     def test_sudokus(self):
         for seed in ("0", "7"):
-            status, text, told = run("minimal", "sudoku", CLUES, "--seed", seed)
+            status, text, messages = run("minimal", "sudoku", CLUES, "--seed", seed)
             self.assertEqual((status, len(text)), (0, 82))
             self.assertTrue(all(mark in (".", clue) for mark, clue in zip(text, CLUES)))
             self.assertTrue(is_minimal(text[:81]))
             left = 81 - text.count(".")
-            self.assertEqual(told, f"{left} of 30 clues are enough; none of them can go.\n")
+            self.assertEqual(messages, f"{left} of 30 clues are enough; none of them can go.\n")
         self.assertEqual(run("minimal", "sudoku", CLUES, "--seed", "7")[1], text)
 
     def test_layout(self):
         path = self.file("clues", SMALL.replace(" ", "\n") + "\n")
-        status, text, told = run("minimal", "sudoku", path)
+        status, text, messages = run("minimal", "sudoku", path)
         self.assertEqual((status, [len(line) for line in text.split("\n")]), (0, [4, 4, 4, 4, 0]))
         self.assertTrue(is_minimal("".join(text.split())))
 
@@ -92,20 +92,20 @@ class Minimal(InFolder):
         self.assertEqual((status, [len(line) for line in text.split("\n")]), (0, [4, 4, 4, 4, 0]))
 
     def test_no_single_solution(self):
-        status, text, told = run("minimal", "sudoku", CLUES.replace("3", ".").replace("5", "."))
-        self.assertEqual((status, text, told.splitlines()[0]), (1, "", "There are several solutions. Of these two:"))
-        told = run("minimal", "sudoku", CLUES.replace("53", "52").replace("..7", ".27", 1))
-        self.assertEqual(told, (1, "", "There is no solution.\n`helgrothy hint` may say where that shows.\n"))
+        status, text, messages = run("minimal", "sudoku", CLUES.replace("3", ".").replace("5", "."))
+        self.assertEqual((status, text, messages.splitlines()[0]), (1, "", "There are several solutions. Of these two:"))
+        done = run("minimal", "sudoku", CLUES.replace("53", "52").replace("..7", ".27", 1))
+        self.assertEqual(done, (1, "", "There is no solution.\n`helgrothy hint` may say where that shows.\n"))
 
     def test_kakuro(self):
         """Sums and digits are clues: each that is left is needed, and the layout of the file stays."""
         for grid, count in ((SUMS, 6), (SUMS.replace(".", "9", 1), 7), (GRID, 13)):
             for seed in ("0", "4"):
                 path = self.file("grid", f"\n{grid}")
-                status, text, told = run("minimal", "kakuro", path, "--seed", seed)
+                status, text, messages = run("minimal", "kakuro", path, "--seed", seed)
                 clues = list(re.finditer(r"\d+", text))
                 enough = f"{len(clues)} of {count} clues are enough; none of them can go.\n"
-                self.assertEqual((status, told, re.sub(r"\S+", "", text)), (0, enough, re.sub(r"\S+", "", f"\n{grid}")))
+                self.assertEqual((status, messages, re.sub(r"\S+", "", text)), (0, enough, re.sub(r"\S+", "", f"\n{grid}")))
                 for left, before in zip(text.split(), grid.split()):
                     if "\\" in before:
                         self.assertRegex(before, re.escape(left).replace(r"\?", r"\d+") + r"\Z")
@@ -119,23 +119,23 @@ class Minimal(InFolder):
                     self.assertEqual(make.kakuro.problem(fewer).count(limit=2), 2)
                 self.assertEqual(run("minimal", "kakuro", self.file("less", text))[1], text)
         self.assertGreater(make.kakuro.problem(GRID).count(limit=2), 1)
-        told = run("minimal", "kakuro", self.file("several", GRID.replace(".", "1", 1)))
-        self.assertEqual((told[:2], told[2].splitlines()[0]), ((1, ""), "There are several solutions. Of these two:"))
+        done = run("minimal", "kakuro", self.file("several", GRID.replace(".", "1", 1)))
+        self.assertEqual((done[:2], done[2].splitlines()[0]), ((1, ""), "There are several solutions. Of these two:"))
         # A digit without a sum beside it stays.
-        status, text, told = run("minimal", "kakuro", self.file("beside", "5 # #\n# \\3 3\n"))
-        self.assertEqual((status, told), (0, "1 of 2 clues is enough; none of them can go.\n"))
+        status, text, messages = run("minimal", "kakuro", self.file("beside", "5 # #\n# \\3 3\n"))
+        self.assertEqual((status, messages), (0, "1 of 2 clues is enough; none of them can go.\n"))
         self.assertIn(text, ("5 # #\n# \\? 3\n", "5 # #\n# \\3 .\n"))
 
     def test_nonograms(self):
         """Each clue that is left is needed, and the layout of the file stays."""
         path = self.file("clues", HEART)
         for seed in ("0", "5"):
-            status, text, told = run("minimal", "nonogram", path, "--seed", seed)
+            status, text, messages = run("minimal", "nonogram", path, "--seed", seed)
             lines = text.split("\n")
             self.assertEqual((status, len(lines)), (0, len(HEART.split("\n"))))
             self.assertTrue(all(line in ("?", before) for line, before in zip(lines, HEART.split("\n"))))
             left = sum(line not in ("", "?") for line in lines)
-            self.assertEqual(told, f"{left} of 10 clues are enough; none of them can go.\n")
+            self.assertEqual(messages, f"{left} of 10 clues are enough; none of them can go.\n")
             self.assertEqual(make.nonogram.problem(text).count(limit=2), 1)
             for at, line in enumerate(lines):
                 if line not in ("", "?"):
@@ -145,20 +145,20 @@ class Minimal(InFolder):
         titled = f"title a heart\nrows\n{HEART.split(chr(10) * 2)[0]}\ncolumns\n2\n4\n4\n4\n2"
         text = run("minimal", "nonogram", self.file("titled", titled))[1]
         self.assertEqual([text.split("\n")[at] for at in (0, 1, 7)], ["title a heart", "rows", "columns"])
-        told = run("minimal", "nonogram", self.file("open", "?\n?\n\n1\n1\n"))
-        self.assertEqual((told[:2], told[2].splitlines()[0]), ((1, ""), "There are several solutions. Of these two:"))
+        done = run("minimal", "nonogram", self.file("open", "?\n?\n\n1\n1\n"))
+        self.assertEqual((done[:2], done[2].splitlines()[0]), ((1, ""), "There are several solutions. Of these two:"))
 
-    def test_nonograms_with_lines_untold(self):
-        """There are as many solutions as pictures that fit what is told, by whole lines and by runs."""
+    def test_nonograms_with_lines_unknown(self):
+        """There are as many solutions as pictures that fit what is known, by whole lines and by runs."""
         rng = random.Random(21)
         for number in range(40):
             rows, columns = rng.randint(1, 3), rng.randint(1, 4)
             pictures = list(itertools.product("#.", repeat=rows * columns))
-            told = [line if rng.random() < 0.6 else None for line in clues_of(rng.choice(pictures), rows, columns)]
+            known = [line if rng.random() < 0.6 else None for line in clues_of(rng.choice(pictures), rows, columns)]
             wanted = sum(
-                all(own in (None, its) for own, its in zip(told, clues_of(one, rows, columns))) for one in pictures
+                all(own in (None, its) for own, its in zip(known, clues_of(one, rows, columns))) for one in pictures
             )
-            lines = ["?" if line is None else " ".join(map(str, line)) or "0" for line in told]
+            lines = ["?" if line is None else " ".join(map(str, line)) or "0" for line in known]
             text = "\n".join([*lines[:rows], "", *lines[rows:]])
             with mock.patch.object(make.nonogram, "_are_shorter_by_runs", lambda lines, is_so=number % 2 > 0: is_so):
                 problem = make.nonogram.problem(text)
@@ -176,9 +176,9 @@ class Minimal(InFolder):
     def test_problems(self):
         board = make.queens.problem(6)
         path = self.file("q.dlx", board.text)
-        status, text, told = run("minimal", path, "--seed", "3")
+        status, text, messages = run("minimal", path, "--seed", "3")
         kept = text.splitlines()
-        self.assertEqual((status, told.partition(" of 6 clues ")[0]), (0, str(len(kept))))
+        self.assertEqual((status, messages.partition(" of 6 clues ")[0]), (0, str(len(kept))))
         words = [word for line in kept for word in ("--with", line)]
         self.assertEqual(run("queens", "6", "--unique", *words)[0], 0)
         self.assertEqual(run("minimal", path, *words)[1], text)
@@ -209,8 +209,8 @@ class Minimal(InFolder):
             return asked(problem, given, deadline)
 
         with mock.patch.object(minimal, "solutions", slow):
-            status, text, told = run("minimal", "sudoku", CLUES, "--seconds", "20")
-        self.assertRegex(told, r"\A2[6789] of 30 clues are enough; 27 weren't tried in 20 seconds\.\n\Z")
+            status, text, messages = run("minimal", "sudoku", CLUES, "--seconds", "20")
+        self.assertRegex(messages, r"\A2[6789] of 30 clues are enough; 27 weren't tried in 20 seconds\.\n\Z")
         self.assertEqual((status, make.sudoku.problem(text).count(limit=2)), (0, 1))
         with self.assertRaises(OutOfTime):
             minimal.find(make.sudoku.problem(CLUES), [], seconds=0)
@@ -220,10 +220,10 @@ class Minimal(InFolder):
         self.assertEqual((status, len(text), make.sudoku.problem(text).count(limit=2)), (0, 82, 1))
 
     def test_mistakes(self):
-        told = run("minimal", "queens", "x")
-        self.assertEqual((told[0], told[2].partition(";")[0]), (2, "helgrothy minimal: queens: neither a problem nor sudoku, nonogram or kakuro"))
-        told = run("minimal", "sudoku", CLUES, "--with", "r1c3 r1=4")
-        self.assertEqual(told, (2, "", "helgrothy: the clues stand in the puzzle: without --with\n"))
+        done = run("minimal", "queens", "x")
+        self.assertEqual((done[0], done[2].partition(";")[0]), (2, "helgrothy minimal: queens: neither a problem nor sudoku, nonogram or kakuro"))
+        done = run("minimal", "sudoku", CLUES, "--with", "r1c3 r1=4")
+        self.assertEqual(done, (2, "", "helgrothy: the clues stand in the puzzle: without --with\n"))
 
 
 if __name__ == "__main__":

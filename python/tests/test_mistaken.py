@@ -49,8 +49,8 @@ COMMANDS = (
     (["roundrobin", "8"], "", "8: there is no such file; TEAMS is a file with a line for each team, its name (of so many teams: seq 8 | helgrothy roundrobin -)"),
     (["roundrobin", "ann,bob"], "", "ann,bob: there is no such file; TEAMS is a file with a line for each team, its name"),
     *(
-        (["solve"], given, f"standard input: line 2: {told}: unknown item (items are parted by blanks, and a {sign} is part of a name)")
-        for given, told, sign in (
+        (["solve"], given, f"standard input: line 2: {reason}: unknown item (items are parted by blanks, and a {sign} is part of a name)")
+        for given, reason, sign in (
             ("A, B, C\nA, B\nC\n", "B", "comma"), ("A,B,C\nA,B\nC\n", "A,B", "comma"), ("A B C\nA, B\nC\n", "A,", "comma"),
             ("A B C\nA,B\n", "A,B", "comma"), ("A;B\nA\nB\n", "A", "semicolon"),
         )
@@ -58,8 +58,8 @@ COMMANDS = (
     (["solve"], "mon,hall tue,hall\nmon\n", "standard input: line 2: mon: unknown item (is it mon,hall?)"),
     (["solve"], "mon,hall tue\nmon,hal\n", "standard input: line 2: mon,hal: unknown item (is it mon,hall?)"),
     *(
-        (words, "A\nA\n", f"a pattern is wrong: {told}; a sign that stands for itself has a backslash in front, such as \\(")
-        for words, told in (
+        (words, "A\nA\n", f"a pattern is wrong: {reason}; a sign that stands for itself has a backslash in front, such as \\(")
+        for words, reason in (
             (["solve", "--cell", "("], "(: missing ), unterminated subpattern at character 1"),
             (["solve", "--row", "ab["], "ab[: unterminated character set at character 3"),
             (["solve", "--cell", r"(\d)", "--label", "*"], "*: nothing to repeat at character 1"),
@@ -71,14 +71,14 @@ COMMANDS = (
 
 class Mistaken(unittest.TestCase):
     def test_calls(self):
-        for call, error, told in CALLS:
-            with self.subTest(told=told), self.assertRaisesRegex(error, f"^{re.escape(told)}$"):
+        for call, error, reason in CALLS:
+            with self.subTest(reason=reason), self.assertRaisesRegex(error, f"^{re.escape(reason)}$"):
                 call()
 
     def test_commands(self):
-        for words, given, told in COMMANDS:
+        for words, given, reason in COMMANDS:
             with self.subTest(words=words):
-                self.assertEqual(run(*words, given=given), (2, "", f"helgrothy: {told}\n"))
+                self.assertEqual(run(*words, given=given), (2, "", f"helgrothy: {reason}\n"))
 
     def test_pictures_that_look_like_numbers(self):
         """What is a picture and nothing else stays one."""

@@ -95,7 +95,7 @@ class Document(html.parser.HTMLParser):
     def handle_endtag(self, tag):
         self._inside = ""
 
-    def told(self):
+    def lines(self):
         return json.loads(self.texts["application/json"])
 
 
@@ -118,11 +118,11 @@ class Steps(unittest.TestCase):
             with Run(f"dlx{problem.kind}", ["m1"], [problem.text.encode("utf-8", "surrogateescape")]) as going:
                 lines = b"".join(going.chunks()).splitlines(True)
             listed = list(problem.listed(lines))
-            told = [
+            wanted = [
                 (int(k), int(n)) for k, n in re.findall(rb" \(([0-9]+) of ([0-9]+)\)\n", b"".join(lines))
             ]
             steps = [solution.steps for solution in problem.solve()]
-            self.assertEqual([(step.branch, step.branches) for one in steps for step in one], told)
+            self.assertEqual([(step.branch, step.branches) for one in steps for step in one], wanted)
             self.assertEqual([one.steps for one in listed], steps)
             for solution, its in zip(problem.solve(), steps):
                 self.assertEqual([step.option for step in its if step.option is not None], solution.numbers)
@@ -140,26 +140,26 @@ class Steps(unittest.TestCase):
 
 class File(unittest.TestCase):
     def page(self, *words, given="", status=0):
-        got, text, told = run(*words, "--html", given=given)
-        self.assertEqual(got, status, told)
+        got, text, messages = run(*words, "--html", given=given)
+        self.assertEqual(got, status, messages)
         return Document(text)
 
     def test_all_of_it_stands_in_the_file(self):
         page = self.page("queens", "6", "--all")
-        first, *solutions, last = page.told()
+        first, *solutions, last = page.lines()
         board = make.queens.problem(6)
         self.assertEqual(first["problem"]["text"], board.text.splitlines())
         self.assertEqual((first["problem"]["primary"], first["problem"]["secondary"]), (12, 18))
         self.assertEqual(last, {"end": {"total": 4, "complete": True, "notes": []}})
         options, elements = {}, []
-        for told, solution in zip(solutions, board.solve()):
-            told = told["solution"]
-            options.update(told.get("options", {}))
-            elements += told.get("elements", [])
-            self.assertEqual(told["steps"], [[it.item, it.option + 1, it.branch, it.branches] for it in solution.steps])
-            lines = [options[str(option)] for _, option, _, _ in told["steps"]]
+        for line, solution in zip(solutions, board.solve()):
+            found = line["solution"]
+            options.update(found.get("options", {}))
+            elements += found.get("elements", [])
+            self.assertEqual(found["steps"], [[it.item, it.option + 1, it.branch, it.branches] for it in solution.steps])
+            lines = [options[str(option)] for _, option, _, _ in found["steps"]]
             self.assertEqual(lines, [board.line(option) for option in solution])
-            drawn = [elements[number] for number in told["picture"]]
+            drawn = [elements[number] for number in found["picture"]]
             svg = board.draw(solution).svg()
             self.assertEqual(len(drawn), len(re.findall("<(?!/|title)", svg)) + 1)
             self.assertEqual(drawn[0][:1], ["svg"])
@@ -209,21 +209,21 @@ class File(unittest.TestCase):
         for more in ((), ("--cell", r"at(\d+)"), ("--row", r"at\d+", "--label", r"\S+")):
             page = self.page("solve", *more, given=problem.text)
             self.assertEqual([tag for tag, _ in page.elements], usual)
-            told = page.told()[1]["solution"]
-            self.assertEqual(len(told["steps"]), len(EVIL))
-            self.assertIn(r"\x1b[2J", [step[0] for step in told["steps"]])
+            solution = page.lines()[1]["solution"]
+            self.assertEqual(len(solution["steps"]), len(EVIL))
+            self.assertIn(r"\x1b[2J", [step[0] for step in solution["steps"]])
             self.assertNotIn("<", page.texts["application/json"])
 
     def test_choice_and_end(self):
-        self.assertEqual(len(self.page("queens", "6").told()), 3)
-        self.assertEqual(self.page("queens", "6").told()[-1]["end"]["complete"], False)
-        told = self.page("queens", "6", "--number", "3").told()
-        self.assertEqual([it["solution"]["number"] for it in told[1:-1]], [3])
-        told = self.page("solve", given="A B\nA\n", status=1).told()
-        self.assertEqual(told[-1]["end"], {"total": 0, "complete": True, "notes": ["can't all be held: B", "it is in no option"]})
-        told = self.page("langford", "15", "--all", "--seconds", "5", status=2).told()
-        self.assertRegex(told[-1]["end"]["notes"][0], "took longer than it was given|wasn't done in 5 seconds")
-        self.assertEqual(told[-1]["end"]["total"] > 0, len(told) > 2)
+        self.assertEqual(len(self.page("queens", "6").lines()), 3)
+        self.assertEqual(self.page("queens", "6").lines()[-1]["end"]["complete"], False)
+        lines = self.page("queens", "6", "--number", "3").lines()
+        self.assertEqual([it["solution"]["number"] for it in lines[1:-1]], [3])
+        lines = self.page("solve", given="A B\nA\n", status=1).lines()
+        self.assertEqual(lines[-1]["end"], {"total": 0, "complete": True, "notes": ["can't all be held: B", "it is in no option"]})
+        lines = self.page("langford", "15", "--all", "--seconds", "5", status=2).lines()
+        self.assertRegex(lines[-1]["end"]["notes"][0], "took longer than it was given|wasn't done in 5 seconds")
+        self.assertEqual(lines[-1]["end"]["total"] > 0, len(lines) > 2)
         self.assertEqual(run("solve", "--html", "--svg", given="A\nA\n")[0], 2)
         self.assertEqual(run("solve", "--html", "--cell", "(z)(z)", given="A\nA\n")[:2], (2, ""))
 
@@ -233,14 +233,14 @@ class File(unittest.TestCase):
             file.write(problem.text)
             file.flush()
             listing = "1:\n r1 c3 a3 b6 (1 of 2)\n null r2 (7 of 9)\n"
-            told = self.page("draw", file.name, given=listing).told()
-        self.assertEqual(told[1]["solution"]["steps"], [["r1", 3, 1, 2], ["r2", 0, 7, 9]])
+            lines = self.page("draw", file.name, given=listing).lines()
+        self.assertEqual(lines[1]["solution"]["steps"], [["r1", 3, 1, 2], ["r2", 0, 7, 9]])
 
     def test_a_long_problem_is_cut(self):
         problem = Problem(["a"], True, [["a", f"x{number}"] for number in range(60_000)])
-        told = json.loads(Record(problem, None).problem())["problem"]
-        self.assertTrue(told["more"])
-        self.assertLess(len("".join(told["text"])), 300_000)
+        shown = json.loads(Record(problem, None).problem())["problem"]
+        self.assertTrue(shown["more"])
+        self.assertLess(len("".join(shown["text"])), 300_000)
 
 
 class Forms(unittest.TestCase):
@@ -256,8 +256,8 @@ class Forms(unittest.TestCase):
         os.chdir(tempfile.mkdtemp(dir=self.folder))
 
     def test_examples_are_problems_with_solutions_and_pictures(self):
-        told = {form["name"]: form for form in forms.forms()}
-        self.assertEqual(set(told), set(make.KINDS))
+        known = {form["name"]: form for form in forms.forms()}
+        self.assertEqual(set(known), set(make.KINDS))
         titles = [example["title"] for example in examples()]
         self.assertEqual(len(titles), len(set(titles)))
         for example in examples():
@@ -270,7 +270,7 @@ class Forms(unittest.TestCase):
                 has_patterns = any(example[name] for name in ("cell", "row", "column", "label"))
                 self.assertEqual("picture" in found, bool(example["kind"]) or has_patterns)
                 if example["kind"]:
-                    fields = {field["name"] for field in told[example["kind"]]["fields"]}
+                    fields = {field["name"] for field in known[example["kind"]]["fields"]}
                     self.assertLessEqual(set(example["values"]), fields)
         json.dumps(start())
 
@@ -344,59 +344,59 @@ class Requests(unittest.TestCase):
         self.assertEqual(answer.Request.of(b'{"text":"a","limit":7}'), answer.Request(text="a", limit=7))
 
     def test_the_text_of_a_problem(self):
-        self.assertEqual(self.told(what="make", text="a b\na b\n"), [{"text": "a b\na b\n"}])
-        self.assertIn("unknown item", self.told(what="make", text="a\nb\n")[0]["error"])
-        with mock.patch.object(answer, "_MOST_TOLD", 3):
-            self.assertIn("too large for a page", self.told(what="make", text="a b\na b\n")[0]["error"])
+        self.assertEqual(self.answer(what="make", text="a b\na b\n"), [{"text": "a b\na b\n"}])
+        self.assertIn("unknown item", self.answer(what="make", text="a\nb\n")[0]["error"])
+        with mock.patch.object(answer, "_MOST_BYTES", 3):
+            self.assertIn("too large for a page", self.answer(what="make", text="a b\na b\n")[0]["error"])
 
     def test_chances(self):
         """Where the package has such; else it says so."""
-        *_, told = self.told(what="chances", text=make.queens.problem(6).text, seconds=60.0)
+        *_, last = self.answer(what="chances", text=make.queens.problem(6).text, seconds=60.0)
         if not hasattr(Problem, "occurrences"):
-            self.assertEqual(told, {"error": "this version has no chances"})
+            self.assertEqual(last, {"error": "this version has no chances"})
             return
-        self.assertEqual((told["chances"]["total"], told["chances"]["elements"][0][0]), ("4", "svg"))
-        *_, told = self.told(what="chances", text="a b\na b\n", seconds=60.0)
-        self.assertIn("this problem has no picture", told["error"])
+        self.assertEqual((last["chances"]["total"], last["chances"]["elements"][0][0]), ("4", "svg"))
+        *_, last = self.answer(what="chances", text="a b\na b\n", seconds=60.0)
+        self.assertIn("this problem has no picture", last["error"])
 
     def test_cells_of_a_grid(self):
         given = {"what": "solve", "text": "r1c1 r1c2 r2c1\nr1c1 r1c2\nr2c1\n", "cell": r"r(\d)c(\d)"}
         polygons = []
         for grid in ("", "hex", "triangle"):
-            _, solution, _ = self.told(**given, grid=grid)
+            _, solution, _ = self.answer(**given, grid=grid)
             polygons.append(sum("fill" in it[1] and it[0] == "path" and "L" in it[1]["d"] for it in solution["solution"]["elements"]))
         self.assertEqual([polygons[0], min(polygons[1:]) > 0], [0, True])
-        self.assertEqual(self.told(**given, grid="cubes"), [{"error": "cubes: no such grid"}])
+        self.assertEqual(self.answer(**given, grid="cubes"), [{"error": "cubes: no such grid"}])
         del given["cell"]
-        self.assertNotIn("error", self.told(**given, grid="hex")[-1])
-        *_, told = self.told(what="solve", text=make.polyforms.problem("tetrahexes", "4x7").text, way="symmetry")
-        self.assertEqual(told["end"]["total"], 9)
+        self.assertNotIn("error", self.answer(**given, grid="hex")[-1])
+        *_, last = self.answer(what="solve", text=make.polyforms.problem("tetrahexes", "4x7").text, way="symmetry")
+        self.assertEqual(last["end"]["total"], 9)
 
     def test_one_of_all_solutions(self):
         """Where the package has such; else it says so."""
         given = {"what": "solve", "text": make.queens.problem(6).text, "way": "one"}
         if not hasattr(Problem, "random"):
-            self.assertEqual(self.told(**given)[-1], {"error": "this version has no random solutions"})
+            self.assertEqual(self.answer(**given)[-1], {"error": "this version has no random solutions"})
         some = list(make.queens.problem(6).solve())
         with mock.patch.object(Problem, "random", lambda self, *, seconds: some[2], create=True):
-            _, solution, *last = self.told(**given, seconds=60.0)
+            _, solution, *last = self.answer(**given, seconds=60.0)
         self.assertEqual([it[1] - 1 for it in solution["solution"]["steps"]], some[2].numbers)
         self.assertEqual(last, [{"end": {"total": 1, "complete": False, "notes": []}}, {"counting": True}, {"count": "4"}])
         with mock.patch.object(Problem, "random", lambda self, *, seconds: None, create=True):
-            told = self.told(what="solve", text="a b\na\n", way="one")
-        self.assertEqual(told[-1]["end"]["notes"], ["can't all be held: b", "it is in no option"])
+            lines = self.answer(what="solve", text="a b\na\n", way="one")
+        self.assertEqual(lines[-1]["end"]["notes"], ["can't all be held: b", "it is in no option"])
 
     def test_the_cheapest(self):
         given = {"what": "solve", "text": "A B\nA\nB\nA B\n", "way": "cheapest", "seconds": 60.0}
-        _, solution, last = self.told(**given, costs="A 3\r\nB 2\r\nA B -1\r\n")
+        _, solution, last = self.answer(**given, costs="A 3\r\nB 2\r\nA B -1\r\n")
         self.assertEqual(solution["solution"]["options"], {"3": "A B"})
         self.assertEqual(last["end"]["total"], 1)
         found, *wishes = last["end"]["notes"]
         self.assertRegex(found, r"\Athe least cost is 4, as [\w ]+ (?:found|show)\Z")
         self.assertEqual(wishes, ["3 by line 1: A 3", "2 by line 2: B 2", "-1 by line 3: A B -1"])
 
-        def least(problem, costs, seconds, tell):
-            tell("clasp gave no answer in its time; dlx3 goes on")
+        def least(problem, costs, seconds, say):
+            say("clasp gave no answer in its time; dlx3 goes on")
             found = cost.Least(OfNumbers(problem), [2], 4, by)
             found.is_proved = by == "states"
             return found
@@ -406,18 +406,18 @@ class Requests(unittest.TestCase):
             ("cbc", "4 is the least cost that was found; cbc reports that none is cheaper"),
         ):
             with mock.patch.object(answer.cost, "least", least):
-                first, second, *_ = self.told(**given, costs="A 4")[-1]["end"]["notes"]
+                first, second, *_ = self.answer(**given, costs="A 4")[-1]["end"]["notes"]
             self.assertEqual((first, second), ("clasp gave no answer in its time; dlx3 goes on", wanted))
         # Negative numbers, colours, patterns, and a number for each option.
         for text, costs, wanted in (
             ("A B\nA\nB\nA B\n", "A B 9\nB -1\n", "-1"), ("A B\nA\nB\nA B\n", "1 2 4\n", "3"),
             ("A | x\nA x:a\nA x:b\n", "x:a 0.5\nA 1\n", "1"), ("a1 a2\na1 a2\n", "a? 7\n", "7"),
         ):  # fmt: skip
-            *_, last = self.told(**{**given, "text": text}, costs=costs)
+            *_, last = self.answer(**{**given, "text": text}, costs=costs)
             self.assertIn(f"the least cost is {wanted}, ", last["end"]["notes"][0])
         for costs, wanted in (("", "no costs are given"), ("A\n", "costs: line 1: A: no cost"), ("C 1", "costs: line 1: C 1: C: no such item")):
-            self.assertIn(wanted, self.told(**given, costs=costs)[-1]["error"])
-        *_, last = self.told(**{**given, "text": "A B\nA\n"}, costs="A 1")
+            self.assertIn(wanted, self.answer(**given, costs=costs)[-1]["error"])
+        *_, last = self.answer(**{**given, "text": "A B\nA\n"}, costs="A 1")
         self.assertEqual(last["end"], {"total": 0, "complete": True, "notes": ["can't all be held: B", "it is in no option"]})
 
     def test_the_cheapest_of_a_kind(self):
@@ -428,31 +428,31 @@ class Requests(unittest.TestCase):
             with tempfile.TemporaryDirectory() as folder, contextlib.ExitStack() as stack:
                 stack.callback(os.chdir, os.getcwd())
                 os.chdir(folder)
-                notes[costs] = self.told(**given, costs=costs)[-1]["end"]["notes"]
+                notes[costs] = self.answer(**given, costs=costs)[-1]["end"]["notes"]
         self.assertEqual([text.partition(",")[0] for text in (notes[""][0], notes["bob 3"][0])], ["the least cost is 0", "the least cost is 2"])
         self.assertEqual(notes["bob 3"][1:], ["2 by line 4 of the table: ann tue=2"])
 
-    def told(self, **request):
+    def answer(self, **request):
         return [json.loads(line) for line in answer.answer(answer.Request(**request))]
 
     def test_answers(self):
-        remarks = self.told(what="lint", text="a b\na\nb\nc\n")
+        remarks = self.answer(what="lint", text="a b\na\nb\nc\n")
         self.assertEqual(remarks, [{"remarks": [{"line": 4, "token": "c", "name": "c", "text": "unknown item", "fault": True}]}])
-        first, *solutions, last = self.told(what="solve", text=make.queens.problem(6).text)
+        first, *solutions, last = self.answer(what="solve", text=make.queens.problem(6).text)
         self.assertEqual((first["problem"]["options"], len(solutions)), (36, 4))
         self.assertEqual(last, {"end": {"total": 4, "complete": True, "notes": []}})
-        self.assertEqual(self.told(what="solve", text="a\nb\n")[0]["error"], "the text has faults")
-        told = self.told(what="solve", text=make.queens.problem(8).text, limit=3, seconds=60.0)
-        self.assertEqual(len(told), 7)
-        self.assertEqual(told[-3:], [{"end": {"total": 3, "complete": False, "notes": []}}, {"counting": True}, {"count": "92"}])
-        self.assertEqual(len(self.told(what="solve", text=make.queens.problem(8).text, way="symmetry")), 14)
-        shuffled = self.told(what="solve", text=make.queens.problem(6).text, way="random")[1]["solution"]["steps"]
+        self.assertEqual(self.answer(what="solve", text="a\nb\n")[0]["error"], "the text has faults")
+        lines = self.answer(what="solve", text=make.queens.problem(8).text, limit=3, seconds=60.0)
+        self.assertEqual(len(lines), 7)
+        self.assertEqual(lines[-3:], [{"end": {"total": 3, "complete": False, "notes": []}}, {"counting": True}, {"count": "92"}])
+        self.assertEqual(len(self.answer(what="solve", text=make.queens.problem(8).text, way="symmetry")), 14)
+        shuffled = self.answer(what="solve", text=make.queens.problem(6).text, way="random")[1]["solution"]["steps"]
         self.assertEqual(len(shuffled), 6)
-        self.assertIn("takes a board", self.told(what="solve", text="a\na\n", way="symmetry")[-1]["error"])
-        self.assertEqual(self.told(what="solve", text="a\na\n", cell="(")[0]["error"][:19], "a pattern is wrong:")
-        ended = self.told(what="solve", text="a b\na\n")[-1]["end"]
+        self.assertIn("takes a board", self.answer(what="solve", text="a\na\n", way="symmetry")[-1]["error"])
+        self.assertEqual(self.answer(what="solve", text="a\na\n", cell="(")[0]["error"][:19], "a pattern is wrong:")
+        ended = self.answer(what="solve", text="a b\na\n")[-1]["end"]
         self.assertEqual(ended["notes"], ["can't all be held: b", "it is in no option"])
-        ended = self.told(what="solve", text=make.langford.problem(14).text, seconds=4.0)[-1]["end"]
+        ended = self.answer(what="solve", text=make.langford.problem(14).text, seconds=4.0)[-1]["end"]
         self.assertEqual(ended, {"total": 0, "complete": False, "notes": ["4 seconds are over"]})
 
 
@@ -474,10 +474,10 @@ class Served(unittest.TestCase):
     def ask(self, method="POST", path="/{word}/answer", body=b'{"what":"lint","text":"a\\na\\n"}', leave_out=(), **headers):
         port = self.server.port
         usual = {"Host": f"127.0.0.1:{port}", "Origin": f"http://127.0.0.1:{port}", "Content-Type": "application/json"}
-        told = {**usual, "Content-Length": str(len(body)), **{name.replace("_", "-"): value for name, value in headers.items()}}
+        sent = {**usual, "Content-Length": str(len(body)), **{name.replace("_", "-"): value for name, value in headers.items()}}
         connection = http.client.HTTPConnection("127.0.0.1", port, timeout=60)
         connection.putrequest(method, path.format(word=self.server.word), skip_host=True, skip_accept_encoding=True)
-        for name, value in told.items():
+        for name, value in sent.items():
             if name not in leave_out:
                 connection.putheader(name, value.format(port=port))
         connection.endheaders(body)
@@ -492,7 +492,7 @@ class Served(unittest.TestCase):
     def test_who_is_welcome(self):
         status, text, headers = self.ask("GET", "/{word}/", b"")
         self.assertEqual(status, 200)
-        self.assertEqual(Document(text).told(), [[]])
+        self.assertEqual(Document(text).lines(), [[]])
         self.assertIn("frame-ancestors 'none'", headers["Content-Security-Policy"])
         self.assertTrue(headers["Content-Security-Policy"].startswith(Document(text).policy))
         self.assertEqual((headers["Cache-Control"], headers["Referrer-Policy"]), ("no-store", "no-referrer"))
@@ -583,8 +583,8 @@ class Served(unittest.TestCase):
                     self.assertEqual(connection.getresponse().status, 200)
                     connection.close()
                 connection = self.asked({"what": "lint", "text": "a\na\n"}, address.port, address.path.strip("/"))
-                with connection, connection.makefile("rb") as told:
-                    self.assertTrue(told.read().endswith(b'\r\n\r\n{"remarks":[]}\n'))
+                with connection, connection.makefile("rb") as answered:
+                    self.assertTrue(answered.read().endswith(b'\r\n\r\n{"remarks":[]}\n'))
             self.assertGreaterEqual(strangers.came, 300)
 
     def test_who_says_nothing_has_one_of_few_threads(self):
@@ -607,17 +607,17 @@ class Served(unittest.TestCase):
         for connection, drop in ((self.connect(), b""), (self.connect(b"GET /"), b"x"), (self.begun(), b"x")):
             with self.subTest(drop=drop):
                 ended = time.monotonic() + 60
-                told = b""
+                answered = b""
                 connection.settimeout(0.1)
-                while not told and time.monotonic() < ended:
+                while not answered and time.monotonic() < ended:
                     with contextlib.suppress(socket.timeout):
-                        told = connection.recv(1 << 16)
+                        answered = connection.recv(1 << 16)
                     with contextlib.suppress(OSError):
                         connection.sendall(drop)
-                self.assertIn(b" 408 ", told)
-                self.assertIn(b"\r\n\r\na request comes within 5 seconds", told)
+                self.assertIn(b" 408 ", answered)
+                self.assertIn(b"\r\n\r\na request comes within 5 seconds", answered)
 
-    def test_who_comes_too_many_is_told(self):
+    def test_who_comes_too_many_is_refused(self):
         self.be_patient(600)
         with mock.patch.object(self.server.waiting, "most", 3):
             first, *_ = [self.connect() for _ in range(4)]
@@ -636,8 +636,8 @@ class Served(unittest.TestCase):
         long = b"a: %b\r\n" % (b"b" * 60_000)
         for raw in (b"GET / HTTP/1.1\r\n" + long + long + b"\r\n", b"\x16\x03\x01\x02", b"\r\n\r\n", b"GET\r\n\r\n", b"GET / HTTP/9.9\r\n\r\n", b"GET / HTTP/1.1\r\n" + b"a: b\r\n" * 200 + b"\r\n", b"a" * 70_000):
             with self.subTest(raw=raw[:20]):
-                told = self.connect(raw).recv(1 << 16)
-                self.assertTrue(told.startswith(b"HTTP/1.1 400 ") and told.endswith(b"\r\n\r\n"), told)
+                answered = self.connect(raw).recv(1 << 16)
+                self.assertTrue(answered.startswith(b"HTTP/1.1 400 ") and answered.endswith(b"\r\n\r\n"), answered)
 
     def test_where_no_answer_can_be_made(self):
         fault = OSError(errno.ENOSPC, os.strerror(errno.ENOSPC))
@@ -667,7 +667,7 @@ class Served(unittest.TestCase):
                     self.assertEqual(process.wait(120), status)
                     self.wait(lambda: not members(group))
                     self.assertEqual(os.listdir(place), [name] if number == signal.SIGKILL else [])
-                    # The page is told of no other end.
+                    # The page hears of no other end.
                     with contextlib.suppress(ConnectionResetError):
                         self.assertNotIn(b"error", b"".join(iter(lambda: connection.recv(1 << 16), b"")))
                     connection.close()
@@ -677,8 +677,8 @@ class Served(unittest.TestCase):
         with tempfile.TemporaryDirectory() as place, command(place, files=64) as (process, address):
             with Strangers(address.port, 100):
                 connection = self.asked({"what": "lint", "text": "a\na\n"}, address.port, address.path.strip("/"))
-                with connection, connection.makefile("rb") as told:
-                    self.assertTrue(told.read().endswith(b'\r\n\r\n{"remarks":[]}\n'))
+                with connection, connection.makefile("rb") as answered:
+                    self.assertTrue(answered.read().endswith(b'\r\n\r\n{"remarks":[]}\n'))
             process.terminate()
             self.assertEqual(process.wait(120), 143)
 

@@ -17,7 +17,7 @@ class Pieces(InFolder):
         self.assertEqual(run("polyominoes", pieces, "2x4", "--some", "--all")[2], "Altogether 2 solutions.\n")
 
     def test_squares_that_are_too_few_or_too_many(self):
-        """That is told first: of pieces of several sizes the sums don't show it."""
+        """That is reported first: of pieces of several sizes the sums don't show it."""
         pieces = self.file("p.txt", "IIII\n\nIIII\n\nOOO\nOO\n")
         for region, words, wanted in (
             ("2x7", [], "The pieces have 13 squares, and the region has 14.\n"),
@@ -30,15 +30,15 @@ class Pieces(InFolder):
         self.assertTrue(run("polyominoes", pieces, "2x7")[2].startswith("The pieces have 13 squares"))
 
     def test_pieces_that_are_alike(self):
-        told = "Pieces C and G are alike: each solution comes with them exchanged too; give them one letter.\n"
+        wanted = "Pieces C and G are alike: each solution comes with them exchanged too; give them one letter.\n"
         pieces = self.file("p.txt", "CCC\nC..\n\n..G\nGGG\n")
-        self.assertEqual(run("polyominoes", pieces, "2x4", "--all")[2], told + "Altogether 4 solutions.\n")
-        self.assertEqual(run("make", "polyominoes", pieces, "2x4")[2], told)
+        self.assertEqual(run("polyominoes", pieces, "2x4", "--all")[2], wanted + "Altogether 4 solutions.\n")
+        self.assertEqual(run("make", "polyominoes", pieces, "2x4")[2], wanted)
         # Without mirrors they are two.
         self.assertEqual(run("make", "polyominoes", self.file("q.txt", "CCC\nC..\n\nGGG\n..G\n"), "2x4", "--no-mirrors")[2], "")
         self.assertEqual(run("make", "polyominoes", "pentominoes", "6x10")[2], "")
         cubes = self.file("c.txt", "CC\nC.\n\nGG\n.G\n")
-        self.assertEqual(run("make", "polycubes", cubes, "1x2x3")[2], told)
+        self.assertEqual(run("make", "polycubes", cubes, "1x2x3")[2], wanted)
 
     def test_pieces_without_names_are_coloured_as_maps(self):
         cells = [(r, c) for r in range(4) for c in range(4)]

@@ -79,8 +79,8 @@ class Polycubes(InFolder):
             (graatsma, "3x3x3", "1 solution up to 48 symmetries"),
         ):
             with self.subTest(pieces=pieces):
-                status, _, told = run("polycubes", pieces, box, "--up-to-symmetry", "--all")
-                self.assertEqual((status, told), (0, f"Altogether {known}.\n"))
+                status, _, messages = run("polycubes", pieces, box, "--up-to-symmetry", "--all")
+                self.assertEqual((status, messages), (0, f"Altogether {known}.\n"))
 
     def test_some_and_mirrors(self):
         # Any 2 of the 8 tetracubes fill 2x2x2: counted by trying all pairs.

@@ -68,13 +68,13 @@ class Polyforms(InFolder):
         self.assertEqual([solutions("\n\n".join(["D D"] * n), f"2x{n}", grid="hex") for n in (1, 2, 3, 4)], [1, 2, 3, 5])
 
     def test_up_to_symmetry(self):
-        for words, told in (
+        for words, wanted in (
             (("tetrahexes", "4x7"), "9 solutions up to 2 symmetries"),
             (("hexiamonds", "6x6"), "156 solutions up to 4 symmetries"),
             ((self.file("h", "D D\n\nD D\n\nD D"), self.file("r", RING), "--grid", "hex"), "1 solution up to 12 symmetries"),
         ):
             status, _, got = run("polyforms", *words, "--up-to-symmetry", "--all", "--json")
-            self.assertEqual((status, got), (0, f"Altogether {told}.\n"))
+            self.assertEqual((status, got), (0, f"Altogether {wanted}.\n"))
 
     def test_pieces_may_be_turned_and_mirrored_or_not(self):
         crook = ".JJ\n..JJJ\n...J\n"
@@ -123,8 +123,8 @@ class Polyforms(InFolder):
         wide = "   .........\n  ...........\n ....#####....\n....#######....\n....#######....\n ....#####....\n  ...........\n   .........\n"
         for region in (wide, "\n".join(f" {line}" for line in wide.splitlines())):
             path = self.file("region", region)
-            told = run("polyforms", self.file("p", "\n\n".join(["DD"] * 36)), path, "--grid", "triangle", "--up-to-symmetry")[2]
-            self.assertEqual(told, "Altogether 1 solution up to 12 symmetries (limit).\n")
+            messages = run("polyforms", self.file("p", "\n\n".join(["DD"] * 36)), path, "--grid", "triangle", "--up-to-symmetry")[2]
+            self.assertEqual(messages, "Altogether 1 solution up to 12 symmetries (limit).\n")
         one = make.polyforms.problem("hexiamonds", "...\n...", some=True)
         self.assertEqual([option[0] for option in one.options], ["O"])
         for region in ("v..\n...", "...\n.v.", "v^v\n^v^"):

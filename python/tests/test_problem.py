@@ -49,7 +49,7 @@ class Solving(unittest.TestCase):
         self.assertTrue(all(any(option is given for given in problem.options) for s in found for option in s))
         self.assertEqual(len(found), 2)
 
-    def test_rotations_and_equal_options_are_told_apart(self):
+    def test_rotations_and_equal_options_are_distinguished(self):
         options = [["a", "b"], ["b", "a"], ["a", "b"], ["c"]]
         found = list(Problem("abc", options=options).solve())
         self.assertEqual([sorted(map(id, s)) for s in found], [sorted([id(o), id(options[3])]) for o in options[:3]])
@@ -71,8 +71,8 @@ class Solving(unittest.TestCase):
         found = [[place[id(o)] for o in s] for s in Problem({"a": (1, 3), "b": (0, 2)}, "x", options).solve()]
         self.assertEqual(len(set(map(frozenset, found))), len(found))
         with_numbers = [{**(o if isinstance(o, dict) else dict.fromkeys(o)), k: None} for k, o in enumerate(options)]
-        told_apart = Problem({"a": (1, 3), "b": (0, 2)}, ["x", *range(7)], with_numbers)
-        wanted = [[with_numbers.index(o) for o in s] for s in told_apart.solve()]
+        distinguished = Problem({"a": (1, 3), "b": (0, 2)}, ["x", *range(7)], with_numbers)
+        wanted = [[with_numbers.index(o) for o in s] for s in distinguished.solve()]
         self.assertEqual(found, wanted)
 
     def test_colours_of_any_kind(self):
@@ -304,8 +304,8 @@ class Faults(unittest.TestCase):
     def test_values_that_look_alike(self):
         with self.assertRaises(ProblemFault) as raised:
             Problem([1, 2], options=[[1], ["2"]])
-        told = "option 1: 2: unknown item (here of type str, among the items of type int)"
-        self.assertEqual(str(raised.exception), told)
+        wanted = "option 1: 2: unknown item (here of type str, among the items of type int)"
+        self.assertEqual(str(raised.exception), wanted)
         with self.assertRaises(ProblemFault) as raised:
             Problem(["maths", "latin", 5], options=[["latim"]])
         self.assertEqual(str(raised.exception), "option 0: latim: unknown item (is it latin?)")

@@ -71,19 +71,19 @@ class Names(unittest.TestCase):
 
 class Help(unittest.TestCase):
     def test_a_problem(self):
-        told = help_of(helgrothy.Problem)
+        shown = help_of(helgrothy.Problem)
         for name, kind in helgrothy.Problem.__annotations__.items():
-            self.assertIn(f"\n    {name}: {kind}\n", told)
+            self.assertIn(f"\n    {name}: {kind}\n", shown)
         self.assertEqual(set(helgrothy.Problem.__annotations__), {"items", "secondary", "options", "comments", "pattern"})
         public = {name for name in dir(helgrothy.Problem) if not name.startswith("_")}
         self.assertFalse(public & {"wire", "of", "pairs", "uses", "of_options", "lines"})
         self.assertLess({"add_option", "check", "count", "draw", "listed", "parse", "solve"}, public)
 
     def test_the_kinds(self):
-        told = help_of(make)
+        shown = help_of(make)
         for kind in make.KINDS:
-            self.assertRegex(told.partition("PACKAGE CONTENTS")[0], rf"\n +{kind} +\w")
-        self.assertNotIn("CLASSES", told)
+            self.assertRegex(shown.partition("PACKAGE CONTENTS")[0], rf"\n +{kind} +\w")
+        self.assertNotIn("CLASSES", shown)
 
     def test_kinds_show_their_calls(self):
         for kind in make.KINDS:
@@ -92,9 +92,9 @@ class Help(unittest.TestCase):
             self.assertEqual({name for name in dir(module) if not name.startswith("_")}, calls, kind)
             completed = rlcompleter.Completer({"make": make}).attr_matches(f"make.{kind}.")
             self.assertEqual({word.rpartition(".")[2].rstrip("()") for word in completed}, calls, kind)
-            told = help_of(module)
-            self.assertEqual(set(re.findall(r"^    (\w+)\(", told, re.MULTILINE)), calls, kind)
-            self.assertEqual({name for name in ("CLASSES", "DATA") if f"\n{name}\n" in told}, set(), kind)
+            shown = help_of(module)
+            self.assertEqual(set(re.findall(r"^    (\w+)\(", shown, re.MULTILINE)), calls, kind)
+            self.assertEqual({name for name in ("CLASSES", "DATA") if f"\n{name}\n" in shown}, set(), kind)
         # Also where one is imported by itself.
         code = "import helgrothy.make.sudoku as sudoku; from helgrothy.make.tests import *; print(*dir(sudoku), few.__name__)"
         self.assertEqual(fresh(code), ["problem", "few"])
@@ -103,9 +103,9 @@ class Help(unittest.TestCase):
         for name in MODULES:
             module = getattr(helgrothy, name)
             self.assertEqual([one for one in module.__all__ if not hasattr(module, one)], [])
-            told = help_of(module)
+            shown = help_of(module)
             for inside in ("order(", "class Shades", "check_size(", "by_patterns(", "clauses(", "listing("):
-                self.assertNotIn(f"\n    {inside}", told)
+                self.assertNotIn(f"\n    {inside}", shown)
 
 
 def help_of(thing: object) -> str:

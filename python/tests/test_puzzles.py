@@ -270,7 +270,7 @@ class Kakuro(Puzzles):
         self.assertEqual(make.kakuro.problem("# 7\\\n# .\n").count(), 1)
         self.assertEqual(make.kakuro.problem("# # #\n# . #\n").count(), 9)
 
-    def test_sums_that_are_not_told(self):
+    def test_sums_that_are_not_given(self):
         for grid, wanted in (
             ("\\? . .\n", 72), ("\\? . 3\n", 8), ("\\? .\n", 9), ("# 3\\ ?\\\n\\? . .\n/? . .\n", 114), ("\\? . . . . . . . . 9\n", 40320),
         ):  # fmt: skip

@@ -64,11 +64,11 @@ class Rosters(InFolder):
     def test_command(self):
         table = self.file("t.txt", "- mon tue wed thu\nearly 1 1 1 1\n\nann 2 mon=1\nbob 2\n")
         words = ("roster", table, "--rest", "--in-a-row", "2", "--days-off", "2")
-        status, text, told = run(*words, "--all")
+        status, text, messages = run(*words, "--all")
         self.assertEqual(status, 0)
         week = ["mon   tue   wed   thu", "ann early early .     .", "bob .     .     early early"]
         self.assertIn("\n".join(["    " + week[0], *week[1:]]), text)
-        self.assertIn("Altogether 2 solutions.\n", told)
+        self.assertIn("Altogether 2 solutions.\n", messages)
         self.assertIn("The least cost is 0.", run(*words)[2])
         made = run("make", *words)[1]
         self.assertEqual(made.splitlines()[0], "| helgrothy make roster --rest --in-a-row 2 --days-off 2 TABLE")

@@ -52,8 +52,8 @@ class Shuffle(unittest.TestCase):
             list(shuffle.solve(make.langford.problem(18), 1, 1, seconds=0.3))
 
     def test_command(self):
-        status, text, told = run("queens", "6", "--shuffle", "4")
-        self.assertEqual((status, text.splitlines()[0], told), (0, ". Q . . . .", "Altogether 1 solution (limit).\n"))
+        status, text, messages = run("queens", "6", "--shuffle", "4")
+        self.assertEqual((status, text.splitlines()[0], messages), (0, ". Q . . . .", "Altogether 1 solution (limit).\n"))
         self.assertEqual(run("queens", "6", "--shuffle", "4", "--all")[2], "Altogether 4 solutions.\n")
         self.assertEqual(run("queens", "3", "--shuffle", "4")[0], 1)
         self.assertIn("<title>", run("queens", "6", "--shuffle", "4", "--all", "--html")[1])

@@ -90,7 +90,7 @@ class Rows(unittest.TestCase):
             self.assertEqual(places, [place(piece.start, branches) for piece in pieces] + [place(until, branches)])
 
     def test_places_are_cheap(self):
-        """Of rows of many levels, which meet no other way; of what no number of parts can tell, nothing is told."""
+        """Of rows of many levels, which meet no other way; of what no number of parts can say, nothing is said."""
         branches = (1,) * 20_000 + (2,) * 20_000
         start = (1,) * len(branches)
         deep = Span(start, (*start[:-1], 2), place(start, branches), place((*start[:-1], 2), branches))
@@ -289,9 +289,9 @@ class Texts(unittest.TestCase):
         for kind in (1, 2, 3):
             for _ in range(20):
                 problem = problem_of(rng, kind)
-                told = whole(kind, problem)[1].splitlines()[:-1]
+                listing = whole(kind, problem)[1].splitlines()[:-1]
                 found = [f"Option ignored (no primary items): line {line}" for line in text.ignored(problem)]
-                self.assertEqual(found, told)
+                self.assertEqual(found, listing)
 
 
 class Reversed(Executor):
@@ -406,15 +406,15 @@ class Loops(unittest.TestCase):
                 self.assertEqual(problem.count(jobs=2), problem.count())
 
     def test_progress(self):
-        told = []
+        reports = []
         with mock.patch.object(loop, "_TICK", 0.0):
-            self.assertEqual(make.queens.problem(9).count(jobs=2, progress=told.append), 352)
-        self.assertTrue(told)
-        shares, solutions = [one.share for one in told], [one.solutions for one in told]
+            self.assertEqual(make.queens.problem(9).count(jobs=2, progress=reports.append), 352)
+        self.assertTrue(reports)
+        shares, solutions = [one.share for one in reports], [one.solutions for one in reports]
         self.assertEqual((shares, solutions), (sorted(shares), sorted(solutions)))
         self.assertTrue(all(0 <= share <= 1 for share in shares))
         line = r"\A[0-9.]+ %   [0-9,]+ solutions   [0-9:]+(, about [0-9:]+ left)?   [0-2] at work\Z"
-        self.assertRegex(str(told[-1]), line)
+        self.assertRegex(str(reports[-1]), line)
 
     def test_seconds(self):
         with self.assertRaises(OutOfTime):
@@ -492,7 +492,7 @@ class Loops(unittest.TestCase):
 
 class Guards(unittest.TestCase):
     def test_an_interrupt_at_the_very_end(self):
-        """It isn't told: what there was to do is done."""
+        """It isn't reported: what there was to do is done."""
         right, raised = os.close, []
 
         def close(number):
@@ -633,8 +633,8 @@ class Folders(unittest.TestCase):
             for start, until, at, ends in (((), (2,), 0, FIFTH), ((3,), (4,), 2 * FIFTH, 3 * FIFTH), ((4,), None, 3 * FIFTH, PARTS)):
                 task = span.Task(1, job.listed, QUEENS, word_of(start), word_of(until), 0, 0)
                 ran = span.run(task)
-                told = record.of_text(ran.text, Span(start, until, at, ends), job.listed)
-                folder.keep(Kept(Span(start, until, at, ends), ran.text, told.solutions, 0.5))
+                read = record.of_text(ran.text, Span(start, until, at, ends), job.listed)
+                folder.keep(Kept(Span(start, until, at, ends), ran.text, read.solutions, 0.5))
                 if flushes > 1:
                     folder.flush()
             folder.flush()
@@ -694,8 +694,8 @@ class Folders(unittest.TestCase):
             job = self.job._replace(**change)
             with self.assertRaisesRegex(SearchFault, f"{self.path}: it is of {what}"):
                 Folder(self.path, job)
-        told = "of version 0.1.0"
-        with mock.patch.object(about, "__version__", "0.0.9"), self.assertRaisesRegex(SearchFault, told):
+        wanted = "of version 0.1.0"
+        with mock.patch.object(about, "__version__", "0.0.9"), self.assertRaisesRegex(SearchFault, wanted):
             Folder(self.path, self.job)
 
     def test_a_text_with_other_remarks_is_the_same_problem(self):
@@ -748,16 +748,16 @@ class Folders(unittest.TestCase):
 
     def test_a_folder_that_is_not_locked_is_left_as_it_was(self):
         error = OSError(37, "No locks available")
-        told = "No locks available.*--folder"
+        wanted = "No locks available.*--folder"
         for is_there in (False, True):
             if is_there:
                 os.mkdir(self.path)
-            with mock.patch("fcntl.flock", side_effect=error), self.assertRaisesRegex(SearchFault, told):
+            with mock.patch("fcntl.flock", side_effect=error), self.assertRaisesRegex(SearchFault, wanted):
                 Folder(self.path, self.job)
             self.assertEqual(os.listdir(self.path) if is_there else os.path.exists(self.path), [] if is_there else False)
         self.fill()
         before = snapshot(self.path)
-        with mock.patch("fcntl.flock", side_effect=error), self.assertRaisesRegex(SearchFault, told):
+        with mock.patch("fcntl.flock", side_effect=error), self.assertRaisesRegex(SearchFault, wanted):
             Folder(self.path, self.job)
         self.assertEqual(snapshot(self.path), before)
 
@@ -767,14 +767,14 @@ class Folders(unittest.TestCase):
             path = f"{self.path}{number}"
             if number % 2:
                 os.mkdir(path)
-            barrier, began, told = threading.Barrier(4), [], []
+            barrier, began, errors = threading.Barrier(4), [], []
 
             def begin():
                 barrier.wait()
                 try:
                     began.append(Folder(path, self.job))
                 except SearchFault as error:
-                    told.append(str(error))
+                    errors.append(str(error))
 
             threads = [threading.Thread(target=begin) for _ in range(4)]
             with mock.patch.object(held, "_WAIT", 0.005):
@@ -782,7 +782,7 @@ class Folders(unittest.TestCase):
                     thread.start()
                 for thread in threads:
                     thread.join()
-            self.assertEqual((len(began), set(told)), (1, {f"{path}: another command is at work there"}))
+            self.assertEqual((len(began), set(errors)), (1, {f"{path}: another command is at work there"}))
             began[0].close()
             with Folder(path, self.job) as folder:
                 self.assertEqual(folder.problem(), QUEENS)
@@ -939,8 +939,8 @@ class Folders(unittest.TestCase):
         with self.assertRaisesRegex(SearchFault, "it is no folder"):
             Folder(self.path, self.job)
 
-    def test_each_changed_byte_is_told(self):
-        """Of a file of spans: by the file's name, or, where the digest alone tells, when it is read."""
+    def test_each_changed_byte_is_reported(self):
+        """Of a file of spans: by the file's name, or, where the digest alone shows it, when it is read."""
         name = os.path.join(self.path, self.fill()[0])
         with open(name, "rb") as file:
             right = file.read()
@@ -954,7 +954,7 @@ class Folders(unittest.TestCase):
                     if changed == right:
                         raise SearchFault(name)
 
-    def test_a_file_of_another_search_is_told(self):
+    def test_a_file_of_another_search_is_reported(self):
         name = self.fill()[0]
         other = f"{self.path}.other"
         shutil.move(self.path, other)
@@ -1049,15 +1049,15 @@ class Commands(unittest.TestCase):
         return done.returncode, done.stdout, done.stderr.decode()
 
     def test_search(self):
-        listing, told = whole(1, QUEENS, "m1")
-        self.assertEqual(self.run_it("search", self.path), (0, b"", told))
-        self.assertEqual(self.run_it("search", self.path, "--list", "--jobs", "2"), (0, listing, told))
+        listing, messages = whole(1, QUEENS, "m1")
+        self.assertEqual(self.run_it("search", self.path), (0, b"", messages))
+        self.assertEqual(self.run_it("search", self.path, "--list", "--jobs", "2"), (0, listing, messages))
         self.assertEqual(os.listdir(os.path.dirname(self.path)), ["q.dlx"])
         folder = f"{self.path}.found"
         for _ in range(2):
-            self.assertEqual(self.run_it("search", self.path, "--list", "--folder", folder), (0, listing, told))
-        self.assertEqual(self.run_it("search", "--result", folder, "--list"), (0, listing, told))
-        self.assertEqual(self.run_it("search", "--result", folder), (0, b"", told))
+            self.assertEqual(self.run_it("search", self.path, "--list", "--folder", folder), (0, listing, messages))
+        self.assertEqual(self.run_it("search", "--result", folder, "--list"), (0, listing, messages))
+        self.assertEqual(self.run_it("search", "--result", folder), (0, b"", messages))
         status, printed, message = self.run_it("search", "--status", folder)
         self.assertEqual((status, message), (0, ""))
         self.assertRegex(printed.decode(), r"\A100 % done: 40 solutions, [0-9.]+ seconds of a processor\n\Z")
@@ -1085,11 +1085,11 @@ class Commands(unittest.TestCase):
             self.assertEqual(main(["search", self.path, "--folder", folder]), 0)
 
     def test_folders_that_no_search_can_have(self):
-        for folder, told in (("/proc", "isn't empty"), ("/proc/self/x", "No such file"), ("", "No such file"), (self.path, "no folder")):
+        for folder, wanted in (("/proc", "isn't empty"), ("/proc/self/x", "No such file"), ("", "No such file"), (self.path, "no folder")):
             error = io.StringIO()
             with self.subTest(folder=folder), contextlib.redirect_stderr(error):
                 self.assertEqual(main(["search", self.path, "--folder", folder]), 2)
-                self.assertIn(told, error.getvalue())
+                self.assertIn(wanted, error.getvalue())
 
     def test_nothing_is_printed_of_what_is_damaged(self):
         listing, _ = whole(1, QUEENS, "m1")
@@ -1106,9 +1106,9 @@ class Commands(unittest.TestCase):
                 file.write(wrong)
             for words in (["search", "--result", folder, "--list"], ["search", "--result", folder], search):
                 with self.subTest(words=words, wrong=wrong[-9:]):
-                    status, printed, told = self.run_it(*words)
-                    self.assertEqual((status, printed, told.count("\n")), (2, b"", 1))
-                    self.assertIn(f"{name}: it is damaged", told)
+                    status, printed, messages = self.run_it(*words)
+                    self.assertEqual((status, printed, messages.count("\n")), (2, b"", 1))
+                    self.assertIn(f"{name}: it is damaged", messages)
         os.remove(name)
         self.assertEqual(self.run_it(*search)[:2], (0, listing))
 
@@ -1118,10 +1118,10 @@ class Commands(unittest.TestCase):
         folder = f"{self.path}.search"
         # A machine that does other things does little in two seconds.
         for seconds in ("2", "10", "50"):
-            status, _, told = self.run_it("search", self.path, "--seconds", seconds)
+            status, _, messages = self.run_it("search", self.path, "--seconds", seconds)
             self.assertEqual(status, NOT_DONE)
             line = r"\Ahelgrothy: not done in {} seconds: [0-9.]+ %; the same command goes on \(.*q.dlx.search\)\n\Z"
-            self.assertRegex(told, line.format(seconds))
+            self.assertRegex(messages, line.format(seconds))
             if b"left" in self.run_it("search", "--status", folder)[1]:
                 break
         self.assertEqual(self.run_it("search", "--result", folder)[:2], (NOT_DONE, b""))
@@ -1133,9 +1133,9 @@ class Commands(unittest.TestCase):
         """The time that a command is given is for reading too."""
         pipe, folder = f"{self.path}.pipe", f"{self.path}.found"
         os.mkfifo(pipe)
-        told = f"helgrothy: not done in 0.5 seconds: {pipe} wasn't read by then\n"
+        wanted = f"helgrothy: not done in 0.5 seconds: {pipe} wasn't read by then\n"
         words = ["search", pipe, "--folder", folder, "--seconds", "0.5"]
-        self.assertEqual(self.run_it(*words), (NOT_DONE, b"", told))
+        self.assertEqual(self.run_it(*words), (NOT_DONE, b"", wanted))
         self.assertFalse(os.path.exists(folder))
 
     def test_faults(self):
@@ -1169,14 +1169,14 @@ class Commands(unittest.TestCase):
             ["search", self.path, "--rows", "0"],
         ):
             with self.subTest(words=words):
-                status, printed, told = self.run_it(*words)
+                status, printed, messages = self.run_it(*words)
                 self.assertEqual((status, printed), (2, b""))
-                self.assertNotIn("Traceback", told)
+                self.assertNotIn("Traceback", messages)
 
     def test_a_python_without_dask(self):
-        told = f"^--dask needs Dask's package distributed, and {sys.executable} has none: install it there, or put a python3"
+        wanted = f"^--dask needs Dask's package distributed, and {sys.executable} has none: install it there, or put a python3"
         with mock.patch.object(workers, "import_module", side_effect=ImportError):
-            with self.assertRaisesRegex(SearchFault, told):
+            with self.assertRaisesRegex(SearchFault, wanted):
                 workers.Dask("tcp://first:8786")
 
     def test_a_listing_that_cannot_be_written(self):
@@ -1190,7 +1190,7 @@ class Commands(unittest.TestCase):
         with open("/dev/full", "w") as full, mock.patch.object(sys, "stderr", full):
             shown = show.Shown(False)
             shown._last = -100.0
-            shown.tell(loop.Progress(0.5, 7, 1.0, 1.0, 4))
+            shown.show(loop.Progress(0.5, 7, 1.0, 1.0, 4))
             self.assertTrue(shown._is_silent)
             with contextlib.suppress(OSError):
                 full.close()

@@ -53,11 +53,11 @@ class Startup(unittest.TestCase):
                     self.assertNotIn("helgrothy.make.kind", modules)
 
     def test_lists_are_those_of_the_parsers(self):
-        """What is told without loading a module agrees with it."""
+        """What is printed without loading a module agrees with it."""
         self.assertEqual(HELPS, {name: kind.help for name, kind in KINDS.items()})
         whole, listed = parser_of_all(), commands._parser(["--help"])
-        told = [[(it.dest, it.help) for it in one._subparsers._group_actions[0]._choices_actions] for one in (whole, listed)]
-        self.assertEqual(sorted(told[0]), sorted(told[1]))
+        helps = [[(it.dest, it.help) for it in one._subparsers._group_actions[0]._choices_actions] for one in (whole, listed)]
+        self.assertEqual(sorted(helps[0]), sorted(helps[1]))
         self.assertEqual(whole.format_usage(), listed.format_usage())
         for words in (["make"], ["hint"], ["minimal"]):
             helps = []

@@ -106,21 +106,21 @@ class Symmetry(unittest.TestCase):
             symmetry.motions(Problem(["s1", "s2"], options=[["s1", "s2"], ["s1", "s2"]]), r"s(\d)")
 
     def test_command(self):
-        status, text, told = run("queens", "6", "--up-to-symmetry", "--all")
-        self.assertEqual((status, text.count("Q"), told), (0, 6, "Altogether 1 solution up to 8 symmetries.\n"))
-        told = run("queens", "8", "--up-to-symmetry", "--number", "12")[2]
-        self.assertEqual(told, "Altogether 12 solutions up to 8 symmetries (limit).\n")
-        told = run("solve", "--cell", r"s(\d)", "--up-to-symmetry", "--json", given="s1 s2 s3\ns1\ns2 s3\n")[2]
-        self.assertEqual(told, "Altogether 1 solution, and no symmetry of its cells but that of no change (limit).\n")
-        told = run("solve", "--up-to-symmetry", given="s1\ns1\n")
+        status, text, messages = run("queens", "6", "--up-to-symmetry", "--all")
+        self.assertEqual((status, text.count("Q"), messages), (0, 6, "Altogether 1 solution up to 8 symmetries.\n"))
+        messages = run("queens", "8", "--up-to-symmetry", "--number", "12")[2]
+        self.assertEqual(messages, "Altogether 12 solutions up to 8 symmetries (limit).\n")
+        messages = run("solve", "--cell", r"s(\d)", "--up-to-symmetry", "--json", given="s1 s2 s3\ns1\ns2 s3\n")[2]
+        self.assertEqual(messages, "Altogether 1 solution, and no symmetry of its cells but that of no change (limit).\n")
+        done = run("solve", "--up-to-symmetry", given="s1\ns1\n")
         own = "of a problem of your own, --cell says which cells an option has"
         wanted = f"helgrothy: --up-to-symmetry is for boards and boxes; {own}\n"
-        self.assertEqual(told, (2, "", wanted))
+        self.assertEqual(done, (2, "", wanted))
         self.assertEqual(run("solve", "--up-to-symmetry", "--cell", "(", given="s1\ns1\n")[0], 2)
         self.assertIn("<title>", run("queens", "6", "--up-to-symmetry", "--all", "--html")[1])
         layered = r"(?P<layer>\d)(?P<row>\d)(?P<column>\d)"
-        status, text, told = run("solve", os.path.join(EXAMPLES, "soma.dlx"), "--cell", layered, "--up-to-symmetry")
-        self.assertEqual((status, text.count("\n"), told), (0, 7, "Altogether 1 solution up to 48 symmetries (limit).\n"))
+        status, text, messages = run("solve", os.path.join(EXAMPLES, "soma.dlx"), "--cell", layered, "--up-to-symmetry")
+        self.assertEqual((status, text.count("\n"), messages), (0, 7, "Altogether 1 solution up to 48 symmetries (limit).\n"))
 
 
 if __name__ == "__main__":

@@ -209,8 +209,8 @@ class Timetables(unittest.TestCase):
 
     def test_commands(self):
         path = self.file("t.csv", TABLE)
-        status, out, told = run("timetable", path, "--daily", "1", "--all")
-        self.assertEqual((status, out.count("hall"), told), (0, 4, "Altogether 4 solutions.\n"))
+        status, out, messages = run("timetable", path, "--daily", "1", "--all")
+        self.assertEqual((status, out.count("hall"), messages), (0, 4, "Altogether 4 solutions.\n"))
         self.assertEqual(run("make", "timetable", path, "--daily", "1")[1], make.timetable.problem(TABLE, daily=1).text)
         self.assertTrue(run("timetable", path, "--svg")[1].startswith("<svg"))
 

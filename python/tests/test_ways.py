@@ -89,7 +89,7 @@ class Ways(unittest.TestCase):
                 BOARD.solve(cost=costs, **how)
 
     def test_the_cheapest_one_in_the_time(self):
-        """What had been found of the problem with options that are given is told as of the problem itself."""
+        """What had been found of the problem with options that are given is reported as of the problem itself."""
         inner = mock.Mock(numbers=[0, 2], cost=3, by="dlx3")
         problem = Problem("abc", options=["c", "ab", "a", "bc"])
         with mock.patch("helgrothy._run.cheapest.least", side_effect=cost.NotLeast(inner)):

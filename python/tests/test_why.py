@@ -51,15 +51,15 @@ class Counting(unittest.TestCase):
                 conflict = find(problem)
                 self.assertLess(time.process_time() - begun, 2)
                 self.assertTrue(conflict.is_least and len({item[0] for item in conflict.items}) == 1)
-                told = conflict.sums.text(problem.name)
-                self.assertRegex(told, r": (\w),1 .* \1,9 ask for 9 in all, and .* allow 8$")
+                text = conflict.sums.text(problem.name)
+                self.assertRegex(text, r": (\w),1 .* \1,9 ask for 9 in all, and .* allow 8$")
 
     def test_a_whole_class(self):
         box = make.polyominoes.problem("pentominoes", "6x9")
-        told = list(find(box).lines(box))
-        self.assertEqual(told[0], "can't all be held: F I L N P T U V W X Y Z")
-        self.assertIn("ask for 60 in all, 5 each, and the 54 items r1c1 r1c2 r1c3 .. allow 54", told[1])
-        self.assertEqual(len(told), 2)
+        lines = list(find(box).lines(box))
+        self.assertEqual(lines[0], "can't all be held: F I L N P T U V W X Y Z")
+        self.assertIn("ask for 60 in all, 5 each, and the 54 items r1c1 r1c2 r1c3 .. allow 54", lines[1])
+        self.assertEqual(len(lines), 2)
         nurses = find(make.roster.problem(NURSES))
         self.assertEqual((len(nurses.items), nurses.sums.low, nurses.sums.high), (9, 9, 6))
         self.assertIsNone(search(make.roster.problem(NURSES.replace("0:2", "0:3"))))
@@ -75,9 +75,9 @@ class Counting(unittest.TestCase):
 
     def test_items_that_share_one(self):
         fives = make.sudoku.problem("55" + "." * 79)
-        told = list(find(fives).lines(fives))
-        self.assertIn("r1c1 r1c2 ask for 2 in all, and r1=5 allows 1", told[1])
-        self.assertEqual(told[2], "without any one of them the others can be held")
+        lines = list(find(fives).lines(fives))
+        self.assertIn("r1c1 r1c2 ask for 2 in all, and r1=5 allows 1", lines[1])
+        self.assertEqual(lines[2], "without any one of them the others can be held")
         both = Problem([None, ("b",)], ["x"], [[None, "x"], [("b",), "x"]])
         self.assertEqual(find(both).items, [None, ("b",)])
         # Two that give an item one colour may share it.
@@ -127,7 +127,7 @@ class Conflicts(unittest.TestCase):
         self.assertEqual((len(queens.items), queens.is_least, queens.sums), (3, True, None))
 
     def test_random_problems(self):
-        """What is told can't be held, and can without any one of the items where it is said to be least."""
+        """What is reported can't be held, and can without any one of the items where it is said to be least."""
         rng = random.Random(4)
         for _ in range(60):
             names = [f"p{k}" for k in range(rng.randint(2, 6))]
@@ -162,19 +162,19 @@ class Conflicts(unittest.TestCase):
             why.find(make.langford.problem(14), 0.2)
 
     def test_a_search_that_shows_nothing_is_counted(self):
-        told = []
+        said = []
         # The count takes as long as the search was quiet: here longer, on a machine that does other things too.
         long = mock.patch.object(sums, "search", lambda problem, _: search(problem, 300))
-        with long, mock.patch.object(watch, "_QUIET_SECONDS", 0.2), watch.Watch(jigsaw(JIGSAWS[0]), told.append):
+        with long, mock.patch.object(watch, "_QUIET_SECONDS", 0.2), watch.Watch(jigsaw(JIGSAWS[0]), said.append):
             deadline = time.monotonic() + 300
-            while not told and time.monotonic() < deadline:
+            while not said and time.monotonic() < deadline:
                 time.sleep(0.1)
-        self.assertEqual(len(told), 1)
-        self.assertTrue(told[0].endswith("there is no solution"), told)
-        with mock.patch.object(watch, "_QUIET_SECONDS", 0.2), watch.Watch(jigsaw(JIGSAWS[0]), told.append) as beside:
+        self.assertEqual(len(said), 1)
+        self.assertTrue(said[0].endswith("there is no solution"), said)
+        with mock.patch.object(watch, "_QUIET_SECONDS", 0.2), watch.Watch(jigsaw(JIGSAWS[0]), said.append) as beside:
             beside.end()
             time.sleep(0.5)
-        self.assertEqual(len(told), 1)
+        self.assertEqual(len(said), 1)
 
 
 SOLVERS = [name for name in sat_solver.SOLVERS if sat_solver.shutil.which(name)]

@@ -55,8 +55,8 @@ class Lines(unittest.TestCase):
         problem = Problem.parse(COLOURS)
         costs = wishes.read("| what is wished\n\na 3\n  a x:r -1.5\nb x .5\n* y +2\n", problem)
         self.assertEqual(costs.numbers, [Fraction(3, 2), 5, Fraction(1, 2), Fraction(1, 2), 2, 0])
-        self.assertEqual(list(costs.told([0, 3, 5])), ["3 by line 3: a 3", "-1.5 by line 4: a x:r -1.5", "0.5 by line 5: b x .5"])
-        self.assertEqual(list(costs.told([1, 4])), ["3 by line 3: a 3", "4 by line 6: * y +2 (2 times)"])
+        self.assertEqual(list(costs.lines([0, 3, 5])), ["3 by line 3: a 3", "-1.5 by line 4: a x:r -1.5", "0.5 by line 5: b x .5"])
+        self.assertEqual(list(costs.lines([1, 4])), ["3 by line 3: a 3", "4 by line 6: * y +2 (2 times)"])
 
     def test_without(self):
         for head, wanted in (
@@ -81,23 +81,23 @@ class Lines(unittest.TestCase):
     def test_ten_lines_and_the_rest(self):
         problem = Problem([f"i{n}" for n in range(14)], options=[[f"i{n}"] for n in range(14)])
         costs = wishes.read("".join(f"i{n} {n - 4 or 50}\n" for n in range(14)), problem)
-        told = list(costs.folded().told(range(14)))
-        self.assertEqual(len(told), 11)
-        self.assertEqual((told[0], told[1]), ("-4 by line 1: i0 -4", "-3 by line 2: i1 -3"))
-        self.assertEqual(told[-1], "0 by 4 more lines; --all-costs shows each")
-        self.assertEqual(len(list(costs.told(range(14)))), 14)
-        self.assertEqual(len(list(costs.folded().told(range(11)))), 11)
+        lines = list(costs.folded().lines(range(14)))
+        self.assertEqual(len(lines), 11)
+        self.assertEqual((lines[0], lines[1]), ("-4 by line 1: i0 -4", "-3 by line 2: i1 -3"))
+        self.assertEqual(lines[-1], "0 by 4 more lines; --all-costs shows each")
+        self.assertEqual(len(list(costs.lines(range(14)))), 14)
+        self.assertEqual(len(list(costs.folded().lines(range(11)))), 11)
         for most in (11, 12, 14):
-            numbers = [Fraction(line.partition(" ")[0]) for line in costs.folded().told(range(most))]
+            numbers = [Fraction(line.partition(" ")[0]) for line in costs.folded().lines(range(most))]
             self.assertEqual(sum(numbers), sum(costs.numbers[:most]))
 
     def test_pairs_that_cancel(self):
         problem = Problem.parse(COLOURS)
         costs = wishes.read("a 3\na x:r -3\n* x 2\nb -2\n* y 1\n", problem)
-        self.assertEqual(list(costs.folded().told([0, 4, 5])), ["2 by line 3: * x 2", "-2 by line 4: b -2", "1 by line 5: * y 1"])
-        self.assertEqual(list(costs.folded().told([1, 2])), ["3 by line 1: a 3", "2 by line 3: * x 2", "1 by line 5: * y 1"])
-        self.assertEqual(list(costs.folded().told([0, 2])), ["2 by line 3: * x 2"])
-        self.assertEqual(len(list(costs.told([0, 2]))), 4)
+        self.assertEqual(list(costs.folded().lines([0, 4, 5])), ["2 by line 3: * x 2", "-2 by line 4: b -2", "1 by line 5: * y 1"])
+        self.assertEqual(list(costs.folded().lines([1, 2])), ["3 by line 1: a 3", "2 by line 3: * x 2", "1 by line 5: * y 1"])
+        self.assertEqual(list(costs.folded().lines([0, 2])), ["2 by line 3: * x 2"])
+        self.assertEqual(len(list(costs.lines([0, 2]))), 4)
 
     def test_a_column_stays_one(self):
         problem = Problem("12", options=["1", "2", "12"])
@@ -146,16 +146,16 @@ class Tables(InFolder):
             (ROSTER.replace("mon=-2", "tue=2"), "line 6: bob tue=2: no shift of this person is one of these"),
         ):
             with self.subTest(table=table):
-                told = run("roster", self.file("table", table))
-                self.assertEqual(told, (2, "", f"helgrothy: {wanted}\n"))
+                done = run("roster", self.file("table", table))
+                self.assertEqual(done, (2, "", f"helgrothy: {wanted}\n"))
         for table, wanted in (
             (TIMETABLE.replace("tue=2", "tus=2"), "line 5: tus=2: no day, hour, slot or room (is it tue?)"),
             (TIMETABLE.replace("tue=2", "tue="), "line 5: no cost; one is a number such as 3, -2 or 0.5"),
             (TIMETABLE.replace("mon-2=3", "tue-2=3"), "line 7: bob tue-2=3: no lesson or exam can be there"),
         ):
             with self.subTest(table=table):
-                told = run("timetable", self.file("table", table))
-                self.assertEqual(told, (2, "", f"helgrothy: {wanted}\n"))
+                done = run("timetable", self.file("table", table))
+                self.assertEqual(done, (2, "", f"helgrothy: {wanted}\n"))
 
     def test_random_rosters(self):
         rng = random.Random(5)
@@ -178,20 +178,20 @@ class Tables(InFolder):
             with mock.patch.object(sat_solver, "path_of", lambda name: shutil.which(name) if case % 2 else None):
                 least = cost.least(problem, costs.numbers)
             self.assertEqual(least.cost, wanted)
-            told = [line.partition(" by ") for line in costs.told(least.numbers)]
-            self.assertEqual(sum(Fraction(number) for number, _, _ in told), wanted)
+            lines = [line.partition(" by ") for line in costs.lines(least.numbers)]
+            self.assertEqual(sum(Fraction(number) for number, _, _ in lines), wanted)
 
 
 class Command(InFolder):
     def test_in_tables(self):
         path = self.file("table", ROSTER)
-        status, text, told = run("roster", path)
+        status, text, messages = run("roster", path)
         self.assertEqual((status, text.splitlines()[0].split()), (0, ["mon", "tue", "wed"]))
-        head, *rest = told.splitlines()
+        head, *rest = messages.splitlines()
         self.assertEqual(head, "The least cost is -2.")
         self.assertIn("-2 by line 6 of the table: bob mon=-2", rest)
         made = run("make", "roster", path)[1]
-        self.assertEqual(run("solve", given=made)[2], told)
+        self.assertEqual(run("solve", given=made)[2], messages)
         note = "The wishes of the table don't count here: only where the cheapest solution is asked for.\n"
         for words in (["--all"], ["--limit", "3"], ["--number", "2"], ["--shuffle", "1"]):
             self.assertTrue(run("roster", path, *words)[2].startswith(f"{note}Altogether "))
@@ -202,25 +202,25 @@ class Command(InFolder):
 
     def test_all_costs(self):
         costs = self.file("costs", "".join(f"r{n} 1\nr{n} c{n} 5\n" for n in range(1, 13)))
-        told = run("queens", "12", "--cost", costs)[2].splitlines()
-        self.assertEqual((len(told), told[0], told[-1]), (12, "The least cost is 12.", "2 by 2 more lines; --all-costs shows each"))
+        lines = run("queens", "12", "--cost", costs)[2].splitlines()
+        self.assertEqual((len(lines), lines[0], lines[-1]), (12, "The least cost is 12.", "2 by 2 more lines; --all-costs shows each"))
         self.assertIn("2 by 2 more lines", run("queens", "12", "--cost", costs, "--html")[1])
-        told = run("queens", "12", "--cost", costs, "--all-costs")[2].splitlines()
-        self.assertEqual(told[1:], [f"1 by line {2 * n - 1}: r{n} 1" for n in range(1, 13)])
-        told = run("queens", "12", "--all-costs")
-        self.assertEqual(told, (2, "", "helgrothy: --all-costs is of --cost, and of the wishes of a table\n"))
+        lines = run("queens", "12", "--cost", costs, "--all-costs")[2].splitlines()
+        self.assertEqual(lines[1:], [f"1 by line {2 * n - 1}: r{n} 1" for n in range(1, 13)])
+        done = run("queens", "12", "--all-costs")
+        self.assertEqual(done, (2, "", "helgrothy: --all-costs is of --cost, and of the wishes of a table\n"))
 
     def test_in_each_kind(self):
         costs = self.file("costs", "r1 c1 5\nr1 c2 -1\n")
-        told = run("queens", "6", "--cost", costs)
-        self.assertEqual(told[1].splitlines()[0], ". Q . . . .")
-        self.assertEqual(told[2], "The least cost is -1.\n-1 by line 2: r1 c2 -1\n")
+        done = run("queens", "6", "--cost", costs)
+        self.assertEqual(done[1].splitlines()[0], ". Q . . . .")
+        self.assertEqual(done[2], "The least cost is -1.\n-1 by line 2: r1 c2 -1\n")
         wrong = self.file("wrong", "r1 c1 5\nr1 r2 1\n")
-        status, text, told = run("queens", "6", "--cost", wrong)
+        status, text, messages = run("queens", "6", "--cost", wrong)
         self.assertEqual((status, text), (2, ""))
-        self.assertTrue(told.startswith(f"helgrothy: {wrong}: line 2: r1 r2 1: no option has all of these; the nearest are r1 c1 "))
-        told = run("tests", "2,2", "--least", "--cost", costs)
-        self.assertEqual(told, (2, "", "helgrothy: this search has a problem of its own: without --cost, --with and --without\n"))
+        self.assertTrue(messages.startswith(f"helgrothy: {wrong}: line 2: r1 r2 1: no option has all of these; the nearest are r1 c1 "))
+        done = run("tests", "2,2", "--least", "--cost", costs)
+        self.assertEqual(done, (2, "", "helgrothy: this search has a problem of its own: without --cost, --with and --without\n"))
         self.assertEqual(run("queens", "6", "--cost", costs, "--shuffle", "2")[0], 2)
 
 

@@ -79,8 +79,8 @@ class WordSearches(InFolder):
 
     def test_commands(self):
         path = self.file("words.txt", WORDS)
-        status, text, told = run("wordsearch", path, "12x12", "--shuffle", "3", "--fill", "3")
-        self.assertEqual((status, len(rows_of(text)), told), (0, 12, "Altogether 1 solution (limit).\n"))
+        status, text, messages = run("wordsearch", path, "12x12", "--shuffle", "3", "--fill", "3")
+        self.assertEqual((status, len(rows_of(text)), messages), (0, 12, "Altogether 1 solution (limit).\n"))
         self.assertNotIn(".", text)
         made = self.file("w.dlx", run("make", "wordsearch", path, "12x12", "--fill", "3")[1])
         self.assertNotIn(".", run("solve", made)[1])

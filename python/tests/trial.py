@@ -1,9 +1,9 @@
 #!/usr/bin/env python3
 """trial.py CASES SEED: random problems of all kinds, over items of all kinds, against a search of its own.
 
-The solutions have to be those that trying all sets of options finds, told by the options as they were given; counts,
+The solutions have to be those that trying all sets of options finds, known by the options as they were given; counts,
 verdicts on right and wrong solutions, and choices of none have to agree with them. Of texts with faults the first
-fault has to be the one that dlxcheck tells. Each tenth problem is exported, too, and counted by clasp, where clasp and
+fault has to be the one that dlxcheck reports. Each tenth problem is exported, too, and counted by clasp, where clasp and
 gringo are installed. The last line is `N passed, M failed`.
 """
 
@@ -133,10 +133,10 @@ def has_right_fault(rng, folder):
     path = os.path.join(folder, "p.dlx")
     with open(path, "wb") as file:
         file.write(text)
-    told = subprocess.run([programs.find("dlxcheck"), path, str(kind)], stdin=subprocess.DEVNULL, capture_output=True)
+    done = subprocess.run([programs.find("dlxcheck"), path, str(kind)], stdin=subprocess.DEVNULL, capture_output=True)
     faults = [remark for remark in lint.lint(text, kind, 0.05) if remark.is_fault]
     first = f"Line {faults[0].line}: {faults[0].text.partition(' (')[0]}." if faults else ""
-    assert told.stderr.decode().strip() == first, f"{text!r}: {told.stderr!r} and {first!r}"
+    assert done.stderr.decode().strip() == first, f"{text!r}: {done.stderr!r} and {first!r}"
 
 
 def main():

@@ -82,6 +82,6 @@ def one(solution: Solution[str]) -> None:
     assert len(options) + len(numbers) + len(steps)
 
 
-def told(progress: Progress) -> None:
+def shown(progress: Progress) -> None:
     share: float = progress.share
     assert share

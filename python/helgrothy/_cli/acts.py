@@ -79,7 +79,7 @@ def lint(arguments: argparse.Namespace) -> int:
     from ..lint import lint as remarks_of
 
     text = console.read(arguments.problem)
-    remarks = remarks_of(text, int(arguments.program[-1]), searching=_SEARCH_SECONDS, tell=console.say)
+    remarks = remarks_of(text, int(arguments.program[-1]), searching=_SEARCH_SECONDS, say=console.say)
     write(f"{remark}\n" for remark in remarks)
     return 1 if remarks else 0
 

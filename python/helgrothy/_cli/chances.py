@@ -6,7 +6,7 @@ from typing import TYPE_CHECKING, Any
 
 from .._run import occurrences
 from .._run.occurrences import Occurrences
-from .._text.sheet import teller
+from .._text.sheet import labelling
 from ..data import FORMATS
 from ..draw import chances
 from ..errors import NoPicture, OutOfTime, ProgramFailed
@@ -79,8 +79,8 @@ def _view(problem: Problem[Any]) -> chances.View | None:
 def _listed(problem: Problem[Any], found: Occurrences) -> Iterator[str]:
     """A line for each option that is in a solution."""
     wide = len(str(found.total))
-    told = teller(problem)
+    label = labelling(problem)
     for option, times in zip(problem.options, found.by_option):
         if times:
             share = f"{chances.percent(times, found.total)}%"
-            yield f"{times:{wide}} {share:>4} {told(problem.line(option))}\n"
+            yield f"{times:{wide}} {share:>4} {label(problem.line(option))}\n"

@@ -31,7 +31,7 @@ _LINES = 1000
 # Numbers in the arguments of commands: the programs take these too.
 _MOST_NUMBER = (1 << 64) - 1
 # Python reads so many digits at once, and so many of a wrong number are shown.
-_MOST_DIGITS, _MOST_TOLD_DIGITS = 4000, 40
+_MOST_DIGITS, _MOST_SHOWN_DIGITS = 4000, 40
 # More than anybody waits, and no more than the system's clocks take.
 _MOST_SECONDS = 1e9
 # Where time is over an exception says so. Until it was raised so long ago, or the process has worked on for so long, it
@@ -39,7 +39,7 @@ _MOST_SECONDS = 1e9
 # at the end.
 _ON_ITS_WAY, _AT_WORK = 10.0, 0.5
 # After a wrong name so many that are near to it, by `difflib`, are shown, or all where none is near and they are few.
-_MOST_NEAR, _NEAR, _MOST_TOLD = 3, 0.65, 20
+_MOST_NEAR, _NEAR, _MOST_SHOWN = 3, 0.65, 20
 # The title over the arguments of a kind of problems.
 OF_THIS_KIND = "of this kind"
 _INPUT, _OUTPUT, _ERROR = "standard input", "standard output", "standard error"
@@ -112,7 +112,7 @@ def did_you_mean(word: str, words: Iterable[str]) -> str:
     near = dict.fromkeys([*begun, *get_close_matches(given, known, _MOST_NEAR, _NEAR)])
     if near:
         return f" (is it {' or '.join(known[one] for one in list(near)[:_MOST_NEAR])}?)"
-    if not 0 < len(known) <= _MOST_TOLD:
+    if not 0 < len(known) <= _MOST_SHOWN:
         return ""
     *most, last = known.values()
     return f" (there are {', '.join(most)} and {last})" if most else f" (there is {last})"
@@ -266,7 +266,7 @@ def write_long_numbers() -> None:
 def natural(word: str) -> int:
     """A number of at least 1 with any digits that Python reads, for a parser."""
     if not re.match(r"[0-9]+\Z", word) or len(word) > _MOST_DIGITS or int(word) < 1:
-        raise argparse.ArgumentTypeError(f"{word[:_MOST_TOLD_DIGITS]}: it has to be a number from 1 on")
+        raise argparse.ArgumentTypeError(f"{word[:_MOST_SHOWN_DIGITS]}: it has to be a number from 1 on")
     return int(word)
 
 
@@ -311,7 +311,7 @@ def limited(most: float | None) -> Iterator[None]:
         clock.is_open = False
         signal.setitimer(signal.ITIMER_REAL, 0)
         signal.signal(signal.SIGALRM, before)
-        sys.unraisablehook = clock.tell
+        sys.unraisablehook = clock.report
         end_all()
 
 
@@ -322,11 +322,11 @@ def no_longer_limited() -> None:
 
 
 class _Clock:
-    """What is done when time is over, while it is open; `tell` reports exceptions that are lost."""
+    """What is done when time is over, while it is open; `report` reports exceptions that are lost."""
 
-    def __init__(self, most: float, tell: Callable[[Any], Any]) -> None:
+    def __init__(self, most: float, report: Callable[[Any], Any]) -> None:
         self.is_open = True
-        self.tell = tell
+        self.report = report
         self._most = most
         # When an exception was raised: by the clock, and by what the process had taken of a processor.
         self._raised: tuple[float, float] | None = None
@@ -343,7 +343,7 @@ class _Clock:
         if lost.exc_type is OutOfTime:
             self._raised = None
         else:
-            self.tell(lost)
+            self.report(lost)
 
 
 # That of the command that runs.

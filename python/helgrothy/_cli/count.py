@@ -79,20 +79,21 @@ def counted_with_line(problem: Problem[Any], seconds: float | None, **memory: in
     program = f"dlx{problem.kind}"
     with Report([*(["dlx-count"] if has("dlx-count") else []), program], "count") as report:
 
-        def give_up(told: str) -> None:
+        def give_up(messages: str) -> None:
             report(at_work=[program])
-            console.say(f"helgrothy: {told.splitlines()[-1] if told else 'dlx-count failed'} The search goes on.")
+            reason = messages.splitlines()[-1] if messages else "dlx-count failed"
+            console.say(f"helgrothy: {reason} The search goes on.")
 
         if not report.is_shown:
             return problem._count(seconds, gives_up=give_up, **memory)
-        from .._spans.progress import Reached, told
+        from .._spans.progress import Reached, how_far
 
         reached = Reached()
 
         def printed(chunk: bytes) -> None:
             reached.read(chunk)
             if reached.number and report.is_due():
-                report(far=told(reached.number, reached.share(), report.seconds))
+                report(far=how_far(reached.number, reached.share(), report.seconds))
 
         report(far=f"fewer than {_SPACING} found")
         return problem._count(seconds, _SPACING, gives_up=give_up, printed=printed, **memory)

@@ -35,7 +35,7 @@ def draw(problem: Problem[Any], arguments: argparse.Namespace) -> int:
         if arguments.listing:
             raise ValueError("--listing is of another solver's answer, which standard input hasn't")
         numbers: list[int] = []
-        listed = ((found.number, found) for found in _told(problem.listed(lines), numbers))
+        listed = ((found.number, found) for found in _noted(problem.listed(lines), numbers))
         shown = _draw(problem, _wanted(listed, arguments), arguments)
         return 0 if shown else fail(_none_of(arguments.number, numbers), 1)
     found = enumerate(answers.solutions(solver, problem, lines), 1)
@@ -58,7 +58,7 @@ def _wanted(
                 return
 
 
-def _told(listed: Iterable[Listed[Any]], numbers: list[int]) -> Iterator[Listed[Any]]:
+def _noted(listed: Iterable[Listed[Any]], numbers: list[int]) -> Iterator[Listed[Any]]:
     """The solutions of a listing; `numbers` gets the first number that it has, and the last one so far."""
     for solution in listed:
         numbers[1:] = [solution.number]

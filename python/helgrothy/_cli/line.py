@@ -89,7 +89,7 @@ LINE = Line()
 
 
 class Report:
-    """What is at work, how far it is and the best so far, as `Hear` tells it, and shown by the line meanwhile.
+    """What is at work, how far it is and the best so far, as `Hear` gets it, and shown by the line meanwhile.
 
     is_shown: whether there is a line.
     """
@@ -100,7 +100,7 @@ class Report:
         self._does = does
         self._far = self._best = ""
         self._begun = time.monotonic()
-        self._told = 0.0
+        self._reported = 0.0
         self._is_over = threading.Event()
         self.is_shown = LINE.is_possible
 
@@ -128,11 +128,11 @@ class Report:
         return time.monotonic() - self._begun
 
     def is_due(self) -> bool:
-        """Whether it is time to tell how far it is, for who is asked more often than that is shown."""
+        """Whether it is time to report how far it is, for who is asked more often than that is shown."""
         now = time.monotonic()
-        if not self.is_shown or now - self._told < _OFTEN:
+        if not self.is_shown or now - self._reported < _OFTEN:
             return False
-        self._told = now
+        self._reported = now
         return True
 
     def __str__(self) -> str:

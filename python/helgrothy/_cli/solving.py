@@ -11,7 +11,7 @@ from collections.abc import Iterator, Sequence
 from typing import TYPE_CHECKING, Any
 
 from .. import engines
-from .._text.listing import untold
+from .._text.listing import bare_steps
 from ..errors import OutOfTime, TableFault
 from ..given import Given
 from ..make import KINDS
@@ -128,9 +128,9 @@ class _Listing:
         except OutOfTime as error:
             return self._give_up(error)
         except engines.Claimed as claim:
-            told = f"{claim}; {_MAY_SAY}"
-            console.say(told)
-            self._write_page(0, False, [told])
+            message = f"{claim}; {_MAY_SAY}"
+            console.say(message)
+            self._write_page(0, False, [message])
             return 1
         # There is no total where the page was full before.
         total = self._shown if solutions.total is None else solutions.total
@@ -154,7 +154,7 @@ class _Listing:
         for searched in solutions:
             watch.end()
             if report.is_due() and self._number is None:
-                self._tell_how_far(searched, report)
+                self._report_how_far(searched, report)
             found = self._asked.outer(searched)
             self._show(self._number or self._shown + 1, found, lambda _: found.numbers, lambda: found.steps)
             self._shown += 1
@@ -166,13 +166,13 @@ class _Listing:
                 if self._left() == 0.0:
                     raise OutOfTime(f"it wasn't done in {self._arguments.seconds:g} seconds")
 
-    def _tell_how_far(self, searched: Solution[Any], report: Report) -> None:
+    def _report_how_far(self, searched: Solution[Any], report: Report) -> None:
         if self._arguments.shuffle is not None:
             report(far=f"{self._shown + 1:,} found")
             return
-        from .._spans.progress import share_before, told
+        from .._spans.progress import how_far, share_before
 
-        report(far=told(self._shown + 1, share_before(searched.steps), report.seconds))
+        report(far=how_far(self._shown + 1, share_before(searched.steps), report.seconds))
 
     def _give_up(self, error: OutOfTime) -> int:
         reached = max(error.found, self._shown)
@@ -189,7 +189,7 @@ class _Listing:
             console.say(f"This is number {self._number} of {_counted(self._of)}.")
         else:
             console.say(f"Altogether {_counted(total)}{among}{'.' if is_complete else ' (limit).'}")
-        reasons = [] if total or watch.has_told else _reasons(self._asked, self._deadline())
+        reasons = [] if total or watch.has_shown else _reasons(self._asked, self._deadline())
         for line in reasons:
             console.say(line)
         self._write_page(total, is_complete, reasons)
@@ -263,8 +263,8 @@ def _up_to_symmetry(
     kind = KINDS.get(kind_of(problem.comments) or "")
     cell = arguments.cell or (kind.cell if kind else None)
     if cell is None:
-        told = "of a problem of your own, --cell says which cells an option has"
-        raise ValueError(f"--up-to-symmetry is for boards and boxes; {told}")
+        hint = "of a problem of your own, --cell says which cells an option has"
+        raise ValueError(f"--up-to-symmetry is for boards and boxes; {hint}")
     from .. import symmetry
 
     grid = arguments.cell_grid if arguments.cell else kind and kind.grid(problem)
@@ -273,8 +273,8 @@ def _up_to_symmetry(
     except (re.error, OverflowError, RecursionError) as error:
         raise ValueError(f"a pattern is wrong: {error}") from None
     count = len(plan.motions)
-    told = f" up to {count} symmetries" if count > 1 else ", and no symmetry of its cells but that of no change"
-    return symmetry.solve(problem, plan, limit, spacing, seconds=seconds), told
+    among = f" up to {count} symmetries" if count > 1 else ", and no symmetry of its cells but that of no change"
+    return symmetry.solve(problem, plan, limit, spacing, seconds=seconds), among
 
 
 # ---- the cheapest one, or that of another search
@@ -285,7 +285,7 @@ def show_found(found: Found, arguments: argparse.Namespace, notes: Sequence[str]
     options = found.problem.options
     page = page_of(found.problem, arguments)
     show = showing(found.problem, arguments, listed_options, page)
-    show(1, [options[number] for number in found.numbers], lambda _: found.numbers, lambda: untold(found.numbers))
+    show(1, [options[number] for number in found.numbers], lambda _: found.numbers, lambda: bare_steps(found.numbers))
     for line in [found.remark, *notes]:
         console.say(line)
     if page is not None:
@@ -346,12 +346,12 @@ def _show_least(asked: Given[Any], costs: Costs, arguments: argparse.Namespace) 
         if error.best is None:
             return fail(f"no solution was found in {most:g} seconds")
         numbers = asked.numbers(error.best.numbers)
-        told = f"{spelled(error.best.cost)} is the least cost that was found"
+        best = f"{spelled(error.best.cost)} is the least cost that was found"
         proof = f"in {most:g} seconds it wasn't proved that there is no less"
         if arguments.seconds is None:
             proof += "; --seconds gives more"
-        found = Found(asked.problem, numbers, f"helgrothy: {told}; {proof}")
-        show_found(found, arguments, list(costs.told(numbers)))
+        found = Found(asked.problem, numbers, f"helgrothy: {best}; {proof}")
+        show_found(found, arguments, list(costs.lines(numbers)))
         return 2
     except engines.Claimed as claim:
         console.say(f"{claim}; {_MAY_SAY}")
@@ -361,11 +361,11 @@ def _show_least(asked: Given[Any], costs: Costs, arguments: argparse.Namespace) 
             console.say(line)
         return 1
     numbers = asked.numbers(least.numbers)
-    told = f"The least cost is {spelled(least.cost)}."
+    remark = f"The least cost is {spelled(least.cost)}."
     if not least.is_proved:
-        told = f"{spelled(least.cost)} is the least cost that was found; {least.by} reports that none is cheaper."
-    found = Found(asked.problem, numbers, told)
-    return show_found(found, arguments, list(costs.told(numbers)))
+        remark = f"{spelled(least.cost)} is the least cost that was found; {least.by} reports that none is cheaper."
+    found = Found(asked.problem, numbers, remark)
+    return show_found(found, arguments, list(costs.lines(numbers)))
 
 
 # ---- what is said
@@ -386,4 +386,4 @@ def _reasons(asked: Given[Any], deadline: float | None) -> list[str]:
         conflict = None
     if conflict is None:
         return [f"no reason was found in {max(left, 0):.2g} seconds; `helgrothy why` may look longer"]
-    return list(asked.told(conflict.lines(asked.inner)))
+    return list(asked.explained(conflict.lines(asked.inner)))

@@ -17,16 +17,16 @@ _QUIET_SECONDS = 1.0
 class Watch:
     """Counts the bounds beside a search, where that shows no solution for a while, and says where they can't work.
 
-    has_told: whether it has said that.
+    has_shown: whether it has said that.
     """
 
-    def __init__(self, problem: Problem[Any], tell: Callable[[str], None]) -> None:
+    def __init__(self, problem: Problem[Any], say: Callable[[str], None]) -> None:
         self._problem = problem
-        self._tell = tell
+        self._say = say
         self._timer = threading.Timer(_QUIET_SECONDS, self._count)
         self._timer.daemon = True
         self._is_over = False
-        self.has_told = False
+        self.has_shown = False
 
     def __enter__(self) -> Watch:
         # Where the system gives no thread for it the search goes on without.
@@ -56,5 +56,5 @@ class Watch:
         with suppress(MemoryError, OSError):
             found = sums.search(self._problem, _QUIET_SECONDS)
             if found is not None and not self._is_over:
-                self._tell(f"{found.text(self._problem.name)}: there is no solution")
-                self.has_told = True
+                self._say(f"{found.text(self._problem.name)}: there is no solution")
+                self.has_shown = True

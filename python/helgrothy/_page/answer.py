@@ -29,7 +29,7 @@ from .._cli.console import limited
 from .._reason.grids import GRIDS
 from .._run.stream import Solutions
 from .._text.amounts import spelled
-from .._text.listing import untold
+from .._text.listing import bare_steps
 from .._text.shown import shown
 from ..draw import drawing_of
 from ..errors import HelgrothyError, NoPicture, OutOfTime, ProgramFailed, TableFault, reason_of
@@ -44,7 +44,7 @@ from .record import Draw, Record
 MOST_LIMIT = 1_000
 MOST_SECONDS = 600.0
 # A page gets so much of solutions or of a problem's text, and so many remarks.
-_MOST_TOLD = 1 << 25
+_MOST_BYTES = 1 << 25
 _MOST_REMARKS = 200
 # A count has at most so many digits, as many as Python writes at once.
 _MOST_COUNTED = 10**4000
@@ -84,14 +84,14 @@ class Request:
     @classmethod
     def of(cls, raw: bytes) -> Request:
         """The request of a text of JSON. Raises `ValueError`."""
-        told: Any = json.loads(raw)
-        if not isinstance(told, dict) or not set(told) <= {it.name for it in fields(cls)}:
+        given: Any = json.loads(raw)
+        if not isinstance(given, dict) or not set(given) <= {it.name for it in fields(cls)}:
             raise ValueError("a request that isn't one")
-        for name, value in told.items():
+        for name, value in given.items():
             kind: Any = {"values": dict, "limit": int, "seconds": (int, float)}.get(name, str)
             if not isinstance(value, kind) or isinstance(value, bool):
                 raise ValueError(f"a request with a bad {name}")
-        request = cls(**told)
+        request = cls(**given)
         if request.what not in _ANSWERS:
             raise ValueError("a page asks to lint, to make or to solve, or for chances")
         if request.way not in _WAYS:
@@ -116,8 +116,8 @@ def answer(request: Request) -> Iterator[str]:
         yield _line({"error": shown(reason_of(error))})
 
 
-def _line(told: dict[str, Any]) -> str:
-    return json.dumps(told, separators=(",", ":"))
+def _line(fields: dict[str, Any]) -> str:
+    return json.dumps(fields, separators=(",", ":"))
 
 
 def _lint(request: Request) -> Iterator[str]:
@@ -126,7 +126,7 @@ def _lint(request: Request) -> Iterator[str]:
 
 def _make(request: Request) -> Iterator[str]:
     text = _problem(request).text
-    if len(text) > _MOST_TOLD:
+    if len(text) > _MOST_BYTES:
         raise ValueError("the problem is too large for a page; `helgrothy make` writes it")
     yield _line({"text": text})
 
@@ -142,14 +142,14 @@ def _raw(request: Request) -> bytes:
 
 def _remarks(remarks: list[Remark]) -> list[dict[str, Any]]:
     """Remarks with the tokens as they stand in the text, by which the page finds them."""
-    told = [
+    found = [
         {"line": it.line, "token": it.token, "name": shown(it.token), "text": shown(it.text), "fault": it.is_fault}
         for it in remarks[:_MOST_REMARKS]
     ]
     if len(remarks) > _MOST_REMARKS:
         more = f"{len(remarks) - _MOST_REMARKS} more remarks"
-        told.append({"line": remarks[-1].line, "token": "", "name": "", "text": more, "fault": False})
-    return told
+        found.append({"line": remarks[-1].line, "token": "", "name": "", "text": more, "fault": False})
+    return found
 
 
 class _Solving:
@@ -206,7 +206,7 @@ class _Solving:
                     line = record.solution(shown, found.steps)
                     length += len(line)
                     yield line
-                    if length > _MOST_TOLD:
+                    if length > _MOST_BYTES:
                         break
         except OutOfTime as error:
             notes = [f"{self._request.seconds:g} seconds are over"]
@@ -246,22 +246,22 @@ class _Solving:
         notes: list[str] = []
         try:
             found = cost.least(problem, costs.numbers, self._left() * 0.9, notes.append)
-            told = "" if found is None else _told(found)
+            remark = "" if found is None else _cost_of(found)
         except cost.NotLeast as error:
             found = error.best
             over = f"{self._request.seconds:g} seconds are over"
             if found is None:
                 yield record.end(0, False, [*notes, over])
                 return
-            told = f"it costs {spelled(found.cost)}; {over}, and there may be a cheaper one"
+            remark = f"it costs {spelled(found.cost)}; {over}, and there may be a cheaper one"
         except engines.Claimed as claim:
             yield record.end(0, False, [*notes, str(claim)])
             return
         if found is None:
             yield record.end(0, True, [*notes, *self._reasons(problem)])
             return
-        yield record.solution(1, untold(found.numbers))
-        yield record.end(1, False, [*notes, told, *costs.told(found.numbers)])
+        yield record.solution(1, bare_steps(found.numbers))
+        yield record.end(1, False, [*notes, remark, *costs.lines(found.numbers)])
 
     def _costs(self, problem: Problem[Any]) -> wishes.Costs:
         """What the options cost, by what was typed and by the wishes of a kind's table. Raises `ValueError`."""
@@ -302,7 +302,7 @@ class _Solving:
         return []
 
 
-def _told(found: cost.Least[Any]) -> str:
+def _cost_of(found: cost.Least[Any]) -> str:
     """What the cheapest solution costs, and who says that none costs less."""
     if not found.is_proved:
         return f"{spelled(found.cost)} is the least cost that was found; {found.by} reports that none is cheaper"
@@ -323,7 +323,7 @@ _ANSWERS: dict[str, Callable[[Request], Iterator[str]]] = {
 
 def run() -> None:
     """Answers the request on standard input, on standard output. The process is the first of a group of its own."""
-    asked, telling = os.dup(0), os.dup(1)
+    asked, answers = os.dup(0), os.dup(1)
     nowhere = os.open(os.devnull, os.O_RDWR)
     for stream in (0, 1, 2):
         os.dup2(nowhere, stream)
@@ -332,11 +332,11 @@ def run() -> None:
     try:
         request = Request.of(raw)
     except (ValueError, RecursionError) as error:
-        _tell(telling, _line({"error": shown(str(error))}))
+        _send(answers, _line({"error": shown(str(error))}))
         os._exit(0)
     _limit(request)
     for line in answer(request):
-        _tell(telling, line)
+        _send(answers, line)
     os._exit(0)
 
 
@@ -373,7 +373,7 @@ def _limit(request: Request) -> None:
         resource.setrlimit(what, (most, most))
 
 
-def _tell(telling: int, line: str) -> None:
+def _send(answers: int, line: str) -> None:
     raw = f"{line}\n".encode()
     while raw:
-        raw = raw[os.write(telling, raw) :]
+        raw = raw[os.write(answers, raw) :]

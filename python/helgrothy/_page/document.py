@@ -27,8 +27,8 @@ def document(
     connects: whether it may ask the server that it came from.
     """
     before, between, behind = frame(bodies, scripts, connects)
-    told = _in_script(f"[{','.join(data)}]")
-    return f"{before}{escaped(title)}{between}{told}{behind}"
+    script = _in_script(f"[{','.join(data)}]")
+    return f"{before}{escaped(title)}{between}{script}{behind}"
 
 
 def frame(bodies: Iterable[str], scripts: Iterable[str], connects: bool = False) -> list[str]:

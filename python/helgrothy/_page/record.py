@@ -18,7 +18,7 @@ from typing import Any
 from xml.etree import ElementTree
 
 from .._text.listing import Step
-from .._text.sheet import sheet_of, teller
+from .._text.sheet import labelling, sheet_of
 from .._text.shown import shown
 from ..errors import NoPicture
 from ..problem import Problem
@@ -51,7 +51,7 @@ class Record:
         self._problem = problem
         self.draw = draw
         self._sheet = sheet_of(problem)
-        self._tell = teller(problem)
+        self._label = labelling(problem)
         self._elements: dict[Element, int] = {}
         self._options: set[int] = set()
         self.title = _NO_TITLE
@@ -91,7 +91,7 @@ class Record:
         self._options.update(chosen)
         fresh_from = len(self._elements)
         picture = self._picture(lines)
-        told: dict[str, Any] = {
+        fields: dict[str, Any] = {
             "number": number,
             "steps": [
                 [shown(step.item), 0 if step.option is None else step.option + 1, step.branch, step.branches]
@@ -99,25 +99,25 @@ class Record:
             ],
         }
         if picture:
-            told["picture"] = picture
+            fields["picture"] = picture
         if fresh:
-            told["options"] = fresh
+            fields["options"] = fresh
             if self._sheet is not None:
-                words = {place + 1: shown(self._tell(line)) for place, line in zip(chosen, lines)}
-                told["words"] = {number: words[number] for number in fresh}
+                words = {place + 1: shown(self._label(line)) for place, line in zip(chosen, lines)}
+                fields["words"] = {number: words[number] for number in fresh}
         if len(self._elements) > fresh_from:
-            told["elements"] = self._told_from(fresh_from)
-        return _line({"solution": told})
+            fields["elements"] = self._elements_from(fresh_from)
+        return _line({"solution": fields})
 
     def chances(self, picture: Any, total: int) -> str:
         """A picture of the shares of all solutions, of which there are so many."""
         fresh_from = len(self._elements)
         parts = self._parts(picture.svg())
-        return _line({"chances": {"picture": parts, "elements": self._told_from(fresh_from), "total": str(total)}})
+        return _line({"chances": {"picture": parts, "elements": self._elements_from(fresh_from), "total": str(total)}})
 
-    def _told_from(self, number: int) -> list[list[Any]]:
+    def _elements_from(self, number: int) -> list[list[Any]]:
         """The elements from a number on, as the page gets them."""
-        return [_told(element) for element in islice(self._elements, number, None)]
+        return [_listed(element) for element in islice(self._elements, number, None)]
 
     def _picture(self, lines: Sequence[str]) -> list[int]:
         """The numbers of a picture's elements, the first one that of the whole; none where there is no picture."""
@@ -148,14 +148,14 @@ def _element(element: ElementTree.Element) -> Element:
     return Element(_name(element), tuple(element.items()), element.text or "", tuple(map(_element, element)))
 
 
-def _told(element: Element) -> list[Any]:
+def _listed(element: Element) -> list[Any]:
     """An element as the page gets it: its name, its attributes, and its text or the elements in it."""
-    return [element.name, dict(element.attributes), list(map(_told, element.within)) or element.text]
+    return [element.name, dict(element.attributes), list(map(_listed, element.within)) or element.text]
 
 
 def _name(element: ElementTree.Element) -> str:
     return element.tag.rpartition("}")[2]
 
 
-def _line(told: dict[str, Any]) -> str:
-    return json.dumps(told, separators=(",", ":"))
+def _line(fields: dict[str, Any]) -> str:
+    return json.dumps(fields, separators=(",", ":"))

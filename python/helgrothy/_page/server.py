@@ -166,7 +166,7 @@ class Server(ThreadingHTTPServer):
         try:
             if not is_closed:
                 connection.sendall(head(200, "application/x-ndjson"))
-                # The server's own end is told by that of the connection.
+                # The server's own end shows by that of the connection.
                 if pass_on(connection, answer) and not self._is_closed:
                     connection.sendall(_NO_END)
         finally:
@@ -275,16 +275,16 @@ class _Request(BaseHTTPRequestHandler):
 
     def _length(self) -> int:
         """How many bytes follow the head; -1 where it doesn't say that."""
-        told: list[str] = self.headers.get_all("Content-Length", [])
-        is_told = len(told) == 1 and _LENGTH.match(told[0]) and not self.headers.get("Transfer-Encoding")
-        return int(told[0]) if is_told else -1
+        lengths: list[str] = self.headers.get_all("Content-Length", [])
+        is_known = len(lengths) == 1 and _LENGTH.match(lengths[0]) and not self.headers.get("Transfer-Encoding")
+        return int(lengths[0]) if is_known else -1
 
     # ---- who isn't
 
     def _refuse(self, status: int, text: str = "") -> None:
         """Answers that, and lets the other side end: who is cut off while it sends may never read the answer."""
         self.close_connection = True
-        if not self.server.waiting.stay(self.connection, is_told=True):
+        if not self.server.waiting.stay(self.connection, has_answer=True):
             return
         self.connection.sendall(message(status, text))
         self.connection.shutdown(socket.SHUT_WR)

@@ -105,7 +105,7 @@ FIELDS: dict[str, dict[str, tuple[str, str]]] = {
         "clues": (
             "Clues",
             "A line for each row, a blank line, and a line for each column: the lengths of its runs, 0 for none, ? "
-            "where they aren't told.",
+            "where they aren't given.",
         ),
     },
     "kakuro": {

@@ -28,11 +28,11 @@ LATE = message(408, f"a request comes within {PATIENCE:g} seconds")
 
 @dataclass
 class _Guest:
-    """Who waits until when. is_known: its head had the word. is_told: it has its answer, and no more is heard of it."""
+    """Who waits until when. is_known: its head had the word. has_answer: it has an answer, and is heard no more."""
 
     deadline: float
     is_known: bool = False
-    is_told: bool = False
+    has_answer: bool = False
 
 
 class Waiting:
@@ -53,12 +53,12 @@ class Waiting:
                 self._dismiss(strangers[0], BUSY)
             self._guests[connection] = _Guest(time.monotonic() + PATIENCE)
 
-    def stay(self, connection: socket.socket, *, is_known: bool = False, is_told: bool = False) -> bool:
+    def stay(self, connection: socket.socket, *, is_known: bool = False, has_answer: bool = False) -> bool:
         """One has another few seconds, for its body or to read its answer. False where it was dismissed before."""
         with self._lock:
             was_there = self._guests.pop(connection, None) is not None
             if was_there:
-                self._guests[connection] = _Guest(time.monotonic() + PATIENCE, is_known, is_told)
+                self._guests[connection] = _Guest(time.monotonic() + PATIENCE, is_known, has_answer)
             return was_there
 
     def go(self, connection: socket.socket) -> bool:
@@ -90,7 +90,7 @@ class Waiting:
         """Ends a connection, with a last word unless it had one."""
         guest = self._guests.pop(connection)
         with suppress(OSError):
-            if not guest.is_told:
+            if not guest.has_answer:
                 # Nothing was sent before, and this is little.
                 connection.send(word)
             connection.shutdown(socket.SHUT_RDWR)

@@ -4,7 +4,7 @@ Clasp gets sums and says each solution that is cheaper than all before. The othe
 format and say the best one at their end: a linear bound, which the programs and clasp lack, shows at once what costs
 least where flights are to be shared among crews.
 
-HiGHS and cbc tell a format by the name of its file. So an engine begins in a folder of its own, in which a link of the
+HiGHS and cbc know a format by the name of its file. So an engine begins in a folder of its own, in which a link of the
 right name leads to its input, and what it may write beside its answer goes with it. HiGHS and glpsol write the answer
 to another place than the log of their work, which would come amid it.
 """
@@ -102,8 +102,8 @@ class Optimiser:
         # The others are asked to end in time.
         if self.is_least or self.is_none or self.name != "clasp":
             return ""
-        told = self._heard.messages()
-        return f"clasp ended before it knew which costs least{told and f' ({told})'}"
+        message = self._heard.messages()
+        return f"clasp ended before it knew which costs least{message and f' ({message})'}"
 
     def _take(self, answers: Iterable[list[int]]) -> None:
         for numbers in answers:

@@ -43,8 +43,8 @@ MOST_SECONDS = 600.0
 # One that is heard may write so many times as much as an answer may take, without a better one, and so much of it is
 # read at a time. A line of it has a word for each option, and others are short.
 _MOST_WASTE, _MOST_LINE, _MOST_WORD, _MOST_HEARD = 8, 1 << 16, 16, 1 << 22
-# Of what it says on standard error so many bytes are told.
-_MOST_TOLD = 200
+# Of what it says on standard error so many bytes are shown.
+_MOST_SHOWN = 200
 _CHUNK = 1 << 18
 # To write the clauses of 600,000 uses took 8 seconds.
 _WRITING_SECONDS = 1.3e-5
@@ -128,7 +128,7 @@ class _Work:
     begun: float
     _problem: Problem[Any]
     _process: subprocess.Popen[bytes]
-    _told: IO[bytes]
+    _written: IO[bytes]
 
     def _begin(
         self, command: list[str], text: Iterable[bytes], is_heard: bool = False, folder: str | None = None
@@ -146,8 +146,8 @@ class _Work:
             output = _OUTPUT + 2 * given.tell()
             given.seek(0)
             limited = ["/bin/sh", "-c", _LIMITED, "sh", str(_MEMORY >> 10), str(output // _BLOCK), *command]
-            self._told = tempfile.TemporaryFile()
-            out, error = (subprocess.PIPE, self._told) if is_heard else (self._told, subprocess.DEVNULL)
+            self._written = tempfile.TemporaryFile()
+            out, error = (subprocess.PIPE, self._written) if is_heard else (self._written, subprocess.DEVNULL)
             try:
                 with programs.undisturbed():
                     self._process = guard.start(
@@ -157,14 +157,14 @@ class _Work:
             except BaseException:
                 if self in programs._running:
                     self.__exit__()
-                self._told.close()
+                self._written.close()
                 raise
 
     def __exit__(self, *_: object) -> None:
         self.kill()
         self.wait()
         programs._running.discard(self)
-        self._told.close()
+        self._written.close()
         if self._process.stdout is not None:
             self._process.stdout.close()
 
@@ -222,9 +222,9 @@ class Asked(_Work):
         ended = self._ended()
         # Nothing is written any more.
         self.kill()
-        self._told.seek(0)
+        self._written.seek(0)
         try:
-            first = next(answers.solutions(self.name, self._problem, self._told), None)
+            first = next(answers.solutions(self.name, self._problem, self._written), None)
         except AnswerFault as fault:
             raise NoAnswer(f"{self.name} gave no answer ({fault})") from None
         if first is not None:
@@ -289,9 +289,9 @@ class Heard(_Work):
             yield chunk
 
     def messages(self) -> str:
-        """What it said on standard error as one line, as far as that is told."""
-        self._told.seek(0)
-        return " ".join(text_of(self._told.read(_MOST_TOLD)).split())
+        """What it said on standard error as one line, as far as that is shown."""
+        self._written.seek(0)
+        return " ".join(text_of(self._written.read(_MOST_SHOWN)).split())
 
 
 def text(engine: Engine, problem: Problem[Any]) -> Iterator[bytes]:

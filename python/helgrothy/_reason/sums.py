@@ -63,9 +63,9 @@ class Sums:
             weight = 1 if is_one else abs(self.weights[item])
             words.append(names(item) if weight == 1 else f"{weight} x {names(item)}")
         listed = " ".join(words)
-        told = listed if len(words) == len(items) else f"the {len(items)} items {listed} .."
+        who = listed if len(words) == len(items) else f"the {len(items)} items {listed} .."
         by = "" if weights == {1} else f", {min(weights)} each" if is_one else ", each by its weight"
-        return f"{told} {verb}{'s' if len(items) == 1 else ''} {much}{by}"
+        return f"{who} {verb}{'s' if len(items) == 1 else ''} {much}{by}"
 
     @property
     def is_proof(self) -> bool:

@@ -39,7 +39,7 @@ def count(
     seconds: float | None = None,
     *,
     megabytes: int = MOST_MEGABYTES,
-    gives_up: Callable[[str], object] = lambda told: None,
+    gives_up: Callable[[str], object] = lambda message: None,
     printed: Callable[[bytes], object] = lambda chunk: None,
 ) -> Count:
     """How many solutions the problem of a text has.
@@ -60,8 +60,8 @@ def count(
                     line = (line + chunk).rpartition(b"\n")[2]
                     printed(chunk)
                 if counter is not None and not search.has_ended:
-                    told = counter.messages().rpartition("\n")[2] if counter.status() == 0 else ""
-                    if last := LAST_LINE.match(told):
+                    last_line = counter.messages().rpartition("\n")[2] if counter.status() == 0 else ""
+                    if last := LAST_LINE.match(last_line):
                         return Count(read_number(last.group(1)), PROGRAM)
                     gives_up(counter.messages())
                     counter = None

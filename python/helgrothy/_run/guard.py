@@ -83,7 +83,7 @@ def start(command: Sequence[str], **pipes: Any) -> subprocess.Popen[bytes]:
         _ready()
     process = subprocess.Popen(command, **pipes)
     try:
-        _tell("begin", -process.pid if pipes.get("start_new_session") else process.pid)
+        _send("begin", -process.pid if pipes.get("start_new_session") else process.pid)
     except BaseException:
         process.kill()
         process.wait()
@@ -93,10 +93,10 @@ def start(command: Sequence[str], **pipes: Any) -> subprocess.Popen[bytes]:
 
 def let_go(program: int) -> None:
     """The program has ended, and was waited for."""
-    _tell("end", program)
+    _send("end", program)
 
 
-def _tell(what: str, program: int) -> None:
+def _send(what: str, program: int) -> None:
     global _guard
     with _lock:
         guard = _ready()

@@ -54,10 +54,10 @@ def solve(
     def begin(outcome: Outcome) -> Generator[Solution[Option], None, None]:
         lines, give = problem._wire(None)
         finder = _Finder(b"".join(lines), problem.kind, number, seconds)
-        told, last = finder.find() if total is None or number <= total else (None, total)
-        if told is not None:
-            yield give(told)
-        outcome.end(last, told is None)
+        choices, last = finder.find() if total is None or number <= total else (None, total)
+        if choices is not None:
+            yield give(choices)
+        outcome.end(last, choices is None)
 
     return Solutions(begin, lambda most: solve(problem, number, sooner(seconds, most), total))
 

@@ -49,19 +49,19 @@ def find(problem: Problem[Any], seconds: float | None = None, jobs: int | None =
     left = None if seconds is None else max(0.0, deadline - time.monotonic())
     if total <= _FEW:
         try:
-            return Occurrences(_told(problem, left), total)
+            return Occurrences(_printed(problem, left), total)
         except ProgramNotFound:
             return Occurrences(_searched(problem, left), total)
     if all(bounds == ONCE for bounds in problem.items.values()):
         patience = _STATES_SECONDS if left is None else min(left / 2, _STATES_SECONDS)
         with suppress(OutOfTime):
-            return Occurrences(_told(problem, patience), total)
+            return Occurrences(_printed(problem, patience), total)
     classes = _Classes(problem)
     times = _Counting(classes, problem.kind, deadline).run(jobs or _processors())
     return Occurrences(classes.shared(times), total)
 
 
-def _told(problem: Problem[Any], seconds: float | None) -> list[int]:
+def _printed(problem: Problem[Any], seconds: float | None) -> list[int]:
     """By the lines of a run of dlx-count: those of the options with a primary item, in their order."""
     found = [0] * len(problem.options)
     kept = [place for place, option in enumerate(problem.options) if _is_kept(problem, option)]
@@ -159,7 +159,7 @@ class _Counting:
     def _end(self, run: Run) -> None:
         words, stack = self._running.pop(run)
         with stack:
-            told = LAST_LINE.match(run.messages().rpartition("\n")[2]) if run.status() == 0 else None
-            if told is None:
+            last = LAST_LINE.match(run.messages().rpartition("\n")[2]) if run.status() == 0 else None
+            if last is None:
                 raise run.failure()
-            self._times[words] = read_number(told.group(1)) * len(self._classes.holders[words])
+            self._times[words] = read_number(last.group(1)) * len(self._classes.holders[words])

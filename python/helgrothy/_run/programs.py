@@ -160,8 +160,8 @@ class Run:
         with tempfile.TemporaryFile() as given:
             given.writelines(text)
             given.seek(0)
-            self._told: IO[bytes] = tempfile.TemporaryFile()
-            self._process = _begun([path, *words], given, self._told)
+            self._errors: IO[bytes] = tempfile.TemporaryFile()
+            self._process = _begun([path, *words], given, self._errors)
 
     def __enter__(self) -> Run:
         return self
@@ -169,7 +169,7 @@ class Run:
     def __exit__(self, *_: object) -> None:
         _end(self._process)
         self.go_on()
-        self._told.close()
+        self._errors.close()
 
     def chunks(
         self, meanwhile: Callable[[Run], object] | None = None, until: Run | None = None
@@ -242,23 +242,23 @@ class Run:
 
     def messages(self) -> str:
         """What the program said on standard error."""
-        self._told.seek(0)
-        return self._told.read().decode("utf-8", "replace").strip()
+        self._errors.seek(0)
+        return self._errors.read().decode("utf-8", "replace").strip()
 
     def failure(self) -> ProgramFailed:
         """What is raised where the status isn't the one that was wanted."""
         return ProgramFailed(self.program, self.status(), self.messages())
 
 
-def _begun(words: Sequence[str], given: IO[bytes], told: IO[bytes]) -> subprocess.Popen[bytes]:
+def _begun(words: Sequence[str], given: IO[bytes], errors: IO[bytes]) -> subprocess.Popen[bytes]:
     """A process with these arguments. If it can't be begun, or a clock has run down meanwhile, nothing of it stays."""
     process = None
     try:
         with undisturbed():
-            process = guard.start(words, stdin=given, stdout=subprocess.PIPE, stderr=told, bufsize=0)
+            process = guard.start(words, stdin=given, stdout=subprocess.PIPE, stderr=errors, bufsize=0)
             _running.add(process)
     except BaseException:
-        told.close()
+        errors.close()
         if process is not None:
             _end(process)
         raise
@@ -282,11 +282,11 @@ class Ending:
 
     def __init__(self, run: Run) -> None:
         """Waits for the end of a run whose output was read. Raises `ProgramFailed` where the status isn't 0."""
-        told = _LAST_LINE.search(run.messages()) if run.status() == 0 else None
-        if told is None:
+        last = _LAST_LINE.search(run.messages()) if run.status() == 0 else None
+        if last is None:
             raise run.failure()
-        self.total = int(told.group(1))
-        self.complete = told.group(2) is None
+        self.total = int(last.group(1))
+        self.complete = last.group(2) is None
 
 
 def widen(pipe: int) -> None:

@@ -1,4 +1,4 @@
-"""What a search tells of itself while it runs, for who shows that."""
+"""What a search reports of itself while it runs, for who shows that."""
 
 from __future__ import annotations
 
@@ -7,7 +7,7 @@ from typing import Protocol
 
 
 class Hear(Protocol):
-    """Is told what is at work, how far the search is, and the best so far: each of these when it changes."""
+    """Gets what is at work, how far the search is, and the best so far: each of these when it changes."""
 
     def __call__(
         self, *, at_work: Sequence[str] | None = None, far: str | None = None, best: str | None = None

@@ -14,13 +14,13 @@ Option = TypeVar("Option")
 class Source(Protocol):
     """Who gave solutions: what it gave of each one is for it to read, be that lines of a listing or numbers."""
 
-    def options(self, told: Any) -> list[Any]:
+    def options(self, given: Any) -> list[Any]:
         """The options, and choices of none where they are asked for."""
 
-    def numbers(self, told: Any) -> list[int]:
+    def numbers(self, given: Any) -> list[int]:
         """The numbers of the options."""
 
-    def steps(self, told: Any) -> list[Step]:
+    def steps(self, given: Any) -> list[Step]:
         """The steps of the search."""
 
     def svg(self, options: Sequence[Any]) -> str | None:
@@ -39,22 +39,22 @@ class Solution(Sequence[Option], Generic[Option]):
     steps, but has no picture of its own in a notebook: `Problem.draw` draws it.
     """
 
-    __slots__ = ("_held", "_source", "_told")
+    __slots__ = ("_given", "_held", "_source")
 
-    def __init__(self, source: Source, told: Any) -> None:
+    def __init__(self, source: Source, given: Any) -> None:
         self._source = source
-        self._told = told
+        self._given = given
         self._held: list[Option] | None = None
 
     def _options(self) -> list[Option]:
         if self._held is None:
-            self._held = self._source.options(self._told)
+            self._held = self._source.options(self._given)
         return self._held
 
     @property
     def numbers(self) -> list[int]:
         """The places of the options in the problem's `options`, from 0 on; choices of none have none."""
-        return self._source.numbers(self._told)
+        return self._source.numbers(self._given)
 
     @property
     def steps(self) -> list[Step]:
@@ -62,7 +62,7 @@ class Solution(Sequence[Option], Generic[Option]):
 
         Where another solver found it only the options are known: the items are "", and each is branch 0 of 0.
         """
-        return self._source.steps(self._told)
+        return self._source.steps(self._given)
 
     def __len__(self) -> int:
         return len(self._options())
@@ -106,22 +106,22 @@ class Solution(Sequence[Option], Generic[Option]):
 
     def __setstate__(self, state: dict[str, Any]) -> None:
         self._source = _KEPT
-        self._told = state
+        self._given = state
         self._held = state["options"]
 
 
 class _Kept:
     """The source of copies: what they were given is their state."""
 
-    def options(self, told: dict[str, Any]) -> list[Any]:
-        options: list[Any] = told["options"]
+    def options(self, given: dict[str, Any]) -> list[Any]:
+        options: list[Any] = given["options"]
         return options
 
-    def numbers(self, told: dict[str, Any]) -> list[int]:
-        return list(told["numbers"])
+    def numbers(self, given: dict[str, Any]) -> list[int]:
+        return list(given["numbers"])
 
-    def steps(self, told: dict[str, Any]) -> list[Step]:
-        return list(told["steps"])
+    def steps(self, given: dict[str, Any]) -> list[Step]:
+        return list(given["steps"])
 
     def svg(self, options: Sequence[Any]) -> str | None:
         return None
@@ -137,8 +137,8 @@ class Listed(Solution[Option]):
 
     number: int
 
-    def __init__(self, source: Source, told: Any, number: int) -> None:
-        super().__init__(source, told)
+    def __init__(self, source: Source, given: Any, number: int) -> None:
+        super().__init__(source, given)
         self.number = number
 
     def __getstate__(self) -> dict[str, Any]:

@@ -87,7 +87,7 @@ class Solutions(Generic[Option]):
         They are searched anew for a few seconds, so that these solutions stay as they are.
         """
         pictures: list[str] = []
-        told = "no more were found in the time"
+        caption = "no more were found in the time"
         with self._again(_MOST_SECONDS) as solutions:
             try:
                 for solution in solutions:
@@ -97,13 +97,13 @@ class Solutions(Generic[Option]):
                     pictures.append(f'<div style="margin: 0 1em 1em 0">{picture}</div>')
                     if len(pictures) > _MOST_PICTURES:
                         break
-                told = f"{len(pictures)} solution{'' if len(pictures) == 1 else 's'}"
+                caption = f"{len(pictures)} solution{'' if len(pictures) == 1 else 's'}"
             except OutOfTime:
                 pass
         if len(pictures) > _MOST_PICTURES:
-            told = f"the first {_MOST_PICTURES} solutions"
+            caption = f"the first {_MOST_PICTURES} solutions"
         shown = "".join(pictures[:_MOST_PICTURES])
-        return f'<div style="display: flex; flex-wrap: wrap">{shown}</div><div>{told}</div>'
+        return f'<div style="display: flex; flex-wrap: wrap">{shown}</div><div>{caption}</div>'
 
     def __enter__(self) -> Solutions[Option]:
         return self

@@ -8,7 +8,7 @@ from typing import TYPE_CHECKING, Any, Generic, TypeVar
 
 from .._text import listing as listings
 from .._text.alike import Alike, Branches
-from .._text.listing import Choices, Decoder, Null, Step, branch_of, untold
+from .._text.listing import Choices, Decoder, Null, Step, bare_steps, branch_of
 from .._text.names import codes
 from .._text.shown import bytes_of, text_of
 from ..errors import NoPicture
@@ -30,30 +30,30 @@ class Reader(ABC, Generic[Option]):
         self._gives_nulls = nulls and self._has_nulls
 
     @abstractmethod
-    def choices(self, told: Any) -> list[int | Null]:
+    def choices(self, given: Any) -> list[int | Null]:
         """The choices that were given: numbers of options, from 0 on, and choices of none."""
 
     @abstractmethod
-    def steps(self, told: Any) -> list[Step]:
+    def steps(self, given: Any) -> list[Step]:
         """The steps of the search."""
 
-    def all(self, told: Any) -> list[Option | Null]:
+    def all(self, given: Any) -> list[Option | Null]:
         """The options, and all choices of none."""
-        choices: Any = self.choices(told)
+        choices: Any = self.choices(given)
         if self._has_nulls:
             return [choice if isinstance(choice, Null) else self._options[choice] for choice in choices]
         return list(map(self._options.__getitem__, choices))
 
-    def options(self, told: Any) -> list[Any]:
+    def options(self, given: Any) -> list[Any]:
         """The options, and choices of none where they are asked for."""
-        found = self.all(told)
+        found = self.all(given)
         if self._gives_nulls or not self._has_nulls:
             return found
         return [choice for choice in found if not isinstance(choice, Null)]
 
-    def numbers(self, told: Any) -> list[int]:
+    def numbers(self, given: Any) -> list[int]:
         """The numbers of the options."""
-        return [number for number in self.choices(told) if not isinstance(number, Null)]
+        return [number for number in self.choices(given) if not isinstance(number, Null)]
 
     def svg(self, options: Sequence[Any]) -> str | None:
         """A picture of options; None where there is no drawing."""
@@ -92,26 +92,26 @@ class Wire(Reader[Option]):
             self._branches = Branches(uses, {item: high for item, (_, high) in problem.items.items()})
         self._decoder: Decoder[int | Alike] = Decoder(at, self._items)
 
-    def choices(self, told: bytes) -> list[int | Null]:
+    def choices(self, given: bytes) -> list[int | Null]:
         """The choices of lines. Raises `UnknownChoice`."""
-        found: Any = self._decoder.read(told)
+        found: Any = self._decoder.read(given)
         if self._branches is not None and any(isinstance(choice, Alike) for choice in found):
-            parts = told.split(b"\n")[:-1]
+            parts = given.split(b"\n")[:-1]
             items = [
                 choice.item if isinstance(choice, Null) else self._items.get(part.split(b" ", 2)[1])
                 for part, choice in zip(parts, found)
             ]
-            found = self._branches.told_apart(parts, items, found)
+            found = self._branches.resolved(parts, items, found)
         choices: list[int | Null] = found
         places = self._places
         if places is None:
             return choices
         return [choice if isinstance(choice, Null) else places[choice] for choice in choices]
 
-    def steps(self, told: bytes) -> list[Step]:
+    def steps(self, given: bytes) -> list[Step]:
         """The steps of lines, by the names of items. Raises `UnknownChoice`."""
         name = self._problem.name
-        return _steps(told.split(b"\n"), self.choices(told), lambda word: name(self._items[word]))
+        return _steps(given.split(b"\n"), self.choices(given), lambda word: name(self._items[word]))
 
     def _line(self, option: Option) -> str:
         return " ".join(
@@ -130,21 +130,21 @@ class OfListing(Reader[Option]):
         items = {bytes_of(problem.name(item)): item for item in problem.items}
         return listings.solutions(lines, Decoder(at, items))
 
-    def choices(self, told: Choices) -> list[int | Null]:
-        return told.choices
+    def choices(self, given: Choices) -> list[int | Null]:
+        return given.choices
 
-    def steps(self, told: Choices) -> list[Step]:
-        return _steps(told.lines, told.choices, text_of)
+    def steps(self, given: Choices) -> list[Step]:
+        return _steps(given.lines, given.choices, text_of)
 
 
 class OfNumbers(Reader[Option]):
     """What reads the numbers of options, from 0 on."""
 
-    def choices(self, told: Sequence[int]) -> list[int | Null]:
-        return list(told)
+    def choices(self, given: Sequence[int]) -> list[int | Null]:
+        return list(given)
 
-    def steps(self, told: Sequence[int]) -> list[Step]:
-        return untold(told)
+    def steps(self, given: Sequence[int]) -> list[Step]:
+        return bare_steps(given)
 
 
 def _steps(lines: Sequence[bytes], choices: Sequence[int | Null], name: Callable[[bytes], str]) -> list[Step]:

@@ -11,7 +11,7 @@ from typing import TYPE_CHECKING
 from ..errors import OutOfTime
 from .join import count as joined
 from .join import number_of
-from .loop import Job, Kept, Loop, Progress, Tell, submitting
+from .loop import Job, Kept, Loop, Progress, Report, submitting
 from .rows import WHOLE, Row, Until
 from .workers import MOST_JOBS, Own, Workers, executor_jobs, processors
 
@@ -26,7 +26,7 @@ def count(
     kind: int,
     jobs: int | None = None,
     executor: Executor | None = None,
-    progress: Tell | None = None,
+    progress: Report | None = None,
     seconds: float | None = None,
 ) -> int:
     """How many solutions a problem has, by so many processors or by an executor.

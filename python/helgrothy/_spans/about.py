@@ -39,9 +39,9 @@ class About(NamedTuple):
         return self.words == "m1"
 
     def text(self) -> bytes:
-        told = "".join(f"{name} {value}\n" for name, value in self._asdict().items())
-        told = f"{_FORM}\n{told}"
-        return f"{told}digest {hashlib.sha256(told.encode()).hexdigest()}\n".encode()
+        text = "".join(f"{name} {value}\n" for name, value in self._asdict().items())
+        text = f"{_FORM}\n{text}"
+        return f"{text}digest {hashlib.sha256(text.encode()).hexdigest()}\n".encode()
 
 
 def is_broken_off(text: bytes) -> bool:

@@ -186,7 +186,7 @@ class _Searching:
             self._shown.clear()
             return _failed(error)
         except (KeyboardInterrupt, SystemExit):
-            self._tell_stop("stopped")
+            self._report_stop("stopped")
             raise
         except (SearchFault, OSError):
             self._shown.clear()
@@ -202,7 +202,7 @@ class _Searching:
         if not todo:
             return 0
         with self._workers() as workers:
-            own = self._keep, self._tell
+            own = self._keep, self._report
             self._loop = Loop(self._job, workers.submit, workers.count, *own, workers.ahead, workers.longest)
             self._loop.done_before(self._folder.parts, self._folder.solutions)
             try:
@@ -213,7 +213,7 @@ class _Searching:
                 self._folder.flush()
         self._give()
         if not is_done:
-            self._tell_stop(f"not done in {self._arguments.most:g} seconds")
+            self._report_stop(f"not done in {self._arguments.most:g} seconds")
             return NOT_DONE
         return 0
 
@@ -230,10 +230,10 @@ class _Searching:
         self._folder.keep(kept)
         self._give()
 
-    def _tell(self, progress: Any) -> None:
+    def _report(self, progress: Any) -> None:
         if self._join is not None:
             self._join.check()
-        self._shown.tell(progress)
+        self._shown.show(progress)
 
     def _give(self) -> None:
         """Gives the listing what its beginning has."""
@@ -247,9 +247,9 @@ class _Searching:
 
     def _end(self, ending: Ending) -> int:
         self._shown.clear()
-        return _told(ending)
+        return _printed(ending)
 
-    def _tell_stop(self, why: str) -> None:
+    def _report_stop(self, why: str) -> None:
         self._shown.clear()
         console.say(f"helgrothy: {why}: {self._percent()}; the same command goes on ({self._folder.path})")
 
@@ -269,11 +269,11 @@ def _failed(error: ProgramFailed) -> int:
     raise error
 
 
-def _told(ending: Ending) -> int:
+def _printed(ending: Ending) -> int:
     """Prints what dlx-join said, and gives its status. Raises `ProgramFailed` where it was killed."""
     if ending.status < 0:
-        raise ProgramFailed(JOIN, ending.status, ending.told.strip())
-    for line in ending.told.splitlines():
+        raise ProgramFailed(JOIN, ending.status, ending.messages.strip())
+    for line in ending.messages.splitlines():
         console.say(line)
     return ending.status
 
@@ -285,12 +285,12 @@ def _status(path: str) -> int:
     """Reports what of a folder's search is done, and about how long the rest takes."""
     folder = Look(path)
     share = share_of(folder.parts, is_done=not folder.todo())
-    told = [f"{percent(share)} done: {folder.solutions:,} solutions, {duration(folder.seconds)} of a processor"]
+    lines = [f"{percent(share)} done: {folder.solutions:,} solutions, {duration(folder.seconds)} of a processor"]
     if 0 < share < 1:
-        told.append(f"left: about {duration(folder.seconds * (1 - share) / share)} of a processor")
+        lines.append(f"left: about {duration(folder.seconds * (1 - share) / share)} of a processor")
     if is_at_work(path):
-        told.append("a command is at work")
-    console.write(f"{line}\n" for line in told)
+        lines.append("a command is at work")
+    console.write(f"{line}\n" for line in lines)
     return 0
 
 
@@ -314,7 +314,7 @@ def _result(path: str, is_listed: bool) -> int:
             for text in folder.texts():
                 join.give(text, None)
             try:
-                return _told(join.end())
+                return _printed(join.end())
             except ProgramFailed as error:
                 return _failed(error)
 

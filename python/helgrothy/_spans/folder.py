@@ -355,9 +355,9 @@ def _head(path: str, file: IO[bytes]) -> Entry:
     try:
         if not line.startswith(_HEAD) or not line.endswith(b"\n") or len(fields) != 8:
             raise ValueError
-        digest, start, until, *numbers, seconds_told = fields
+        digest, start, until, *numbers, worked = fields
         begins, ends, length, solutions = map(_number, numbers)
-        seconds = float(seconds_told)
+        seconds = float(worked)
         # The two places say how far the search is, and nothing else.
         span = Span(read(start), read_until(until), begins, ends)
         if not 0 <= seconds < math.inf or not precedes(span.start, span.until):

@@ -28,7 +28,7 @@ class Ending(NamedTuple):
     """How dlx-join ended, and what it said on standard error."""
 
     status: int
-    told: str
+    messages: str
 
 
 class Join:
@@ -73,8 +73,8 @@ class Join:
         for thread in self._threads:
             thread.join()
         if self._error is None:
-            told = self._told()
-            return Ending(self._process.wait(), told)
+            messages = self._messages()
+            return Ending(self._process.wait(), messages)
         if isinstance(self._error, ProgramFailed):
             return Ending(self._error.status, self._error.message)
         raise self._error
@@ -118,10 +118,10 @@ class Join:
                         return
                     into.write(text())
         except BrokenPipeError:
-            told = self._told().strip()
-            self._error = self._error or ProgramFailed(PROGRAM, self._process.wait(), told)
+            messages = self._messages().strip()
+            self._error = self._error or ProgramFailed(PROGRAM, self._process.wait(), messages)
 
-    def _told(self) -> str:
+    def _messages(self) -> str:
         """What the program says on standard error until its end: a line at most."""
         assert self._process.stderr
         return self._process.stderr.read().decode("utf-8", "replace")
@@ -139,9 +139,9 @@ class Join:
 
 def number_of(ending: Ending) -> int:
     """The number of solutions that the last line says. Raises `ProgramFailed`."""
-    found = _LAST_LINE.search(ending.told) if ending.status == 0 else None
+    found = _LAST_LINE.search(ending.messages) if ending.status == 0 else None
     if found is None:
-        raise ProgramFailed(PROGRAM, ending.status, ending.told.strip())
+        raise ProgramFailed(PROGRAM, ending.status, ending.messages.strip())
     return int(found.group(1))
 
 

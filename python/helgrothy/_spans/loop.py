@@ -101,7 +101,7 @@ class _Todo(NamedTuple):
 
 
 Keep = Callable[[Kept], None]
-Tell = Callable[[Progress], object]
+Report = Callable[[Progress], object]
 # What came of a task: what its run printed, or what it failed with.
 Outcome = Union[Ran, BaseException]
 # Hands a task to a worker, which calls with what came of it, in any thread; gives a call that cancels the task.
@@ -111,7 +111,7 @@ Submit = Callable[[Task, Callable[[Outcome], object]], Callable[[], object]]
 class Loop:
     """A search of spans.
 
-    workers: how many there are. keep: takes each span that is done. tell: gets how far the search is, some times a
+    workers: how many there are. keep: takes each span that is done. report: gets how far the search is, some times a
     second. ahead: so many tasks are handed out for each worker. longest: about so many seconds a span takes at most.
     """
 
@@ -121,7 +121,7 @@ class Loop:
         submit: Submit,
         workers: Callable[[], int],
         keep: Keep,
-        tell: Tell | None,
+        report: Report | None,
         ahead: int = _AHEAD,
         longest: float = LONGEST,
     ) -> None:
@@ -129,7 +129,7 @@ class Loop:
         self._submit = submit
         self._workers = workers
         self._keep = keep
-        self._tell = tell
+        self._report = report
         self._ahead = ahead
         self._pace = Pace(MOST_TEXT if job.listed else 0, longest)
         self._digest = job.digest
@@ -151,20 +151,20 @@ class Loop:
         self.solutions = solutions
 
     def wake(self) -> None:
-        """Has `search` call `tell` at once; any thread may ask for that."""
+        """Has `search` call `report` at once; any thread may ask for that."""
         self._came.put(None)
 
     def search(self, todo: list[Span], seconds: float | None = None) -> bool:
         """Searches these spans, for so many seconds at most; whether all was done.
 
-        Raises `ProgramNotFound`, `ProgramFailed` and `SearchFault`, and what `keep`, `tell` and `submit` raise. Spans
+        Raises `ProgramNotFound`, `ProgramFailed` and `SearchFault`, and what `keep`, `report` and `submit` raise. Spans
         may then be on their way still; nothing of them is kept.
         """
         if seconds is not None:
             self._deadline = self._begun + seconds
         for span in todo:
             self._put(_Todo(span))
-        told = 0.0
+        reported = 0.0
         try:
             while self._ready or self._runs:
                 self._hand_out()
@@ -173,9 +173,9 @@ class Loop:
                     return False
                 self._take(min(left, _TICK))
                 now = time.monotonic()
-                if self._tell is not None and now >= told + _TICK:
-                    told = now
-                    self._tell(self.progress())
+                if self._report is not None and now >= reported + _TICK:
+                    reported = now
+                    self._report(self.progress())
             return True
         finally:
             for _, _, cancel in self._runs.values():
@@ -310,7 +310,7 @@ def _once_more(todo: _Todo, error: BaseException) -> _Todo:
 
 def _fault(error: BaseException) -> SearchFault:
     if isinstance(error, MemoryError):
-        told = "out of memory"
+        reason = "out of memory"
     else:
-        told = reason_of(error) if isinstance(error, OSError) else f"{type(error).__name__}: {error}"
-    return SearchFault(f"the workers: {told}")
+        reason = reason_of(error) if isinstance(error, OSError) else f"{type(error).__name__}: {error}"
+    return SearchFault(f"the workers: {reason}")

@@ -53,7 +53,7 @@ def _share(choices: Sequence[tuple[int, int]]) -> float:
     return share_of(place(tuple(k for k, _ in choices), tuple(n for _, n in choices)))
 
 
-def told(number: int, share: float, seconds: float) -> str:
+def how_far(number: int, share: float, seconds: float) -> str:
     """How far a search is that took so long to the solution of a number, where so much of the tree is before it."""
     if share < _LEAST_SHARE:
         return f"{number:,} found, less than {percent(_LEAST_SHARE)} of the tree"

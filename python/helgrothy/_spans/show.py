@@ -20,7 +20,7 @@ class Shown:
         self._is_silent = self._is_terminal and is_listed and sys.stdout.isatty()
         self._last = time.monotonic()
 
-    def tell(self, progress: Progress) -> None:
+    def show(self, progress: Progress) -> None:
         now = time.monotonic()
         if self._is_silent or now - self._last < (_OFTEN if self._is_terminal else _SELDOM):
             return

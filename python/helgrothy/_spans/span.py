@@ -80,7 +80,7 @@ def run(task: Task, stop: Stop | None = None) -> Ran:
     if process is None:
         raise ProgramFailed(PROGRAM, -signal.SIGKILL, "stopped")
     assert process.stdin and process.stdout and process.stderr
-    text, told, is_too_long = b"", b"", False
+    text, errors, is_too_long = b"", b"", False
     try:
         # It reads all before it writes.
         with suppress(BrokenPipeError), process.stdin:
@@ -90,7 +90,7 @@ def run(task: Task, stop: Stop | None = None) -> Ran:
         if is_too_long:
             _kill(process)
         else:
-            told = process.stderr.read()
+            errors = process.stderr.read()
     except BaseException:
         _kill(process)
         raise
@@ -99,7 +99,7 @@ def run(task: Task, stop: Stop | None = None) -> Ran:
     if is_too_long:
         return Ran(b"", seconds, True, __version__)
     if status != 0:
-        raise ProgramFailed(PROGRAM, status, told.decode("utf-8", "replace").strip())
+        raise ProgramFailed(PROGRAM, status, errors.decode("utf-8", "replace").strip())
     return Ran(text, seconds, False, __version__)
 
 

@@ -43,7 +43,7 @@ class Branches:
         self._lines: Sequence[bytes] = ()
         self._levels: list[_Left] = []
 
-    def told_apart(
+    def resolved(
         self, lines: Sequence[bytes], items: Sequence[Hashable], choices: Sequence[int | Null | Alike]
     ) -> list[int | Null]:
         """The choices of a solution, with its lines and branch items. Raises `UnknownChoice`."""

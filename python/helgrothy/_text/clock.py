@@ -1,4 +1,4 @@
-"""Times and shares as progress is told in."""
+"""Times and shares as progress is shown in."""
 
 from __future__ import annotations
 

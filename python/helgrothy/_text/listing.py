@@ -44,7 +44,7 @@ class Step:
     branches: int
 
 
-def untold(options: Iterable[int]) -> list[Step]:
+def bare_steps(options: Iterable[int]) -> list[Step]:
     """Options of a solution as steps of which nothing else is known: each is branch 0 of 0."""
     return [Step("", option, 0, 0) for option in options]
 

@@ -15,12 +15,12 @@ from ..problem import Problem
 from .syntax import Nearest
 
 # Of options that may have been meant so many are shown, each by its first characters.
-_MOST_TOLD, _LONGEST = 3, 60
+_MOST_SHOWN, _LONGEST = 3, 60
 
 
-def told(problem: Problem[Any], places: Collection[int], tell: Callable[[str], str] = str) -> str:
-    """The first options of some places, in words; `tell` tells one by its line."""
-    lines = [tell(problem.line(problem.options[place])) for place in list(places)[:_MOST_TOLD]]
+def in_words(problem: Problem[Any], places: Collection[int], label: Callable[[str], str] = str) -> str:
+    """The first options of some places, in words; `label` makes of a line what is shown of it."""
+    lines = [label(problem.line(problem.options[place])) for place in list(places)[:_MOST_SHOWN]]
     cut = [line if len(line) <= _LONGEST else f"{line[:_LONGEST]} .." for line in lines]
     return "; ".join(cut) + (f"; and {len(places) - len(cut)} more" if len(places) > len(cut) else "")
 
@@ -56,7 +56,7 @@ class Named:
                 return f"{word}: no option gives {item} this colour"
         times = Counter(place for word in dict.fromkeys(words) for place in self._places(word))
         nearest = sorted(times, key=lambda place: (-times[place], place))
-        those = f"; the nearest are {told(self._problem, nearest)}" if nearest else ""
+        those = f"; the nearest are {in_words(self._problem, nearest)}" if nearest else ""
         return f"no option has all of these{those}"
 
     def _hint(self, item: str) -> str:

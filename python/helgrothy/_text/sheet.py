@@ -29,13 +29,13 @@ class Sheet:
 
     name: what the rows are. columns: the names of the columns. rows: those of a solution, in order, by the lines of its
     options. number: the name of a column with the numbers of the rows, where these have no other name.
-    told: an option by whole names, without the items that only the rules of the problem need, by its line.
+    label: an option by whole names, without the items that only the rules of the problem need, by its line.
     """
 
     name: str
     columns: Sequence[str]
     rows: Callable[[Sequence[str]], list[Row]]
-    told: Callable[[str], str]
+    label: Callable[[str], str]
     number: str = ""
 
 
@@ -52,21 +52,21 @@ def sheet_of(problem: Problem[Any]) -> Sheet | None:
         sheet = as_made(name, make)(problem)
     except NoPicture:
         return None
-    return Sheet(sheet.name, sheet.columns, as_made(name, sheet.rows), as_made(name, sheet.told), sheet.number)
+    return Sheet(sheet.name, sheet.columns, as_made(name, sheet.rows), as_made(name, sheet.label), sheet.number)
 
 
-def teller(problem: Problem[Any]) -> Callable[[str], str]:
-    """What tells an option by its line: by whole names where the problem is of a kind that draws tables."""
+def labelling(problem: Problem[Any]) -> Callable[[str], str]:
+    """What makes a label of an option's line: whole names where the problem is of a kind that draws tables."""
     sheet = sheet_of(problem)
-    tell: Callable[[str], str] = (lambda line: line) if sheet is None else sheet.told
+    own: Callable[[str], str] = (lambda line: line) if sheet is None else sheet.label
 
-    def told(line: str) -> str:
+    def label(line: str) -> str:
         try:
-            return tell(line)
+            return own(line)
         except NoPicture:
             return line
 
-    return told
+    return label
 
 
 def as_made(name: str, act: Callable[[Any], Any]) -> Callable[[Any], Any]:

@@ -121,12 +121,12 @@ class _Reader:
             for number, line in enumerate(lines, 1):
                 self.read_line(number, line)
             if not self.sheet.item_line:
-                self.tell(len(lines) + 1, b"", "no items")
+                self.report(len(lines) + 1, b"", "no items")
         except _Enough:
             self.sheet.is_cut = True
         return self.sheet
 
-    def tell(self, line: int, token: bytes, reason: str, hint: str = "") -> None:
+    def report(self, line: int, token: bytes, reason: str, hint: str = "") -> None:
         if not self.sheet.faults and self.sheet.item_tokens[:1] == ["#"]:
             # What is wrong is what came of it.
             hint = f"line {self.sheet.item_line} is taken for the items; {COMMENT}"
@@ -136,7 +136,7 @@ class _Reader:
 
     def read_line(self, number: int, line: bytes) -> None:
         if b"\0" in line:
-            self.tell(number, b"", "NUL byte", "save the file as UTF-8")
+            self.report(number, b"", "NUL byte", "save the file as UTF-8")
             return
         tokens = line.split()
         if not tokens:
@@ -155,12 +155,12 @@ class _Reader:
             self.sheet.item_tokens.append(text_of(token))
             if token == b"|":
                 if behind:
-                    self.tell(number, token, "second bar")
+                    self.report(number, token, "second bar")
                 behind = True
                 continue
             bounds, name, reason = self.cut_item(token, behind)
             if reason is not None:
-                self.tell(number, token, reason, self.hint_for_item(reason, token))
+                self.report(number, token, reason, self.hint_for_item(reason, token))
             else:
                 self.sheet.items[text_of(name)] = ItemLine(text_of(name), None if behind else bounds)
 
@@ -213,7 +213,7 @@ class _Reader:
             item = items.get(name)
             reason = self.use_fault(item, raw_name, colon, colour, name in uses)
             if reason is not None:
-                self.tell(number, token, reason, self.hint_for_use(reason, raw_name))
+                self.report(number, token, reason, self.hint_for_use(reason, raw_name))
             if item is not None and name not in uses:
                 uses[name] = text_of(colour) if colon else None
                 has_primary = has_primary or item.bounds is not None
@@ -224,7 +224,7 @@ class _Reader:
         self.sheet.options.append(OptionLine(number, uses))
         self.uses += len(uses)
         if self.uses > MOST_USES >= self.uses - len(uses):
-            self.tell(number, b"", "too many uses")
+            self.report(number, b"", "too many uses")
 
     def use_fault(
         self, item: ItemLine | None, name: bytes, colon: bytes, colour: bytes, repeated: bool

@@ -122,7 +122,7 @@ class Board(Picture):
         paths: dict[str, str] = {}
         for place, corners in at.items():
             fill = self.cells[place].fill
-            paths[fill] = paths.get(fill, "") + f"M{'L'.join(map(_told, corners))}z"
+            paths[fill] = paths.get(fill, "") + f"M{'L'.join(map(_numbers, corners))}z"
         for fill, path in paths.items():
             if fill != "#fff":
                 yield f'<path d="{path}" fill="{escaped(fill)}" stroke="{escaped(fill)}"/>'
@@ -146,7 +146,7 @@ class Board(Picture):
     def _labels(self, at: _Corners) -> Iterator[str]:
         for place, corners in at.items():
             cell = self.cells[place]
-            # Where there are several labels, the likeliest one is told.
+            # Where there are several labels, the likeliest one is shown.
             if cell.label and (cell.marks or not cell.is_quiet):
                 x, y = (sum(axis) / len(axis) for axis in zip(*corners))
                 size = ' font-size="10"' if cell.marks else ""
@@ -158,7 +158,7 @@ class Board(Picture):
 
 
 class BoardJoins(Board):
-    """Cells, and between each two side by side the share of solutions in which they are in one piece; `percent` tells
+    """Cells, and between each two side by side the share of solutions in which they are in one piece; `percent` writes
     it."""
 
     sides = {"hex": 34.0, "triangle": 44.0}
@@ -200,8 +200,8 @@ def _side(corners: list[Point], number: int) -> tuple[Point, Point]:
 
 
 def _line(begin: Point, end: Point) -> str:
-    return f"M{_told(begin)}L{_told(end)}"
+    return f"M{_numbers(begin)}L{_numbers(end)}"
 
 
-def _told(point: Point) -> str:
+def _numbers(point: Point) -> str:
     return f"{point[0]:.1f} {point[1]:.1f}".replace(".0", "")

@@ -53,7 +53,7 @@ def picture(problem: Problem[Any], draw: Drawing, found: Occurrences, view: View
     if joined:
         shares = {side: times / found.total for side, times in joined.items()}
         title = f"{blank.title}: how often cells are in one piece"
-        return BoardJoins(blank, title, shares, _told) if isinstance(blank, Board) else Joins(blank, title, shares)
+        return BoardJoins(blank, title, shares, _percent) if isinstance(blank, Board) else Joins(blank, title, shares)
     labels = _labels(options, view, found.total)
     has_one = len({_label(cell) for option in shown for cell in option.cells.values()}) == 1
     most = max((times for own in labels.values() for times in own.values()), default=0)
@@ -117,9 +117,9 @@ def _choice(cell: Cell, own: dict[str, int], total: int) -> Cell:
     free = total - sum(own.values())
     ranked = sorted(own.items(), key=lambda pair: -pair[1])
     label, times = max(*ranked, (_NOTHING, free), key=lambda pair: pair[1])
-    told = label if times == total else f"{label} {percent(times, total)}%"
+    shown = label if times == total else f"{label} {percent(times, total)}%"
     marks = tuple((label, times / total) for label, times in own.items())
-    return replace(cell, label=told, is_quiet=True, fill=_heat(ranked[0][1] / total), marks=marks)
+    return replace(cell, label=shown, is_quiet=True, fill=_heat(ranked[0][1] / total), marks=marks)
 
 
 def _heat(share: float) -> str:
@@ -149,7 +149,7 @@ def _sides(blank: Picture, cells: Mapping[Place, Cell]) -> Iterator[Side]:
                 yield place, beside
 
 
-def _told(share: float) -> str:
+def _percent(share: float) -> str:
     return percent(round(share * 10**6), 10**6)
 
 
@@ -165,14 +165,14 @@ class Joins(Picture):
         rows, columns = self.extent
         lines = []
         for r in range(rows):
-            across = [self._told((r, c), (r, c + 1)) for c in range(columns)]
+            across = [self._percent((r, c), (r, c + 1)) for c in range(columns)]
             lines.append("".join(("o" if (r, c) in self.cells else " ") + across[c].center(5) for c in range(columns)))
-            lines.append("".join(self._told((r, c), (r + 1, c)).ljust(6) for c in range(columns)))
+            lines.append("".join(self._percent((r, c), (r + 1, c)).ljust(6) for c in range(columns)))
         return "".join(f"{line.rstrip()}\n" for line in lines[:-1])
 
-    def _told(self, a: Place, b: Place) -> str:
+    def _percent(self, a: Place, b: Place) -> str:
         share = self.shares.get((a, b))
-        return "" if share is None else _told(share)
+        return "" if share is None else _percent(share)
 
     def svg(self) -> str:
         """The lines between cells are as dark as it is rare that these are in one piece."""
@@ -186,8 +186,8 @@ class Joins(Picture):
                 way = f"M{x} {y + SIDE}h{SIDE}" if is_below else f"M{x + SIDE} {y}v{SIDE}"
                 yield f'<path d="{way}" stroke="#222" stroke-width="2.5" stroke-opacity="{1 - share:.2f}"/>\n'
             at = (x + SIDE / 2, y + SIDE + 3.5) if is_below else (x + SIDE, y + SIDE / 2 + 3.5)
-            told = self._told((r, c), (below, c if is_below else c + 1)).replace("<", "&lt;").replace(">", "&gt;")
+            words = self._percent((r, c), (below, c if is_below else c + 1)).replace("<", "&lt;").replace(">", "&gt;")
             yield (
                 f'<text x="{at[0]:g}" y="{at[1]:g}" font-size="10" stroke="#fff" stroke-width="3" '
-                f'paint-order="stroke">{told}</text>\n'
+                f'paint-order="stroke">{words}</text>\n'
             )

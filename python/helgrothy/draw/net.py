@@ -139,6 +139,6 @@ def _quoted(text: str) -> str:
 
 
 def _listed(looks: dict[str, str]) -> str:
-    """What Graphviz is told of a node or an edge, nothing where that is empty."""
-    told = ", ".join(f"{name}={_quoted(value)}" for name, value in looks.items() if value)
-    return f" [{told}]" if told else ""
+    """What Graphviz gets of a node or an edge, nothing where that is empty."""
+    words = ", ".join(f"{name}={_quoted(value)}" for name, value in looks.items() if value)
+    return f" [{words}]" if words else ""

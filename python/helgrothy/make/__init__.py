@@ -65,7 +65,7 @@ __all__ = [
     "words",
     "wordsearch",
 ]
-# What each kind is, in the order of lists: told without loading any of them.
+# What each kind is, in the order of lists: known without loading any of them.
 HELPS = {
     "sudoku": "a Sudoku from its clues",
     "queens": "queens on a board, or in coloured regions",

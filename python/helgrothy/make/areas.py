@@ -17,7 +17,7 @@ LEAST_SIZE, MOST_SIZE = 4, 25
 _CELL = re.compile(r"[rR]([0-9]{1,4})[cC]([0-9]{1,4})\Z")
 _NUMBER = re.compile(r"[0-9]{1,6}\Z")
 _NO_CAGE = "."
-_MOST_TOLD = 5
+_MOST_NAMED = 5
 
 
 @dataclass(frozen=True)
@@ -51,9 +51,9 @@ def regions(text: str) -> dict[Square, str]:
     counts = Counter(cells.values())
     wrong = [mark for mark in sorted(counts, key=lambda mark: lines[mark]) if counts[mark] != size]
     if wrong:
-        told = ", ".join(f"{mark} has {counts[mark]}" for mark in wrong[:_MOST_TOLD])
-        more = f" and {len(wrong) - _MOST_TOLD} more are wrong" if len(wrong) > _MOST_TOLD else ""
-        raise TableFault(lines[wrong[0]], "", f"regions have {size} cells each: {told}{more}")
+        which = ", ".join(f"{mark} has {counts[mark]}" for mark in wrong[:_MOST_NAMED])
+        more = f" and {len(wrong) - _MOST_NAMED} more are wrong" if len(wrong) > _MOST_NAMED else ""
+        raise TableFault(lines[wrong[0]], "", f"regions have {size} cells each: {which}{more}")
     return cells
 
 
@@ -151,17 +151,17 @@ def _check(cages: Sequence[Cage], size: int) -> None:
     for cage in cages:
         for cell in cage.cells:
             if max(cell) >= size:
-                raise TableFault(cage.line, _told(cell), f"outside of the {size} rows and columns")
+                raise TableFault(cage.line, _name(cell), f"outside of the {size} rows and columns")
             other = owner.setdefault(cell, cage)
             if other is not cage:
-                raise TableFault(cage.line, _told(cell), f"in the cage of line {other.line} too: cages don't overlap")
+                raise TableFault(cage.line, _name(cell), f"in the cage of line {other.line} too: cages don't overlap")
         if len(set(cage.cells)) < len(cage.cells):
             twice = next(cell for cell in cage.cells if cage.cells.count(cell) > 1)
-            raise TableFault(cage.line, _told(twice), "twice in its cage")
+            raise TableFault(cage.line, _name(twice), "twice in its cage")
         _check_sum(cage, size)
         apart = _apart(cage)
         if apart:
-            raise TableFault(cage.line, _told(min(apart)), "not joined by a side to the cells of its cage before it")
+            raise TableFault(cage.line, _name(min(apart)), "not joined by a side to the cells of its cage before it")
     whole = size * size * (size + 1) // 2
     total = sum(cage.total for cage in cages)
     if len(owner) == size * size and total != whole:
@@ -179,7 +179,7 @@ def _check_sum(cage: Cage, size: int) -> None:
         raise TableFault(cage.line, str(cage.total), f"{count} {what} {least} at least and {most} at most")
 
 
-def _told(cell: Square) -> str:
+def _name(cell: Square) -> str:
     return f"r{cell[0] + 1}c{cell[1] + 1}"
 
 

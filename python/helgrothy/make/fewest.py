@@ -56,17 +56,17 @@ class Few:
     reason: str
 
     def found(self, seconds: float | None) -> Found:
-        """What a command shows; seconds: how long it looked, where it was told."""
+        """What a command shows; seconds: how long it looked, where that was given."""
         if self.tests == self.least:
-            told = f"{_counted(self.tests)}; no fewer are enough: {self.reason}."
-            return Found(self.problem, self.numbers, told)
+            remark = f"{_counted(self.tests)}; no fewer are enough: {self.reason}."
+            return Found(self.problem, self.numbers, remark)
         fewer = f"{self.least} to {self.tests - 1}" if self.least < self.tests - 1 else f"{self.least}"
         known = f"whether {fewer} are enough isn't known"
         if seconds is None:
-            told = f"{_counted(self.tests)}, the fewest that were found; {known}; --seconds S looks longer"
+            remark = f"{_counted(self.tests)}, the fewest that were found; {known}; --seconds S looks longer"
         else:
-            told = f"{_counted(self.tests)}, the fewest that were found in {seconds:g} seconds; {known}"
-        return Found(self.problem, self.numbers, f"helgrothy: {told}", is_proved=False)
+            remark = f"{_counted(self.tests)}, the fewest that were found in {seconds:g} seconds; {known}"
+        return Found(self.problem, self.numbers, f"helgrothy: {remark}", is_proved=False)
 
 
 def _counted(tests: int) -> str:

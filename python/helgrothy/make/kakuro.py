@@ -23,20 +23,20 @@ Square = tuple[int, int]
 DIGITS = range(1, 10)
 _ACROSS, _DOWN = "across", "down"
 _STEPS = {_ACROSS: (0, 1), _DOWN: (1, 0)}
-_WHITE, _BLACK, _UNTOLD = "._", "#", "?"
+_WHITE, _BLACK, _UNKNOWN = "._", "#", "?"
 _SUMS = re.compile(r"([0-9]{0,4}|\?)[\\/]([0-9]{0,4}|\?)\Z")
 _SUM = re.compile(r"[0-9]{2,4}\Z")
 _RUN = re.compile(r"(across|down)-r([0-9]+)c([0-9]+)\Z")
 _HELD = re.compile(r"(?:across|down)-r[0-9]+c[0-9]+=([1-9])\Z")
 # A cell of the picture, and a sum in one.
-_WORD, _TOLD = re.compile(r"\S+"), re.compile(r"[0-9]+")
+_WORD, _DIGITS = re.compile(r"\S+"), re.compile(r"[0-9]+")
 _CELL = re.compile(r"r([0-9]+)c([0-9]+)\Z")
 
 
 @dataclass
 class _Run:
-    """White cells in a row or a column, the sum that is asked of them, if it is told, and the digits that they may have
-    for it."""
+    """White cells in a row or a column, the sum that is asked of them, if it is known, and the digits that they may
+    have for it."""
 
     name: str
     way: str
@@ -50,7 +50,7 @@ def problem(grid: str) -> Problem[list[str]]:
     """The Kakuro of this picture: cells with blanks between them, a row in each line.
 
     A dot is a white cell, a digit one that is given, # a black one. `17\\24` is a black cell with the sum 17 below it
-    and 24 to its right; either may be missing. Each run of two cells or more has a sum, or ? where it isn't told.
+    and 24 to its right; either may be missing. Each run of two cells or more has a sum, or ? where it isn't given.
 
     To write digit 5 in a cell is the option `r2c2 across-r2c2=5 down-r1c2=5`; a run takes the digits that it doesn't
     have, `across-r2c2 across-r2c2=1 ..`. So each digit of a run is taken once, and its cells have the sum. Raises
@@ -140,10 +140,10 @@ def _runs(rows: Sequence[tuple[int, list[str]]], marks: dict[Square, str]) -> It
             found = _SUMS.match(mark)
             asked = found.group(1 if way == _DOWN else 2) if found else ""
             if not asked and len(cells) > 1:
-                told = f"no sum for the {len(cells)} cells {_where(way)} from {_name(cells[0])} on"
-                raise TableFault(number, mark, told)
+                reason = f"no sum for the {len(cells)} cells {_where(way)} from {_name(cells[0])} on"
+                raise TableFault(number, mark, reason)
             if asked:
-                total = None if asked == _UNTOLD else int(asked)
+                total = None if asked == _UNKNOWN else int(asked)
                 run = _Run(f"{way}-{_name(cells[0])}" if cells else "", way, number, total, cells)
                 run.sets = list(_sets(run, mark))
                 yield run
@@ -194,13 +194,13 @@ def _check_totals(rows: Sequence[tuple[int, list[str]]], runs: Sequence[_Run]) -
         if joined <= set(across) and joined <= set(down):
             totals = [_sum_of(own[at] for at in joined) for own in (across, down)]
             if None not in totals and totals[0] != totals[1]:
-                told = f"the sums across are {totals[0]} in all and those down {totals[1]}"
+                sums = f"the sums across are {totals[0]} in all and those down {totals[1]}"
                 which = f"of the cells that are connected with {_name(first)}"
-                raise TableFault(rows[first[0] - 1][0], "", f"{told}, {which}")
+                raise TableFault(rows[first[0] - 1][0], "", f"{sums}, {which}")
 
 
 def _sum_of(runs: Iterable[_Run]) -> int | None:
-    """The sum of all cells of runs, each taken once, if it is told."""
+    """The sum of all cells of runs, each taken once, if it is known."""
     totals = {id(run): run.total for run in runs}.values()
     return None if None in totals else sum(total or 0 for total in totals)
 
@@ -213,12 +213,12 @@ def _check_given(
         given = [int(marks[at]) for at in run.cells if marks[at] not in _WHITE]
         at = next((at for at in run.cells if marks[at] not in _WHITE), run.cells[0])
         line = rows[at[0] - 1][0]
-        told = f"the run {_where(run.way)} from {_name(run.cells[0])} on"
+        where = f"the run {_where(run.way)} from {_name(run.cells[0])} on"
         twice = next((digit for digit, times in Counter(given).items() if times > 1), None)
         if twice is not None:
-            raise TableFault(line, str(twice), f"given twice in {told}")
+            raise TableFault(line, str(twice), f"given twice in {where}")
         if given and not any(digits.issuperset(given) for digits in run.sets):
-            reason = f"given in {told}, whose sum can't be {run.total} with it"
+            reason = f"given in {where}, whose sum can't be {run.total} with it"
             raise TableFault(line, " ".join(map(str, given)), reason)
 
 
@@ -260,7 +260,7 @@ def drawing(problem: Problem[Any]) -> Drawing:
 
 def _label(totals: Collection[int]) -> str:
     """What stands for a run whose digits may have these sums."""
-    return _UNTOLD if len(totals) > 1 else "".join(map(str, totals))
+    return _UNKNOWN if len(totals) > 1 else "".join(map(str, totals))
 
 
 def _cut(line: str) -> tuple[Square | None, str | None]:
@@ -276,7 +276,7 @@ def _add_arguments(parser: argparse.ArgumentParser) -> None:
         "grid",
         metavar="GRID",
         help="a file with a picture, blanks between its cells: a dot a white cell, a digit a given one, # a black one, "
-        "17\\24 a black one with the sum 17 below it and 24 to its right; ? stands for a sum that isn't told (- for "
+        "17\\24 a black one with the sum 17 below it and 24 to its right; ? stands for a sum that isn't given (- for "
         "standard input)",
     )
 
@@ -294,7 +294,7 @@ def _clues(arguments: argparse.Namespace) -> Clues:
     given = [place for place, (at, _) in cells.items() if at is not None and marks[at].isdigit()]
     # A cell without a run is of no clue.
     places = {at for at, _ in cells.values()}
-    count = sum(len(_TOLD.findall(mark)) for mark in marks.values() if not mark.isdigit())
+    count = sum(len(_DIGITS.findall(mark)) for mark in marks.values() if not mark.isdigit())
     sums = range(len(whole.options), len(whole.options) + count)
     first = picture(grid)[0][0]
 
@@ -303,12 +303,12 @@ def _clues(arguments: argparse.Namespace) -> Clues:
         numbers = itertools.count(len(whole.options))
 
         def sum_of(found: re.Match[str]) -> str:
-            return found.group() if next(numbers) in kept else _UNTOLD
+            return found.group() if next(numbers) in kept else _UNKNOWN
 
         def cell(at: Square, word: str) -> str:
             if at in places:
                 return digits.get(at) or (_WHITE[0] if word.isdigit() else word)
-            return word if word.isdigit() else _TOLD.sub(sum_of, word)
+            return word if word.isdigit() else _DIGITS.sub(sum_of, word)
 
         rows = []
         for r, line in enumerate(grid.splitlines(), 2 - first):

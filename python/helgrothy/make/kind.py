@@ -23,7 +23,7 @@ if TYPE_CHECKING:
 
 T = TypeVar("T", bound=Sized)
 
-_MOST_TOLD = 60
+_MOST_SHOWN = 60
 # Numbers with another sign between them than the x of sizes.
 _SIZES = re.compile(r"\s*[0-9]+(?:\s*(?:[*X×,;/]|by)\s*[0-9]+|\s+x\s*[0-9]+|x\s+[0-9]+)+\s*\Z")
 _MADE = re.compile(r"helgrothy make ([a-z]+)(?: |\Z)")
@@ -49,7 +49,7 @@ class Kind:
     cell, grid: of a board or a box the pattern that finds the cells of an option, and the grid of a problem's cells, as
         `symmetry.motions` takes them.
     add_search_arguments, search: of a kind that has a search of its own the arguments of that search, and what searches
-    for so many seconds, or for its own time without a number, and tells how far it is; None where the arguments don't
+    for so many seconds, or for its own time without a number, and reports how far it is; None where the arguments don't
     ask for it.
     wishes: of a kind whose table may have wishes those of a problem, from the table in its comments.
     clues: of a kind whose clues are options what these are, for who makes such puzzles.
@@ -108,7 +108,7 @@ def read_text(path: str, otherwise: str = "", words: Iterable[str] = (), asked: 
     """The text of a file, or of standard input where its name is `-`.
 
     otherwise: what a word may be that isn't the name of a file, and `words` are those that it may be. asked: what the
-    file is, which is told where there is none.
+    file is, which is reported where there is none.
 
     Raises `OSError` and `ValueError`.
     """
@@ -163,7 +163,7 @@ def is_one(cells: Iterable[tuple[int, ...]]) -> bool:
 
 def cut(text: str) -> str:
     """The beginning of a text, for a message."""
-    return text if len(text) <= _MOST_TOLD else f"{text[:_MOST_TOLD]} .."
+    return text if len(text) <= _MOST_SHOWN else f"{text[:_MOST_SHOWN]} .."
 
 
 def numbered(text: str) -> list[tuple[int, str]]:

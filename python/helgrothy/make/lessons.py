@@ -385,7 +385,7 @@ def _lines(text: str) -> Iterator[_Line]:
     """The lines that aren't blank or comments. They may be parted by commas, semicolons or tabs."""
     text = text[1:] if text.startswith("\ufeff") else text
     sign = re.search(r"^[^#\n]*?([,;\t])", text, re.MULTILINE)
-    # A command that only tells its help doesn't wait for these.
+    # A command that only prints its help doesn't wait for these.
     import csv
 
     from ..data import of_csv

@@ -63,7 +63,7 @@ def problem(clues: str) -> Problem[Option]:
     """The nonogram of these clues: a line for each row, a blank line, a line for each column.
 
     A line has the lengths of the runs of filled squares, in their order, with blanks or commas between; 0 is a line
-    without any, and ? one of which nothing is told. Files of the format `non`, with the headings `rows` and `columns`,
+    without any, and ? one of which nothing is known. Files of the format `non`, with the headings `rows` and `columns`,
     are read too.
 
     An option is an arrangement of a row or a column, `row3 r3c1:# r3c2:. ..`: a square has # or . as a colour. What the
@@ -143,9 +143,9 @@ def _read(text: str) -> tuple[list[_Line], list[_Line]]:
     if not columns:
         raise TableFault(last, "", "no columns: their clues follow those of the rows after a blank line")
     for side, lines in (("height", rows), ("width", columns)):
-        number, told = sides.get(side, (0, len(lines)))
-        if told != len(lines):
-            raise TableFault(number, str(told), f"{side} is {told}, and there are clues for {len(lines)}")
+        number, said = sides.get(side, (0, len(lines)))
+        if said != len(lines):
+            raise TableFault(number, str(said), f"{side} is {said}, and there are clues for {len(lines)}")
     return rows, columns
 
 
@@ -175,8 +175,8 @@ def _check(rows: Sequence[_Line], columns: Sequence[_Line]) -> None:
                 raise TableFault(line.number, cut(str(line)), reason)
     filled = [sum(sum(line.clue or ()) for line in lines) for lines in (rows, columns)]
     if filled[0] != filled[1] and all(line.clue is not None for line in (*rows, *columns)):
-        told = f"the rows have {filled[0]} filled squares in all, and the columns {filled[1]}"
-        raise TableFault(columns[0].number, "", told)
+        sums = f"the rows have {filled[0]} filled squares in all, and the columns {filled[1]}"
+        raise TableFault(columns[0].number, "", sums)
 
 
 class _Board:
@@ -348,7 +348,7 @@ def _add_arguments(parser: argparse.ArgumentParser) -> None:
         "clues",
         metavar="CLUES",
         help="a file with a line for each row, a blank line, and a line for each column, each with the lengths of its "
-        "runs; 0 for none, ? where they aren't told (- for standard input)",
+        "runs; 0 for none, ? where they aren't given (- for standard input)",
     )
 
 
@@ -367,8 +367,8 @@ def _dropped(arguments: argparse.Namespace) -> Clues:
         return _problem(less[: len(rows)], less[len(rows) :])
 
     def write(kept: Sequence[int]) -> str:
-        told = {lines[place].number for place in known} - {lines[place].number for place in kept}
-        return "".join(f"{UNKNOWN if number in told else line}\n" for number, line in enumerate(text.splitlines(), 1))
+        gone = {lines[place].number for place in known} - {lines[place].number for place in kept}
+        return "".join(f"{UNKNOWN if number in gone else line}\n" for number, line in enumerate(text.splitlines(), 1))
 
     return Clues(left(known), known, [], write, left)
 

@@ -137,7 +137,7 @@ def area(problem: Problem[Any], unit: str) -> list[str]:
     sizes = {option[0]: len(option) - 1 for option in map(str.split, map(problem.line, problem.options))}
     items = dict(zip(problem.item_names, problem.items.values()))
     pieces = {name: bounds for name, bounds in items.items() if not CELL.match(name)}
-    # How large a piece is that fits nowhere isn't known here; that it is in no option is told.
+    # How large a piece is that fits nowhere isn't known here; that it is in no option is reported.
     if not sizes.keys() >= pieces.keys():
         return []
     cells = len(items) - len(pieces)

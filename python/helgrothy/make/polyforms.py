@@ -168,10 +168,10 @@ def _drawn_region(lines: Lines, grid: Grid) -> list[Spot]:
     if grid is HEX:
         return cells
     # For each mark that says whether its cell points up, whether that is so if the first place of all does.
-    told = {(points_up((r, c)) == (mark == "^")): (number, mark) for r, c, number, mark in marks if mark in "^v"}
-    if len(told) == 2:
-        raise TableFault(*told[False], "^ points up and v down, and of these not all can be right")
-    is_aside = False in told if told else _touching(_aside(cells), grid) > _touching(cells, grid)
+    known = {(points_up((r, c)) == (mark == "^")): (number, mark) for r, c, number, mark in marks if mark in "^v"}
+    if len(known) == 2:
+        raise TableFault(*known[False], "^ points up and v down, and of these not all can be right")
+    is_aside = False in known if known else _touching(_aside(cells), grid) > _touching(cells, grid)
     return _aside(cells) if is_aside else cells
 
 
@@ -187,8 +187,8 @@ def _marks(lines: Lines, holes: str, grid: Grid) -> Iterator[tuple[int, int, int
                 continue
             first = r + at if first < 0 else first
             if (r + at - first) % 2:
-                told = "a hexagon that doesn't lie half of one beside those of the next row, with a blank between two"
-                raise TableFault(number, mark, told)
+                reason = "a hexagon that doesn't lie half of one beside those of the next row, with a blank between two"
+                raise TableFault(number, mark, reason)
             yield r, (at - r) // 2, number, mark
 
 

@@ -263,7 +263,7 @@ def sheet(problem: Problem[Any]) -> Sheet:
         held = axes.held(lines)
         return [[person, day, held.get((person, day))] for person in axes.people for day in axes.days]
 
-    def told(line: str) -> str:
+    def label(line: str) -> str:
         one = axes.of(line)
         if one is None:
             # Its first item is PERSON-off, of which a long name is cut.
@@ -271,7 +271,7 @@ def sheet(problem: Problem[Any]) -> Sheet:
             return f"days-off {name}" if name in axes.people else "days-off"
         return f"{one[1]}/{one[2]} {one[0]}"
 
-    return Sheet("roster", ("person", "day", "shift"), rows, told)
+    return Sheet("roster", ("person", "day", "shift"), rows, label)
 
 
 def drawing(problem: Problem[Any]) -> Drawing:

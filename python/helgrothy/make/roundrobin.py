@@ -113,8 +113,8 @@ def _check_options(
     lines = {team.name: team.line for team in teams}
     for (home, away), game in games.items():
         if game not in held:
-            told = "the wishes of the two leave no round for this game"
-            raise TableFault(max(lines[home], lines[away]), game, told)
+            reason = "the wishes of the two leave no round for this game"
+            raise TableFault(max(lines[home], lines[away]), game, reason)
     for item in played:
         if item not in held:
             name, _, number = item.rpartition("@")
@@ -169,11 +169,11 @@ def sheet(problem: Problem[Any]) -> Sheet:
     def rows(lines: Sequence[str]) -> list[Row]:
         return [list(game) for game in games.in_order(lines)]
 
-    def told(line: str) -> str:
+    def label(line: str) -> str:
         number, home, away = games.of(line)
         return f"{home}-{away} {home}@{number} {away}@{number}"
 
-    return Sheet("games", ("round", "home", "away"), rows, told)
+    return Sheet("games", ("round", "home", "away"), rows, label)
 
 
 def drawing(problem: Problem[Any]) -> Drawing:

@@ -142,10 +142,10 @@ def _uses(place: Square, region: str, digit: str) -> list[str]:
 
 
 def _comments(board: _Board) -> Iterator[str]:
-    told = "".join("." if mark in _EMPTY else mark for mark in board.marks)
+    clues = "".join("." if mark in _EMPTY else mark for mark in board.marks)
     words = ["--regions REGIONS"] * board.has_regions + ["--cages CAGES"] * bool(board.cages)
     words += ["--diagonals"] * board.has_diagonals
-    yield " ".join(["helgrothy make sudoku", *([told] if told else []), *words])
+    yield " ".join(["helgrothy make sudoku", *([clues] if clues else []), *words])
     yield "A digit in each place rRcC, and each digit once in each row r, column c and box b."
     if board.has_diagonals:
         yield "Each digit is once on each of the long diagonals x1 and x2 too."
@@ -205,8 +205,8 @@ def _check(clues: str, digits: str) -> None:
         for mark in _marks(line):
             place += 1
             if mark not in _EMPTY and mark.upper() not in digits:
-                told = f"place {place} has neither a digit up to {digits[-1]} nor a dot"
-                raise TableFault(number, mark, told)
+                reason = f"place {place} has neither a digit up to {digits[-1]} nor a dot"
+                raise TableFault(number, mark, reason)
 
 
 def _check_sets(cages: Sequence[Cage], size: int) -> None:
@@ -285,13 +285,13 @@ class _Printed:
         """A place with its clue, if it has one."""
         cage = self._cages.get(place)
         is_clue = self._times[place] == 1
-        told = str(self._sums[cage]) if cage in self._sums and self._first[cage] == place else ""
+        total = str(self._sums[cage]) if cage in self._sums and self._first[cage] == place else ""
         return Cell(
             self._clues[place] if is_clue else "",
             self.boxes[place],
             _ON_DIAGONAL if place in self._crossed else "#fff",
             is_strong=is_clue,
-            corner=told,
+            corner=total,
             cage=cage,
         )
 

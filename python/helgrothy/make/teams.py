@@ -136,16 +136,16 @@ def _check_team(team: Team, season: Season) -> None:
     for where, often in Counter(team.where.values()).items():
         if often > high + season.rests:
             each = f"{high} game{'' if high == 1 else 's'}" if low == high else f"{low} or {high} games"
-            told = f"{often} rounds {_PLACES[where]}, and each of {season.teams} teams has {each} there"
-            raise TableFault(team.line, team.name, told)
+            reason = f"{often} rounds {_PLACES[where]}, and each of {season.teams} teams has {each} there"
+            raise TableFault(team.line, team.name, reason)
     most = season.in_a_row
     if most is not None and not season.rests:
         run = 0
         for number, where in sorted(team.where.items()):
             run = run + 1 if team.where.get(number - 1) == where else 1
             if run > most:
-                told = f"{_PLACES[where]} in rounds {number - most} to {number}, and {most} in a row are allowed"
-                raise TableFault(team.line, team.name, told)
+                reason = f"{_PLACES[where]} in rounds {number - most} to {number}, and {most} in a row are allowed"
+                raise TableFault(team.line, team.name, reason)
 
 
 _PLACES = {"home": "at home", "away": "away"}
@@ -160,8 +160,8 @@ def _check_place(team: Team, known: dict[str, Team], season: Season) -> None:
     low, _ = season.at_home
     if len(group) * low > season.rounds:
         names = ", ".join(sorted(one.name for one in group))
-        told = f"{names} share a place, each has {low} games there at least, and there are {season.rounds} rounds"
-        raise TableFault(team.line, team.name, told)
+        reason = f"{names} share a place, each has {low} games there at least, and there are {season.rounds} rounds"
+        raise TableFault(team.line, team.name, reason)
 
 
 def _check_rounds(teams: Sequence[Team], known: dict[str, Team], season: Season) -> None:
@@ -173,13 +173,13 @@ def _check_rounds(teams: Sequence[Team], known: dict[str, Team], season: Season)
             word = f"{where}:{number}"
             there[number, where] += 1
             if there[number, where] > most:
-                told = f"{most + 1} of {len(teams)} teams are {_PLACES[where]} in round {number}, and {most} can be"
-                raise TableFault(team.line, word, told)
+                reason = f"{most + 1} of {len(teams)} teams are {_PLACES[where]} in round {number}, and {most} can be"
+                raise TableFault(team.line, word, reason)
             for other in _before(team, known):
                 # Of an odd number of teams one of the two may rest.
                 if where == other.where.get(number) == "home" and not season.rests:
-                    told = f"{other.name} (line {other.line}) is at home in round {number} too, and shares the place"
-                    raise TableFault(team.line, word, told)
+                    reason = f"{other.name} (line {other.line}) is at home in round {number} too, and shares the place"
+                    raise TableFault(team.line, word, reason)
 
 
 def _before(team: Team, known: dict[str, Team]) -> Iterator[Team]:

@@ -100,12 +100,12 @@ def sheet(problem: Problem[Any]) -> Sheet:
     def rows(lines: Sequence[str]) -> list[Row]:
         return [list(test) for test in tests.table(lines)]
 
-    def told(line: str) -> str:
+    def label(line: str) -> str:
         held = list(tests.of(line))
         names = dict.fromkeys(f"test{test}" for test, _, _ in held)
         return " ".join([*names, *(f"{factor.name}={value}" for _, factor, value in held)])
 
-    return Sheet("tests", list(tests.factors), rows, told, number="test")
+    return Sheet("tests", list(tests.factors), rows, label, number="test")
 
 
 def drawing(problem: Problem[Any]) -> Drawing:

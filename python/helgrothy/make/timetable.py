@@ -213,12 +213,12 @@ def sheet(problem: Problem[Any]) -> Sheet:
         found = sorted(map(held.of, lines), key=lambda one: (at[one[1].name], room_at[one[2].name]))
         return [[lesson.name, slot.day, slot.hour or None, room.name or None] for lesson, slot, room in found]
 
-    def told(line: str) -> str:
+    def label(line: str) -> str:
         lesson, slot, room = held.of(line)
         where = f"{slot.name}/{room.name}" if plan.has_rooms else slot.name
         return " ".join([lesson.name, where, *lesson.people])
 
-    return Sheet("lessons", ("lesson", "day", "hour", "room"), rows, told)
+    return Sheet("lessons", ("lesson", "day", "hour", "room"), rows, label)
 
 
 def drawing(problem: Problem[Any]) -> Drawing:

@@ -29,12 +29,12 @@ async function* answered(request, signal) {
   }
 }
 
-function tell(text, isWrong = false) {
+function say(text, isWrong = false) {
   get("state").textContent = text;
   get("state").classList.toggle("wrong", isWrong);
 }
 
-function told(error) {
+function reasonOf(error) {
   return error instanceof TypeError ? GONE : error.message;
 }
 
@@ -135,9 +135,9 @@ class Form {
       this.sheet.put(text);
       this.show(false);
       this.keep();
-      tell(`${file.name} was opened.`);
+      say(`${file.name} was opened.`);
     } catch (error) {
-      tell(error.message, true);
+      say(error.message, true);
     }
   }
 
@@ -161,7 +161,7 @@ class Form {
     try {
       save(`${name}.dlx`, "text/plain", this.isKind ? await this.made() : get("text").value);
     } catch (error) {
-      tell(told(error), true);
+      say(reasonOf(error), true);
     }
   }
 
@@ -216,7 +216,7 @@ class Form {
 
   keep() {
     const isKept = this.typed.keep(this.values);
-    if (!isKept && !this.isWarned) tell("The browser doesn't keep what is typed: save it before the page is left.");
+    if (!isKept && !this.isWarned) say("The browser doesn't keep what is typed: save it before the page is left.");
     this.isWarned = !isKept;
   }
 
@@ -270,7 +270,7 @@ class Search {
     document.body.classList.add("asked");
     form.fold(true);
     this.isWrong = false;
-    tell("Searching ..");
+    say("Searching ..");
     try {
       for await (const lines of answered(this.request(more), going.signal)) {
         if (this.going !== going) return;
@@ -279,26 +279,26 @@ class Search {
       }
       // Each answer has an end or an error.
       const isEnded = viewer.ended || viewer.chances;
-      if (!this.isWrong) tell(isEnded ? "" : GONE, !isEnded);
+      if (!this.isWrong) say(isEnded ? "" : GONE, !isEnded);
     } catch (error) {
-      if (this.going === going) tell(told(error), true);
+      if (this.going === going) say(reasonOf(error), true);
     }
     if (this.going === going) this.finish();
   }
 
   hear(line) {
     if (line.remarks) form.sheet.take(line.remarks);
-    if (line.counting) tell("Counting all solutions ..");
+    if (line.counting) say("Counting all solutions ..");
     if (!line.error) return;
     this.isWrong = true;
-    tell(line.error, true);
+    say(line.error, true);
     form.fold(viewer.solutions.length > 0);
   }
 
   finish() {
     this.going = null;
     this.ready(true);
-    // One that was broken off told none, and why it was stands in the state.
+    // One that was broken off has none, and why it was stands in the state.
     if (viewer.solutions.length) viewer.end();
   }
 
@@ -307,7 +307,7 @@ class Search {
     this.going.abort();
     this.going = null;
     this.ready(true);
-    tell("Stopped.");
+    say("Stopped.");
     viewer.end("it was stopped");
   }
 

@@ -33,10 +33,10 @@ class Sheet {
     const asked = (this.asked = new AbortController());
     try {
       for await (const lines of answered({ what: "lint", text: this.text.value }, asked.signal)) {
-        for (const told of lines) if (told.remarks) this.take(told.remarks);
+        for (const line of lines) if (line.remarks) this.take(line.remarks);
       }
     } catch (error) {
-      if (!asked.signal.aborted) tell(told(error));
+      if (!asked.signal.aborted) say(reasonOf(error));
     }
   }
 

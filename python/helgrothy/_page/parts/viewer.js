@@ -54,7 +54,7 @@ class Viewer {
     this.options = new Map();
     // The options as they are shown: of some kinds by whole names, without the items of its rules.
     this.words = new Map();
-    this.isTold = false;
+    this.hasWords = false;
     this.held = new Map();
     this.elements = [];
     this.ended = null;
@@ -75,13 +75,13 @@ class Viewer {
   // Takes what is given; what is seen is made once for all of it.
   take(lines) {
     const had = this.found.length;
-    for (const told of lines) {
-      this.lines.push(told);
-      if (told.problem) this.takeProblem(told.problem);
-      if (told.solution) this.takeSolution(told.solution);
-      if (told.end) this.ended = told.end;
-      if (told.count) this.total = BigInt(told.count);
-      if (told.chances) this.takeChances(told.chances);
+    for (const line of lines) {
+      this.lines.push(line);
+      if (line.problem) this.takeProblem(line.problem);
+      if (line.solution) this.takeSolution(line.solution);
+      if (line.end) this.ended = line.end;
+      if (line.count) this.total = BigInt(line.count);
+      if (line.chances) this.takeChances(line.chances);
     }
     if (!had || this.ended) this.refresh();
     else if (this.isAll) this.addCards();
@@ -112,7 +112,7 @@ class Viewer {
       const words = this.words.get(Number(number)).split(" ");
       this.held.set(Number(number), new Set([...words, ...words.map((word) => word.split(":")[0])]));
     }
-    if (solution.words) this.isTold = true;
+    if (solution.words) this.hasWords = true;
     solution.place = this.solutions.length;
     this.solutions.push(solution);
     if (solution.picture && get("title").textContent === "Solutions") this.name(solution);
@@ -235,14 +235,14 @@ class Viewer {
     if (this.chances) return `Of ${counted(BigInt(this.chances.total), "solution")}, in percent.`;
     if (!all) return "";
     const total = this.total ?? (this.ended ? this.ended.total : all);
-    const told = [counted(total, "solution")];
-    if (!this.ended) told.push("and it searches on");
-    else if (all < total) told.push(`${all.toLocaleString("en")} of them here`);
-    if (this.ended?.complete || Number(this.total) === all) told.push("all that there are");
-    else if (this.ended && this.total === null) told.push("there may be more");
+    const parts = [counted(total, "solution")];
+    if (!this.ended) parts.push("and it searches on");
+    else if (all < total) parts.push(`${all.toLocaleString("en")} of them here`);
+    if (this.ended?.complete || Number(this.total) === all) parts.push("all that there are");
+    else if (this.ended && this.total === null) parts.push("there may be more");
     const wanted = this.wanted().map((words) => words.join(" ")).join(" and ");
-    if (wanted) told.push(`${this.found.length.toLocaleString("en")} with ${wanted}`);
-    return [told.join("; "), ...(this.ended ? this.ended.notes : [])].filter(Boolean).map(sentence).join(" ");
+    if (wanted) parts.push(`${this.found.length.toLocaleString("en")} with ${wanted}`);
+    return [parts.join("; "), ...(this.ended ? this.ended.notes : [])].filter(Boolean).map(sentence).join(" ");
   }
 
   showOne() {
@@ -283,9 +283,9 @@ class Viewer {
     const isKnown = steps.some(([, , , branches]) => branches);
     get("way").classList.toggle("unknown", !isKnown);
     get("went").textContent = isKnown ? "How the search went to it" : "Its options";
-    get("items").textContent = isKnown && !this.isTold ? "Items, from the one at which it chose" : "Items";
+    get("items").textContent = isKnown && !this.hasWords ? "Items, from the one at which it chose" : "Items";
     const way = isKnown ? this.way(solution, same) : `${counted(steps.length, "option")}.`;
-    get("told").textContent = `Solution ${solution.number.toLocaleString("en")}: ${way}`;
+    get("caption").textContent = `Solution ${solution.number.toLocaleString("en")}: ${way}`;
   }
 
   // How many of its first steps are those of the solution before.
@@ -331,20 +331,20 @@ class Viewer {
     }
     const choices = solution.steps.filter(([, , , branches]) => branches > 1).length;
     const chosen = choices ? `${counted(choices, "choice")} among branches` : "each one forced";
-    const told = [`${counted(solution.steps.length, "step")}, ${chosen}`];
+    const parts = [`${counted(solution.steps.length, "step")}, ${chosen}`];
     // Of less than a hundredth of a percent nothing is to be seen.
     if (before > 0.0001) {
-      told.push(`by its branches about ${(100 * before).toFixed(before < 0.1 ? 2 : 1)} % of the search lies before it`);
+      parts.push(`by its branches about ${(100 * before).toFixed(before < 0.1 ? 2 : 1)} % of the search lies before it`);
     }
-    if (same) told.push(`the first ${counted(same, "step")} as in solution ${solution.number - 1}`);
-    return `${told.join("; ")}.`;
+    if (same) parts.push(`the first ${counted(same, "step")} as in solution ${solution.number - 1}`);
+    return `${parts.join("; ")}.`;
   }
 
   row([item, option, branch, branches], place, same, wanted) {
     const row = made("tr", { className: place < same ? "same" : place === same && same ? "parting" : "" });
     row.append(made("td", { textContent: place + 1 }), this.branch(branch, branches));
     if (!option) {
-      const textContent = this.isTold ? "no further option" : `${item}: no further option`;
+      const textContent = this.hasWords ? "no further option" : `${item}: no further option`;
       row.append(made("td"), made("td", { className: "items forced", textContent }));
       return row;
     }
