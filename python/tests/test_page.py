@@ -350,11 +350,7 @@ class Requests(unittest.TestCase):
             self.assertIn("too large for a page", self.answer(what="make", text="a b\na b\n")[0]["error"])
 
     def test_chances(self):
-        """Where the package has such; else it says so."""
         *_, last = self.answer(what="chances", text=make.queens.problem(6).text, seconds=60.0)
-        if not hasattr(Problem, "occurrences"):
-            self.assertEqual(last, {"error": "this version has no chances"})
-            return
         self.assertEqual((last["chances"]["total"], last["chances"]["elements"][0][0]), ("4", "svg"))
         *_, last = self.answer(what="chances", text="a b\na b\n", seconds=60.0)
         self.assertIn("this problem has no picture", last["error"])
@@ -373,16 +369,13 @@ class Requests(unittest.TestCase):
         self.assertEqual(last["end"]["total"], 9)
 
     def test_one_of_all_solutions(self):
-        """Where the package has such; else it says so."""
         given = {"what": "solve", "text": make.queens.problem(6).text, "way": "one"}
-        if not hasattr(Problem, "random"):
-            self.assertEqual(self.answer(**given)[-1], {"error": "this version has no random solutions"})
         some = list(make.queens.problem(6).solve())
-        with mock.patch.object(Problem, "random", lambda self, *, seconds: some[2], create=True):
+        with mock.patch.object(Problem, "random", lambda self, *, seconds: some[2]):
             _, solution, *last = self.answer(**given, seconds=60.0)
         self.assertEqual([it[1] - 1 for it in solution["solution"]["steps"]], some[2].numbers)
         self.assertEqual(last, [{"end": {"total": 1, "complete": False, "notes": []}}, {"counting": True}, {"count": "4"}])
-        with mock.patch.object(Problem, "random", lambda self, *, seconds: None, create=True):
+        with mock.patch.object(Problem, "random", lambda self, *, seconds: None):
             lines = self.answer(what="solve", text="a b\na\n", way="one")
         self.assertEqual(lines[-1]["end"]["notes"], ["can't all be held: b", "it is in no option"])
 

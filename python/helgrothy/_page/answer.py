@@ -230,8 +230,6 @@ class _Solving:
 
     def _one(self, problem: Problem[Any], record: Record) -> Iterator[str]:
         """One of all solutions, each with the same chance."""
-        if not hasattr(problem, "random"):
-            raise ValueError("this version has no random solutions")
         found = problem.random(seconds=self._left())
         if found is None:
             yield record.end(0, True, self._reasons(problem))

@@ -1,4 +1,4 @@
-"""Chances for the local page: in which share of all solutions a cell has what, if this package has what counts it."""
+"""Chances for the local page: in which share of all solutions a cell has what."""
 
 from __future__ import annotations
 
@@ -11,14 +11,8 @@ from ..problem import Problem
 from .record import Draw
 
 
-def can_tell() -> bool:
-    return hasattr(Problem, "occurrences")
-
-
 def find(problem: Problem[Any], draw: Draw | None, seconds: float) -> tuple[Any, int]:
     """A picture of the shares, and how many solutions there are. Raises `ValueError` and `HelgrothyError`."""
-    if not can_tell():
-        raise ValueError("this version has no chances")
     if draw is None:
         raise NoPicture("chances are drawn, and this problem has no picture")
     from .._run import occurrences

@@ -112,7 +112,7 @@ class _Finder:
         if counter.status() == 0 and found is not None:
             return (found.group(1), self._number), None
         if self._refused is None:
-            # There may be no such solution, or it knows no argument `n`.
+            # There may be fewer solutions, of which it doesn't say how many there are.
             self._refused = counter.failure()
             return None, self._counter(both)
         counted = LAST_LINE.match(counter.messages().rpartition("\n")[2])

@@ -245,9 +245,7 @@ function fill(id, value) {
 class Search {
   constructor() {
     this.going = null;
-    get("random").hidden = !start.can.random;
     get("solve").addEventListener("click", () => this.solve());
-    get("chances").hidden = !start.can.chances;
     get("random").addEventListener("click", () => this.solve({ way: "one" }));
     get("chances").addEventListener("click", () => this.solve({ what: "chances" }));
     get("stop").addEventListener("click", () => this.stop());
