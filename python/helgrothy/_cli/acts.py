@@ -21,8 +21,6 @@ if TYPE_CHECKING:
 
 # `lint` looks for a solution so long.
 _SEARCH_SECONDS = 5.0
-# Of the time that a command is given, so that what was found by then can be printed.
-_SHARE = 0.9
 
 
 def make(arguments: argparse.Namespace) -> int:
@@ -47,7 +45,7 @@ def make_and_solve(arguments: argparse.Namespace) -> int:
     if arguments.cost is not None or arguments.given or arguments.forbidden:
         raise ValueError("this search has a problem of its own: without --cost, --with and --without")
     with Report(["helgrothy"]) as report:
-        found = search(None if arguments.seconds is None else arguments.seconds * _SHARE, report)
+        found = search(None if arguments.seconds is None else arguments.seconds * console.SHARE, report)
     solving.show_found(found, arguments)
     return 0 if found.is_proved else 2
 
@@ -111,7 +109,7 @@ def why(arguments: argparse.Namespace) -> int:
 
     problem = _problem(arguments.problem)
     try:
-        conflict = reasons.find(problem, arguments.seconds * _SHARE, console.say)
+        conflict = reasons.find(problem, arguments.seconds * console.SHARE, console.say)
     except OutOfTime:
         return fail(f"in {arguments.seconds:g} seconds it isn't known whether there is a solution")
     if conflict is None:

@@ -24,15 +24,15 @@ if TYPE_CHECKING:
     from ..given import Given
     from ..problem import Problem
 
-# It is counted for so long where the command has no time of its own, and for this part of that.
-_SECONDS, _SHARE = 60.0, 0.9
+# It is counted for so long where the command has no time of its own.
+_SECONDS = 60.0
 
 
 def show(asked: Given[Any], arguments: argparse.Namespace) -> int:
     """Shows them, and gives the status."""
     if arguments.html:
         raise ValueError("--chances has no page: --svg is its picture")
-    seconds = _SECONDS if arguments.seconds is None else arguments.seconds * _SHARE
+    seconds = _SECONDS if arguments.seconds is None else arguments.seconds * console.SHARE
     try:
         with Report(["dlx-count", f"dlx{asked.inner.kind}"], "count"):
             found = occurrences.find(asked.inner, seconds)

@@ -34,6 +34,8 @@ _MOST_NUMBER = (1 << 64) - 1
 _MOST_DIGITS, _MOST_SHOWN_DIGITS = 4000, 40
 # More than anybody waits, and no more than the system's clocks take.
 _MOST_SECONDS = 1e9
+# Of the time that a command is given, so that what was found by then can be printed.
+SHARE = 0.9
 # Where time is over an exception says so. Until it was raised so long ago, or the process has worked on for so long, it
 # is on its way, which may take seconds on a machine that does other things: a second one would break off what is done
 # at the end.

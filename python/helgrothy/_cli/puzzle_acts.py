@@ -19,9 +19,6 @@ if TYPE_CHECKING:
     from ..make.clues import Clues
     from ..minimal import Minimal
 
-# Of the time that a command is given, so that what was found by then can be printed.
-_SHARE = 0.9
-
 
 def choices(problem: Problem[Any], arguments: argparse.Namespace) -> tuple[list[int], set[int]]:
     """The places of options that are given and forbidden. Raises `ValueError`."""
@@ -42,7 +39,7 @@ def hint(problem: Problem[Any], arguments: argparse.Namespace) -> int:
     held, dropped = choices(problem, arguments)
     has_clues = kind_of(problem.comments) in CLUES_AS_OPTIONS
     try:
-        found = hints.find(problem, held, dropped, arguments.seconds * _SHARE, has_clues=has_clues)
+        found = hints.find(problem, held, dropped, arguments.seconds * console.SHARE, has_clues=has_clues)
     except hints.NoHint as none:
         for line in f"helgrothy: {none}".split("\n"):
             console.say(line)
@@ -115,7 +112,7 @@ def minimal(clues: Clues, arguments: argparse.Namespace) -> int:
     from .. import minimal as minimals
 
     try:
-        held, found = _least(clues, arguments.seed, arguments.seconds * _SHARE)
+        held, found = _least(clues, arguments.seed, arguments.seconds * console.SHARE)
     except minimals.NotUnique as none:
         for line in uniqueness(clues.problem, none.solutions):
             console.say(line)

@@ -35,8 +35,7 @@ if TYPE_CHECKING:
 
 # A reason is looked for so long where a problem turns out to have no solution.
 _REASON_SECONDS = 2.0
-# Of the time that a command is given, so that what was found by then can be printed; a page is put together at the end.
-SHARE = 0.9
+# Of the time of a search that is shown as a page, which is put together at the end.
 _SHARE_OF_PAGE = 0.7
 _MAY_SAY = "`helgrothy why` may say which items conflict"
 
@@ -336,7 +335,7 @@ def _show_least(asked: Given[Any], costs: Costs, arguments: argparse.Namespace) 
     from .._text.amounts import spelled
 
     deadline = None if arguments.seconds is None else time.monotonic() + arguments.seconds
-    seconds = None if arguments.seconds is None else arguments.seconds * SHARE
+    seconds = None if arguments.seconds is None else arguments.seconds * console.SHARE
     try:
         numbers_of = [costs.numbers[place] for place in asked.places]
         with Report(["dlx3"]) as report:
@@ -381,7 +380,7 @@ def _reasons(asked: Given[Any], deadline: float | None) -> list[str]:
 
     left = _REASON_SECONDS if deadline is None else min(_REASON_SECONDS, deadline - time.monotonic())
     try:
-        conflict = reasons.find(asked.inner, left * SHARE) if left > 0 else None
+        conflict = reasons.find(asked.inner, left * console.SHARE) if left > 0 else None
     except OutOfTime:
         conflict = None
     if conflict is None:

@@ -25,7 +25,7 @@ from dataclasses import dataclass, field, fields
 from typing import Any
 
 from .. import cost, engines, shuffle, symmetry, why, wishes
-from .._cli.console import limited
+from .._cli.console import SHARE, limited
 from .._reason.grids import GRIDS
 from .._run.stream import Solutions
 from .._text.amounts import spelled
@@ -223,7 +223,7 @@ class _Solving:
         """How many solutions there are, where the time that is left is enough."""
         yield _line({"counting": True})
         with suppress(OutOfTime, ProgramFailed):
-            total = problem.count(seconds=self._left() * 0.9)
+            total = problem.count(seconds=self._left() * SHARE)
             if total < _MOST_COUNTED:
                 # A page's own numbers aren't that large.
                 yield _line({"count": str(total)})
@@ -243,7 +243,7 @@ class _Solving:
         costs = self._costs(problem)
         notes: list[str] = []
         try:
-            found = cost.least(problem, costs.numbers, self._left() * 0.9, notes.append)
+            found = cost.least(problem, costs.numbers, self._left() * SHARE, notes.append)
             remark = "" if found is None else _cost_of(found)
         except cost.NotLeast as error:
             found = error.best
@@ -294,7 +294,7 @@ class _Solving:
     def _reasons(self, problem: Problem[Any]) -> list[str]:
         """Why there is no solution, where a short while shows it."""
         with suppress(OutOfTime):
-            conflict = why.find(problem, min(self._left() * 0.9, _REASON_SECONDS))
+            conflict = why.find(problem, min(self._left() * SHARE, _REASON_SECONDS))
             if conflict is not None:
                 return list(conflict.lines(problem))
         return []
