@@ -61,7 +61,7 @@ class Counts(InFolder):
             for at in range(0, len(digits), 1000):
                 part = digits[at : at + 1000]
                 value = value * 10 ** len(part) + int(part)
-            self.assertEqual(counter.read_number(digits), value)
+            self.assertEqual(programs.read_number(digits), value)
 
     def test_a_count_without_memory_for_states(self):
         messages = []

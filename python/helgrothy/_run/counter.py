@@ -7,21 +7,17 @@ number. On a single processor the solver has nine tenths of it.
 
 from __future__ import annotations
 
-import re
 from collections.abc import Callable, Sequence
 from contextlib import ExitStack
 from dataclasses import dataclass
 
 from .._text.listing import last_number
 from ..errors import OutOfTime, ProgramNotFound
-from .programs import Ending, Run
+from .programs import Ending, Run, last_line
 
 PROGRAM = "dlx-count"
 # What dlx-count may take for its states, in megabytes.
 MOST_MEGABYTES = 512
-LAST_LINE = re.compile(r"Altogether (\d+) solutions?\.\Z")
-# Python reads so many digits at once.
-_DIGITS = 4000
 
 
 @dataclass(frozen=True)
@@ -60,9 +56,9 @@ def count(
                     line = (line + chunk).rpartition(b"\n")[2]
                     printed(chunk)
                 if counter is not None and not search.has_ended:
-                    last_line = counter.messages().rpartition("\n")[2] if counter.status() == 0 else ""
-                    if last := LAST_LINE.match(last_line):
-                        return Count(read_number(last.group(1)), PROGRAM)
+                    last = last_line(counter.messages()) if counter.status() == 0 else None
+                    if last is not None:
+                        return Count(last[0], PROGRAM)
                     gives_up(counter.messages())
                     counter = None
             total = Ending(search).total
@@ -80,12 +76,3 @@ def _begun(both: ExitStack, text: bytes, kind: int, megabytes: int) -> Run | Non
         return None
     counter.go_behind()
     return counter
-
-
-def read_number(digits: str) -> int:
-    """The number of decimal digits, however many there are."""
-    if len(digits) <= _DIGITS:
-        return int(digits)
-    half = len(digits) // 2
-    shift: int = 10**half
-    return read_number(digits[:-half]) * shift + read_number(digits[-half:])

@@ -14,8 +14,8 @@ from typing import Any, TypeVar
 
 from ..errors import ProgramFailed, ProgramNotFound
 from ..problem import Problem
-from .counter import LAST_LINE, PROGRAM, read_number
-from .programs import Ending, Run
+from .counter import PROGRAM
+from .programs import Ending, Run, last_line
 from .solution import Solution
 from .stream import Outcome, Solutions, sooner
 
@@ -115,8 +115,8 @@ class _Finder:
             # There may be fewer solutions, of which it doesn't say how many there are.
             self._refused = counter.failure()
             return None, self._counter(both)
-        counted = LAST_LINE.match(counter.messages().rpartition("\n")[2])
-        total = self._number if counted is None else read_number(counted.group(1))
+        last = last_line(counter.messages())
+        total = self._number if last is None else last[0]
         if total < self._number:
             return (None, total), None
         if self._number > _MOST_PASSED:

@@ -20,8 +20,8 @@ from .._text.shown import bytes_of
 from .._text.syntax import ONCE
 from ..errors import OutOfTime, ProgramNotFound
 from ..problem import Problem
-from .counter import LAST_LINE, MOST_MEGABYTES, PROGRAM, read_number
-from .programs import Run
+from .counter import MOST_MEGABYTES, PROGRAM
+from .programs import Ending, Run, read_number
 from .wire import Wire
 
 __all__ = ["Occurrences", "find"]
@@ -159,7 +159,4 @@ class _Counting:
     def _end(self, run: Run) -> None:
         words, stack = self._running.pop(run)
         with stack:
-            last = LAST_LINE.match(run.messages().rpartition("\n")[2]) if run.status() == 0 else None
-            if last is None:
-                raise run.failure()
-            self._times[words] = read_number(last.group(1)) * len(self._classes.holders[words])
+            self._times[words] = Ending(run).total * len(self._classes.holders[words])

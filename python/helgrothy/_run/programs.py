@@ -30,6 +30,8 @@ _LONGEST = 1e9
 _NICE = 10
 _LOOK_SECONDS = 0.1
 _LAST_LINE = re.compile(r"Altogether (\d+) solutions?( \(limit\))?\.\Z")
+# Python reads so many digits at once.
+_DIGITS = 4000
 
 
 def folders(program: str) -> list[str]:
@@ -279,15 +281,29 @@ def _end(process: subprocess.Popen[bytes]) -> None:
 
 
 class Ending:
-    """A solver's last line: how many solutions there were, and whether these are all."""
+    """A program's last line: how many solutions there were, and whether these are all."""
 
     def __init__(self, run: Run) -> None:
         """Waits for the end of a run whose output was read. Raises `ProgramFailed` where the status isn't 0."""
-        last = _LAST_LINE.search(run.messages()) if run.status() == 0 else None
+        last = last_line(run.messages()) if run.status() == 0 else None
         if last is None:
             raise run.failure()
-        self.total = int(last.group(1))
-        self.complete = last.group(2) is None
+        self.total, self.complete = last
+
+
+def last_line(messages: str) -> tuple[int, bool] | None:
+    """How many solutions the last line of a program's messages says, and whether these are all; None for another."""
+    found = _LAST_LINE.match(messages.removesuffix("\n").rpartition("\n")[2])
+    return None if found is None else (read_number(found.group(1)), found.group(2) is None)
+
+
+def read_number(digits: str) -> int:
+    """The number of decimal digits, however many there are."""
+    if len(digits) <= _DIGITS:
+        return int(digits)
+    half = len(digits) // 2
+    shift: int = 10**half
+    return read_number(digits[:-half]) * shift + read_number(digits[-half:])
 
 
 def widen(pipe: int) -> None:

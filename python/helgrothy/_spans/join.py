@@ -3,7 +3,6 @@
 from __future__ import annotations
 
 import queue
-import re
 import signal
 import subprocess
 import threading
@@ -14,14 +13,13 @@ from typing import NamedTuple
 
 from .._cli import console
 from .._run.guard import let_go, start
-from .._run.programs import find
+from .._run.programs import find, last_line
 from ..errors import ProgramFailed
 from .rows import Until
 from .threads import begin
 
 PROGRAM = "dlx-join"
 _CHUNK = 1 << 18
-_LAST_LINE = re.compile(r"Altogether (\d+) solutions?\.\n?\Z")
 
 
 class Ending(NamedTuple):
@@ -139,10 +137,10 @@ class Join:
 
 def number_of(ending: Ending) -> int:
     """The number of solutions that the last line says. Raises `ProgramFailed`."""
-    found = _LAST_LINE.search(ending.messages) if ending.status == 0 else None
-    if found is None:
+    last = last_line(ending.messages) if ending.status == 0 else None
+    if last is None:
         raise ProgramFailed(PROGRAM, ending.status, ending.messages.strip())
-    return int(found.group(1))
+    return last[0]
 
 
 def count(texts: Iterable[Callable[[], bytes]], listed: bool = False) -> Ending:
