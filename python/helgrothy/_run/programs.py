@@ -7,7 +7,6 @@ Of both variables only whole paths count: what lies in the current folder is nev
 
 from __future__ import annotations
 
-import fcntl
 import os
 import re
 import select
@@ -308,6 +307,9 @@ def read_number(digits: str) -> int:
 
 def widen(pipe: int) -> None:
     """A pipe of 1 MB lets the program go on while its output is read; where that isn't to be had, it stays as it is."""
+    # Commands that run no program don't wait for this.
+    import fcntl
+
     # Python 3.9 has no name for it.
     with suppress(OSError):
         fcntl.fcntl(pipe, getattr(fcntl, "F_SETPIPE_SZ", 1031), 1 << 20)
