@@ -4,7 +4,6 @@ from __future__ import annotations
 
 import argparse
 import codecs
-import gc
 import os
 import re
 import signal
@@ -286,6 +285,8 @@ def seconds(word: str) -> float:
 @contextmanager
 def nothing_collected() -> Iterator[None]:
     """Has Python look for no rubbish meanwhile: of a large problem and what is made of it nothing becomes any."""
+    import gc  # Only exports need it.
+
     was_enabled = gc.isenabled()
     gc.disable()
     try:
