@@ -11,7 +11,7 @@ from pathlib import Path
 sys.path.insert(0, str(Path(__file__).resolve().parents[2] / "python"))
 
 from helgrothy._run import programs  # noqa: E402
-from helgrothy._run.counter import read_number  # noqa: E402
+from helgrothy._run.programs import read_number  # noqa: E402
 
 LAST_LINE = re.compile(r"Altogether (\d+) solutions?\.\n\Z")
 # What doesn't end in so many seconds never ends, whatever else the machine does.
