@@ -59,7 +59,10 @@ SETS = {
     "coloured": runs("many_colours t1"),
     "reading": runs("many_uses t1, many_colours t1"),
 }
-# What printing takes: a run that prints each solution, less one that counts as many.
+# Whole runs that print each solution.
+SETS["listings"] = [Run("matchings14", "m1 t20000"), Run("latin5", "m1 t5000"), Run("queens12", "m1 t500")]
+# What a form of printing gains: a run that prints each solution, less one that counts as many. The latter may be by
+# words, so this has some of the search in it.
 SETS["printing"] = [Run("matchings14", "m1 t20000", "t20000"), Run("latin5", "m1 t5000", "t5000")]
 
 

@@ -50,7 +50,7 @@ def main() -> None:
     given, words = parser.parse_known_args()
     subprocess.run([str(HERE / "c" / "build"), str(OUT)], check=True)
     folders = [OUT / "fast", ours(given.unproved)]
-    for name in ("all", "reading", "printing"):
+    for name in ("all", "reading", "listings"):
         lines = table(folders, name)
         print("\n".join(lines), end="\n\n", flush=True)
         if given.page:
