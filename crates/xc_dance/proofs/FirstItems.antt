@@ -1,13 +1,13 @@
 -- What a walk back over an option's nodes tells of its first primary item.
-use Rattle.std.proofs.Common.{ℕ, ◌≡◌, ◌<◌, ◌≤◌, ◌+◌, ◌-◌, ◌≢◌, List, [], ◌∷◌, length, drop, Some, arith, zero, suc}
+use Rattle.std.proofs.Common.{ℕ, ◌≡◌, ◌<◌, ◌≤◌, ◌+◌, ◌-◌, List, [], ◌∷◌, length, drop, Some, arith, zero, suc}
 use Rattle.std.proofs.Common.{false, true, get_or, le-leb, eq-eqb, ap, sym, ◌∙◌, refl, inl, inr}
 use Rattle.std.specs.Prelude.{slice_get, ◌==◌}
 use Rattle.std.proofs.lemmas.Grind.{common_steps}
 use Rattle.std.proofs.lemmas.Bool.{cases_lt}
-use Rattle.std.proofs.lemmas.Option.{slice_get-get_or, slice_get_within, get_or_from_slice_get}
+use Rattle.std.proofs.lemmas.Option.{slice_get_within}
 use Rattle.xc_input.specs.declared.problem.Use.{Use}
 use Rattle.xc_input.specs.UsePlaces.{place_in}
-use Rattle.xc_input.specs.Problem.{Puzzle, primary_count, item_count, IsPrimary, uses_of}
+use Rattle.xc_input.specs.Problem.{Puzzle, primary_count, IsPrimary, uses_of}
 use Rattle.xc_moves.specs.declared.dance.Move.{Move}
 use Rattle.xc_moves.specs.Commits.{first_primary, IsUseAt}
 use Rattle.xc_moves.specs.Places.{layout, spacer_place, used, spacer}

@@ -1,4 +1,4 @@
-use Rattle.std.proofs.Common.{◌≡◌, ℕ, get_or, ap, subst, ◌∙◌, sym, arith, refl}
+use Rattle.std.proofs.Common.{◌≡◌, ℕ, ap, subst, sym, arith, refl}
 use Rattle.std.proofs.lemmas.List.{length-map}
 use Rattle.xc_input.specs.Problem.{primary_count}
 use Rattle.xc_moves.specs.Commits.{IsUseAt}
@@ -18,7 +18,8 @@ back : (c : At-loop-self) (x : ℕ) → IsUseAt c.args.self.now.puzzle c.args._i
 back c x u = subst
     (λ (n : Nodes). Back c.args.self.now.puzzle c.args._i x c.args.place n.top c.loop-self.before)
     (sym (nodes_is c))
-    (back_at c.args.self.now.trail (subst (λ (s : Linked). IsLaid s.puzzle) c.self.view_is c.self.invariant.fitted.laid) u
+    (back_at c.args.self.now.trail
+    (subst (λ (s : Linked). IsLaid s.puzzle) c.self.view_is c.self.invariant.fitted.laid) u
     (c.loop-self.invariant x u))
 
 pub loop-self-init : goal.loop-self-init

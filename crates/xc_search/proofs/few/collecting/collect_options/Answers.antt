@@ -6,7 +6,6 @@ use Rattle.xc_search.specs.inner.Few.{IsSettled}
 use Rattle.xc_search.proofs.CollectLemmas.{OptionThere, open_at, is_item, taken_first, there, passed_on, more_on}
 use Rattle.xc_search.proofs.CollectLemmas.{taken_all, option_nearer}
 use Rattle.xc_search.proofs.few.collecting.collect_options.Goals.{At-loop-place, else-is_first_at}
-use Rattle.xc_search.proofs.few.collecting.collect_options.Goals.{then-is_first_at+else-options-eq-MOST+else-has_open_colour}
 use Rattle.xc_search.proofs.few.collecting.collect_options.Goals as goal
 
 pub node_below-place-requires-clause-item : goal.node_below-place-requires-clause-item
@@ -94,7 +93,7 @@ loop-place-preserved g c =
     let option = c.node_below-place-in-loop-place.ensures.option o.x o.listed_at in
     let first = c.is_first_at.ensures o.x o.use_at in
     elim c.if-is_first_at.branch [
-      | then-is_first_at+else-options-eq-MOST+else-has_open_colour w ↦ more_on s.puzzle s.trail _
+      | goal.then-is_first_at+else-options-eq-MOST+else-has_open_colour w ↦ more_on s.puzzle s.trail _
           c.node_below-place-in-loop-place.result c.loop-place.invariant o w.options-is w.into-is
           (w.option_of-x.ensures o.x o.use_at) (sym first ∙ w.if-is_first_at.true)
           (omega (arith, c.loop-place.invariant.few, w.if-options-eq-MOST.false))
