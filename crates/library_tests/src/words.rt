@@ -1,10 +1,13 @@
 //! Exact covers counted by words of bits.
-ghost use Rattle.std.specs.Prelude.{◌<◌};
+ghost use Rattle.std.specs.Prelude.{◌<◌, ℕ};
+ghost use Rattle.xc_words.specs.Words.{HasOwn};
 
 use xc_words::{Words, count_left};
 
 /// The words of the items a, b and c in the options `a b`, `c`, `a` and `b c`, which have two covers.
-fn two_covers() -> Words {
+fn two_covers() -> Words
+    ensures { (left items : ℕ) → HasOwn result.holders result.alone left items }
+{
     let mut words = Words::new();
     words.holders[0] = 0b0101;
     words.holders[1] = 0b1001;
@@ -22,7 +25,8 @@ fn two_covers() -> Words {
 
 /// The count of these options that are left and open items, up to `most`, and what is left of the budget.
 fn counted(words: &Words, left: u64, items: u64, most: u64, budget: u64) -> (Option<u64>, u64)
-    requires { 0 < most }
+    requires some { 0 < most }
+    requires own { HasOwn words.now.holders words.now.alone left items }
 {
     let mut budget = budget;
     let count = count_left(words, left, items, most, &mut budget);
@@ -59,9 +63,16 @@ fn the_budget_is_in_nodes(rt: HostRuntime) {
     assert_eq!(rt; counted(&words, 0b1111, 0b111, 2, 0), (None, 0));
 }
 
+/// The words of no options.
+fn no_options() -> Words
+    ensures { (left items : ℕ) → HasOwn result.holders result.alone left items }
+{
+    Words::new()
+}
+
 #[test]
 fn new_words_have_no_options(rt: HostRuntime) {
-    let words = Words::new();
+    let words = no_options();
     assert_eq!(rt; counted(&words, u64::MAX, u64::MAX, 1, 1), (Some(0), 0));
     assert_eq!(rt; counted(&words, 0, 0, 1, 1), (Some(1), 1));
 }

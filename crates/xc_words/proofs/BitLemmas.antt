@@ -1,15 +1,16 @@
 -- The members of a set without its first one.
 use Rattle.std.proofs.Common.{ℕ, zero, suc, ◌≡◌, ◌≢◌, ◌<◌, ◌≤◌, ◌^◌, ◌+◌, ◌%◌, ◌∷◌, refl, arith, sym, ◌∙◌, ap}
 use Rattle.std.proofs.Common.{inl, inr, ◌-◌, ◌/◌}
-use Rattle.std.specs.Int.{bit_at, w64, trailing_zeros}
+use Rattle.std.specs.Int.{bit_at, bit_not, w64, trailing_zeros}
 use Rattle.std.specs.Int.Bits.{bit_and}
 use Rattle.std.specs.Prelude.{sum_by}
 use Rattle.std.proofs.lemmas.Nat.Bits.{bit_at-trailing_zeros, bit_at_and, bit_at-lt, bit_at_lowest, bit_at-suc}
-use Rattle.std.proofs.lemmas.Nat.{and_le_r}
+use Rattle.std.proofs.lemmas.Nat.Bits.{bit_at_not, bit_at-zero}
+use Rattle.std.proofs.lemmas.Nat.{and_le_l, and_le_r}
 use Rattle.std.proofs.lemmas.List.Sums.{sum_by-cons}
 use Rattle.std.proofs.lemmas.Bool.{cases_lt}
 use Rattle.std.proofs.Math.Nat.{eq-or-lt_of_le}
-use Rattle.xc_words.specs.Words.{bits_from, bits_of}
+use Rattle.xc_words.specs.Words.{bits_from, bits_of, and_not}
 
 -- the same bits from a place on
 same_bits : (a n m k : ℕ) → ((i : ℕ) → a ≤ i → i < a + n → bit_at m i ≡ bit_at k i)
@@ -37,7 +38,7 @@ first_bit a (suc n) m k t l h low one gone same = elim (eq-or-lt_of_le l) [
 ]
 
 -- the bits of the number before, from the lowest bit that is set on
-before_lowest : (t m : ℕ) → bit_at m t ≡ 1 → ((i : ℕ) → i < t → bit_at m i ≡ 0)
+pub before_lowest : (t m : ℕ) → bit_at m t ≡ 1 → ((i : ℕ) → i < t → bit_at m i ≡ 0)
     → (bit_at (m - 1) t ≡ 0) × ((i : ℕ) → t < i → bit_at (m - 1) i ≡ bit_at m i)
 before_lowest zero m one low =
     let odd : m % 2 ≡ 1 = sym (bit_at_lowest m) ∙ one in
@@ -66,10 +67,10 @@ abbrev pub cleared : ℕ → ℕ
 cleared m = bit_and m (m - 1)
 
 -- the bit is gone, and the others stay
-lowest_gone : (m t : ℕ) → bit_at m t ≡ 1 → ((i : ℕ) → i < t → bit_at m i ≡ 0) → bit_at (cleared m) t ≡ 0
+pub lowest_gone : (m t : ℕ) → bit_at m t ≡ 1 → ((i : ℕ) → i < t → bit_at m i ≡ 0) → bit_at (cleared m) t ≡ 0
 lowest_gone m t one low = omega (arith, bit_at_and m (m - 1) t, (before_lowest t m one low).0)
 
-others_stay : (m t : ℕ) → bit_at m t ≡ 1 → ((i : ℕ) → i < t → bit_at m i ≡ 0)
+pub others_stay : (m t : ℕ) → bit_at m t ≡ 1 → ((i : ℕ) → i < t → bit_at m i ≡ 0)
     → (i : ℕ) → i ≢ t → bit_at (cleared m) i ≡ bit_at m i
 others_stay m t one low i apart = elim (cases_lt i t) [
   | inl l ↦ omega (arith, bit_at_and m (m - 1) i, low i l)
@@ -88,6 +89,27 @@ cleared_less m some = omega (arith, and_le_r m (m - 1), some)
 -- what is in a set without some is in the set
 pub from_without : (a b i : ℕ) → bit_at (bit_and a b) i ≡ 1 → bit_at a i ≡ 1
 from_without a b i e = omega (arith, bit_at_and a b i, bit_at-lt a i, e)
+
+pub from_both : (a b i : ℕ) → bit_at (bit_and a b) i ≡ 1 → (bit_at a i ≡ 1) × (bit_at b i ≡ 1)
+from_both a b i e =
+    let both = bit_at_and a b i in
+    let one = bit_at-lt a i in
+    let two = bit_at-lt b i in
+    (omega (arith, both, one, e), omega (arith, both, two, e))
+
+-- without a member there are fewer; a b past 64 bits leaves none
+pub without_less : (a b i : ℕ) → i < 64 → bit_at a i ≡ 1 → bit_at b i ≡ 1 → and_not a b < a
+without_less a b i within one two = elim (cases_lt b (2 ^ 64)) [
+  | inl fits ↦
+      let gone : bit_at (and_not a b) i ≡ 0 =
+      omega (arith, bit_at_and a (bit_not w64 b) i, bit_at_not w64 b i fits within, two) in
+      let other : and_not a b ≢ a = λ e. omega (arith, ap (λ m. bit_at m i) e, gone, one) in
+      omega (arith, other, and_le_l a (bit_not w64 b))
+  | inr past ↦
+      let some : a ≢ 0 = λ e. omega (arith, ap (λ m. bit_at m i) e, bit_at-zero i, one) in
+      let none : bit_not w64 b ≡ 0 = omega (arith, past) in
+      omega (arith, some, none, and_le_r a (bit_not w64 b))
+]
 
 -- a sum over no members, and over one
 pub none_in : (f : ℕ → ℕ) (m : ℕ) → m ≡ 0 → sum_by f (bits_of m) ≡ 0

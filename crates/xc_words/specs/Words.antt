@@ -29,3 +29,8 @@ pub record CountsBranches (holders alone apart : List ℕ) (good : ℕ → ℕ �
   pub kept : (left items i x : ℕ) → left < 2 ^ 64 → items < 2 ^ 64 → good left items ≡ true → i < 64
       → bit_at items i ≡ 1 → x < 64 → bit_at (bit_and (slice_index holders i) left) x ≡ 1
       → good (and_not left (slice_index apart x)) (and_not items (slice_index alone x)) ≡ true
+
+-- each option that is left of an open item has it among its items, by which it closes it
+abbrev pub HasOwn : List ℕ → List ℕ → ℕ → ℕ → Type 0
+HasOwn holders alone left items = (i x : ℕ) → i < 64 → x < 64 → bit_at items i ≡ 1 → bit_at left x ≡ 1
+    → bit_at (slice_index holders i) x ≡ 1 → bit_at (slice_index alone x) i ≡ 1

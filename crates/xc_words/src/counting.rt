@@ -2,7 +2,7 @@
 ghost use Rattle.std.specs.Prelude.{◌≡◌, ◌<◌, ◌≤◌, ℕ, Bool, true, IfSome, slice_index};
 ghost use Rattle.std.specs.Int.{bit_at};
 ghost use Rattle.std.specs.Int.Bits.{bit_and};
-ghost use Rattle.xc_words.specs.Words.{CountsBranches};
+ghost use Rattle.xc_words.specs.Words.{CountsBranches, HasOwn};
 
 use crate::words::Words;
 
@@ -32,9 +32,11 @@ fn fewest(words: &Words, left: u64, items: u64) -> u64
 
 /// How many exact covers of these items there are by the options that are left, both by their bits. None if there are
 /// more than `most`, which is 1 or more, or if the budget runs out. The budget is in nodes, each of which has an item
-/// open, and is lowered by those that were visited.
+/// open, and is lowered by those that were visited. Each option that is taken closes an item, so at most 64 calls are
+/// below this one at a time, whatever the budget.
 pub fn count_left(words: &Words, left: u64, items: u64, most: u64, budget: &mut u64) -> Option<u64>
     requires some { 0 < most }
+    requires own { HasOwn words.now.holders words.now.alone left items }
     ensures counted { IfSome result (λ n. (good : ℕ → ℕ → Bool) → (count : ℕ → ℕ → ℕ)
         → CountsBranches words.now.holders words.now.alone words.now.apart good count → good left items ≡ true
         → n ≡ count left items) }
