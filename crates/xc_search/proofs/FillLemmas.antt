@@ -1,21 +1,22 @@
 -- Words whose bits are set and cleared one by one.
 use Rattle.std.proofs.Common.{ℕ, ◌≡◌, ◌≢◌, ◌<◌, ◌≤◌, ◌+◌, ◌*◌, ◌^◌, ◌%◌, ◌==◌, ◌&&◌, ◌||◌, ◌⊎◌, inl, inr, ◌∙◌, Bool}
 use Rattle.std.proofs.Common.{true, false, not, max, List, [], ◌∷◌, length, get_or, set, take, is_some, refl, sym, ap}
-use Rattle.std.proofs.Common.{subst, arith, w64, nat_lt, bit_and, bit_or, Option, Some, if◌then◌else◌, unwrap_or}
-use Rattle.std.proofs.Common.{take_all, get_or-set_same, get_or-set_other, zero, suc, ◌-◌, ◌/◌}
+use Rattle.std.proofs.Common.{subst, arith, w64, nat_lt, bit_or, Option, Some, if◌then◌else◌, unwrap_or}
+use Rattle.std.proofs.Common.{take_all, get_or-set_same, get_or-set_other, ◌-◌}
 use Rattle.std.specs.Int.{bit_at, trailing_zeros}
 use Rattle.std.specs.List.{list_any}
 use Rattle.std.proofs.lemmas.Bool.{cases_eq, cases_lt, cases_order, eq-eqb, ne_eqb, eqb-true, lt-ltb, le-ltb}
 use Rattle.std.proofs.lemmas.Bool.{or_left, or_right, or_cases}
 use Rattle.std.proofs.Math.Bool.{or-false, and-true}
 use Rattle.std.proofs.lemmas.Nat.{one_shl}
-use Rattle.std.proofs.lemmas.Nat.Bits.{bit_at_lowest, bit_at-suc, bit_at-lt, bit_at_or, bit_at_and, bit_at-pow_same}
+use Rattle.std.proofs.lemmas.Nat.Bits.{bit_at-lt, bit_at_or, bit_at-pow_same}
 use Rattle.std.proofs.lemmas.Nat.Bits.{bit_at-pow_other, bit_at-trailing_zeros, bit_at-zero}
 use Rattle.std.proofs.lemmas.Grind.{common_steps}
 use Rattle.std.proofs.lemmas.List.{get_or_past}
 use Rattle.std.proofs.lemmas.List.Folds.{list_any_more}
 use Rattle.xc_input.specs.Problem.{Puzzle, uses_of, colour_in, numbered_get}
 use Rattle.xc_input.specs.declared.problem.Use.{Use}
+use Rattle.xc_words.proofs.BitLemmas.{cleared, lowest_gone as bit_gone, others_stay, from_without}
 use Rattle.xc_search.specs.inner.Few.{share}
 use Rattle.xc_search.specs.inner.Filled.{held_at, shares_at}
 
@@ -57,53 +58,19 @@ set_bit a k y within = or_bit a (1 * 2 ^ k % 2 ^ 64) y ∙ ap (λ t. (bit_at a y
 
 -- ---- a word without its lowest bit
 
--- one less has no bit where the lowest is
-less_here : (t n : ℕ) → bit_at n t ≡ 1 → ((j : ℕ) → j < t → bit_at n j ≡ 0) → bit_at (n - 1) t ≡ 0
-less_here zero n one low = omega (arith, bit_at_lowest n, bit_at_lowest (n - 1), one)
-less_here (suc t) n one low =
-    let even : n % 2 ≡ 0 = omega (arith, bit_at_lowest n, low 0 (omega arith)) in
-    let half : (n - 1) / 2 ≡ n / 2 - 1 = omega (arith, even) in
-    bit_at-suc (n - 1) t ∙ ap (λ m. bit_at m t) half
-    ∙ less_here t (n / 2) (sym (bit_at-suc n t) ∙ one) (λ j l. sym (bit_at-suc n j) ∙ low (suc j) (omega (arith, l)))
-
--- and the same bits above
-less_above : (t n i : ℕ) → bit_at n t ≡ 1 → ((j : ℕ) → j < t → bit_at n j ≡ 0) → t < i → bit_at (n - 1) i ≡ bit_at n i
-less_above t n zero one low above = absurd (omega (arith, above))
-less_above zero n (suc i) one low above =
-    let odd : n % 2 ≡ 1 = omega (arith, bit_at_lowest n, one) in
-    let half : (n - 1) / 2 ≡ n / 2 = omega (arith, odd) in
-    bit_at-suc (n - 1) i ∙ ap (λ m. bit_at m i) half ∙ sym (bit_at-suc n i)
-less_above (suc t) n (suc i) one low above =
-    let even : n % 2 ≡ 0 = omega (arith, bit_at_lowest n, low 0 (omega arith)) in
-    let half : (n - 1) / 2 ≡ n / 2 - 1 = omega (arith, even) in
-    bit_at-suc (n - 1) i ∙ ap (λ m. bit_at m i) half
-    ∙ less_above t (n / 2) i (sym (bit_at-suc n t) ∙ one) (λ j l. sym (bit_at-suc n j) ∙ low (suc j) (omega (arith, l)))
-    (omega (arith, above)) ∙ sym (bit_at-suc n i)
-
-pub lowest_gone : (n : ℕ) → 0 < n → n < 2 ^ 64 → (bit_at (bit_and n (n - 1)) (trailing_zeros w64 n) == 1) ≡ false
+pub lowest_gone : (n : ℕ) → 0 < n → n < 2 ^ 64 → (bit_at (cleared n) (trailing_zeros w64 n) == 1) ≡ false
 lowest_gone n some fits =
     let t = bit_at-trailing_zeros w64 n some fits in
-    let less = less_here (trailing_zeros w64 n) n t.1 t.2 in
-    let gone : bit_at (bit_and n (n - 1)) (trailing_zeros w64 n) ≡ 0 =
-    omega (arith, bit_at_and n (n - 1) (trailing_zeros w64 n), less) in
-    ap (λ b. b == 1) gone
+    ap (λ b. b == 1) (bit_gone n (trailing_zeros w64 n) t.1 t.2)
 
 pub others_kept : (n y : ℕ) → 0 < n → n < 2 ^ 64 → y ≢ trailing_zeros w64 n
-    → (bit_at (bit_and n (n - 1)) y == 1) ≡ (bit_at n y == 1)
+    → (bit_at (cleared n) y == 1) ≡ (bit_at n y == 1)
 others_kept n y some fits ne =
     let t = bit_at-trailing_zeros w64 n some fits in
-    let both = bit_at_and n (n - 1) y in
-    let kept : bit_at (bit_and n (n - 1)) y ≡ bit_at n y = elim (cases_lt y (trailing_zeros w64 n)) [
-      | inl below ↦ omega (arith, both, t.2 y below)
-      | inr on ↦ omega (arith, both, less_above (trailing_zeros w64 n) n y t.1 t.2 (omega (arith, on, ne)))
-    ] in
-    ap (λ b. b == 1) kept
+    ap (λ b. b == 1) (others_stay n (trailing_zeros w64 n) t.1 t.2 y ne)
 
-pub from_rest : (n y : ℕ) → (bit_at (bit_and n (n - 1)) y == 1) ≡ true → (bit_at n y == 1) ≡ true
-from_rest n y e =
-    let one = eqb-true (bit_at (bit_and n (n - 1)) y) 1 e in
-    let was : bit_at n y ≡ 1 = omega (arith, bit_at_and n (n - 1) y, bit_at-lt n y, one) in
-    eq-eqb (bit_at n y) 1 was
+pub from_rest : (n y : ℕ) → (bit_at (cleared n) y == 1) ≡ true → (bit_at n y == 1) ≡ true
+from_rest n y e = eq-eqb (bit_at n y) 1 (from_without n (n - 1) y (eqb-true (bit_at (cleared n) y) 1 e))
 
 -- ---- uses
 
