@@ -2,6 +2,8 @@
 use Rattle.std.proofs.Common.{ℕ, ◌≡◌, ◌-◌, ◌^◌, List, Option, Some, None, true, Bool, arith, ap, subst, sym}
 use Rattle.std.proofs.Common.{◌∙◌, length}
 use Rattle.std.specs.Prelude.{All, IfSome}
+use Rattle.std.proofs.lemmas.Bool.{eq-eqb, eqb-true}
+use Rattle.std.proofs.lemmas.Nat.{pow_pos}
 use Rattle.std.proofs.lemmas.List.{length-map}
 use Rattle.std.proofs.lemmas.List.Elements.{All-from_recursion}
 use Rattle.xc_input.specs.Problem.{Puzzle, IsItem, IsOption}
@@ -9,7 +11,7 @@ use Rattle.xc_input.proofs.ListLemmas.{each_from, map-in}
 use Rattle.xc_moves.specs.declared.dance.Move.{Move}
 use Rattle.xc_moves.specs.Moves.{IsOpenPrimary, listed, open_items}
 use Rattle.xc_moves.proofs.LeftLemmas.{listed_open}
-use Rattle.xc_words.specs.Words.{CountsBranches}
+use Rattle.xc_words.specs.Words.{CountsBranches, HasOwn}
 use Rattle.xc_words.specs.declared.words.Words.{Words}
 use Rattle.xc_search.specs.Listing.{listing}
 use Rattle.xc_search.specs.Residuals.{wanted_at}
@@ -20,7 +22,7 @@ use Rattle.xc_search.proofs.ResidualLemmas.{once_more}
 use Rattle.xc_search.proofs.LeftProper.{in_open, open_in, option_left, proper_left}
 use Rattle.xc_search.proofs.LeftCollected.{collected_known}
 use Rattle.xc_search.proofs.LeftWords.{are_words_of}
-use Rattle.xc_search.proofs.WordsCount.{words_count}
+use Rattle.xc_search.proofs.WordsCount.{words_count, some_at}
 
 -- with an open item that no option left holds there is none
 pub dead_counted : (p : Puzzle) (t : List Move) → IsSearchable p t → IsOnce p → (i : ℕ) → IsOpenPrimary p t i
@@ -43,6 +45,15 @@ options_known p t os s e =
     let whole = collected p t (open_items p t) in
     subst (All (IsOption p)) (sym e) (All-from_recursion (IsOption p) whole (each_from (IsOption p) whole (λ k h.
     let at = collected_known p t s k h in subst (IsOption p) at.2 (option_left p t s.valid at.0 at.1).known)))
+
+-- each option that is left of an open item has it, by the words
+pub own_known : (p : Puzzle) (is os : List ℕ) (w : Words) (left items : ℕ) → AreUseWords p is os w
+    → left ≡ 2 ^ length os - 1 → items ≡ 2 ^ length is - 1 → HasOwn w.holders w.alone left items
+own_known p is os w left items words e f i x li lx opened stays held =
+    let j = some_at items i is (omega (arith, f, pow_pos (length is))) opened in
+    let o = some_at left x os (omega (arith, e, pow_pos (length os))) stays in
+    let same = words.alone i x j.0 o.0 j.1 o.1 ∙ sym (words.holders i x j.0 o.0 j.1 o.1) in
+    eqb-true _ 1 (same ∙ eq-eqb _ 1 held)
 
 -- items and options that were collected, and their words
 pub record AreCollected (p : Puzzle) (t : List Move) (is os : List ℕ) (w : Words) : Type 0 where

@@ -81,7 +81,7 @@ both : (a b : Bool) → a ≡ true → b ≡ true → (a && b) ≡ true
 both a b e f = cc
 
 -- a bit that is set is of something
-some_at : {X : Type 0} (m i : ℕ) (xs : List X) → m < 2 ^ length xs → bit_at m i ≡ 1 → (x : X)
+pub some_at : {X : Type 0} (m i : ℕ) (xs : List X) → m < 2 ^ length xs → bit_at m i ≡ 1 → (x : X)
     × (slice_get xs i ≡ Some x)
 some_at m i xs l e = by_option (slice_get xs i)
     (λ z. absurd (omega (arith, e, bit_at_above m (length xs) i l (not_some xs i z))))

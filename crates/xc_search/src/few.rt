@@ -2,7 +2,9 @@
 mod collecting;
 mod filling;
 
-ghost use Rattle.std.specs.Prelude.{◌≡◌, ◌<◌, ◌≤◌, ◌^◌, ◌-◌, length, IfSome};
+ghost use Rattle.std.specs.Prelude.{◌≡◌, ◌<◌, ◌≤◌, ◌^◌, ◌-◌, length, take, IfSome};
+ghost use Rattle.xc_input.specs.Problem.{item_count};
+ghost use Rattle.xc_moves.specs.Moves.{open_items};
 ghost use Rattle.xc_search.specs.Listing.{listing};
 ghost use Rattle.xc_search.specs.inner.Levels.{IsSearchable, IsOnce, residual_of};
 
@@ -99,15 +101,37 @@ impl Few {
         if self.holders.len() <= problem.items() as usize {
             return None;
         }
-        let room = self.each * MOST;
-        let items = match collect_items(dance, &mut self.items, room) {
-            Items::All(items) => items,
-            Items::Dead => return Some(0),
+        match collect_items(dance, &mut self.items, self.each * MOST) {
+            Items::All(items) => self.count_items(dance, problem, items, depth, most),
+            Items::Dead => Some(0),
             Items::TooMany(beside) => {
                 self.pass_by(depth, beside);
-                return None;
+                None
             }
-        };
+        }
+    }
+
+    /// The same, where the open items are the first so many of those that were collected.
+    #[inline(always)]
+    fn count_items<D: Dance>(
+        &mut self,
+        dance: &D,
+        problem: &Problem,
+        items: usize,
+        depth: usize,
+        most: u64,
+    ) -> Option<u64>
+        requires same { (D.state dance.now).puzzle ≡ problem.now.puzzle }
+        requires once { IsOnce problem.now.puzzle }
+        requires searchable { IsSearchable problem.now.puzzle (D.state dance.now).trail }
+        requires some { 0 < most }
+        requires room { item_count problem.now.puzzle < length self.old.holders.items }
+        requires few { items ≤ 64 }
+        requires opened { take items self.old.items ≡ open_items problem.now.puzzle (D.state dance.now).trail }
+        ensures counted { IfSome result (λ n.
+            n ≡ length (listing (residual_of problem.now.puzzle (D.state dance.now).trail))) }
+        ensures within { IfSome result (λ n. n ≤ most) }
+    {
         let items = &self.items[..items];
         let Some(options) = collect_options(dance, problem, items, &mut self.options) else {
             self.pass_by(depth, 0);
@@ -121,25 +145,29 @@ impl Few {
             self.holders.as_mut_slice(),
             &mut self.words,
         );
+        let many = options.len();
         let most_nodes = most / 16 + 2000;
         let mut budget = most_nodes;
         let found = count_left(
             &self.words,
-            full(options.len()),
+            full(many),
             full(items.len()),
             most,
             &mut budget,
         );
-        let nodes = most_nodes - budget;
-        let many = options.len();
-        let little = many <= 32;
-        self.weigh(nodes, many);
-        if found.is_none() {
+        self.note_count(depth, many, most_nodes - budget, found.is_some());
+        found
+    }
+
+    /// Notes that a count below so many levels, over so many options, took so many nodes, and whether it ended.
+    #[inline(always)]
+    fn note_count(&mut self, depth: usize, options: usize, nodes: u64, ended: bool) {
+        self.weigh(nodes, options);
+        if !ended {
             self.pass_by(depth, 0);
-        } else if little && depth > 1 {
+        } else if options <= 32 && depth > 1 {
             self.from = depth - 1;
         }
-        found
     }
 }
 
