@@ -16,6 +16,10 @@ use xc_input::Problem;
 use xc_moves::Dance;
 use xc_words::{MOST, Words, count_left};
 
+/// The most nodes that a count may visit for the solutions that are still to be passed over. Without it a count below a
+/// search of all of them would have no bound.
+const MOST_NODES: u64 = 1 << 16;
+
 /// Where what is left is gathered, and hints from how many levels on it is little.
 #[derive(Drop)]
 pub struct Few {
@@ -33,6 +37,8 @@ pub struct Few {
     /// How many tries are still passed over, and how many were after the last count.
     wait: usize,
     pause: usize,
+    /// How many nodes may still be visited.
+    credit: u64,
     ghost some: { 0 < each },
     ghost few: { each ≤ 64 },
 }
@@ -50,13 +56,19 @@ impl Few {
             each: most_held(problem),
             wait: 0,
             pause: 0,
+            credit: u64::MAX,
         })
+    }
+
+    /// Bounds the nodes that are visited from now on in all, for a run that is bounded itself.
+    pub fn allow(&mut self, nodes: u64) {
+        self.credit = nodes;
     }
 
     /// Whether it is tried below so many levels.
     #[inline(always)]
     pub fn is_tried(&mut self, depth: usize) -> bool {
-        if depth < self.from {
+        if depth < self.from || self.credit == 0 {
             return false;
         }
         if self.wait > 0 {
@@ -146,7 +158,7 @@ impl Few {
             &mut self.words,
         );
         let many = options.len();
-        let most_nodes = most / 16 + 2000;
+        let most_nodes = ((most / 16).min(MOST_NODES) + 2000).min(self.credit);
         let mut budget = most_nodes;
         let found = count_left(
             &self.words,
@@ -161,7 +173,10 @@ impl Few {
 
     /// Notes that a count below so many levels, over so many options, took so many nodes, and whether it ended.
     #[inline(always)]
-    fn note_count(&mut self, depth: usize, options: usize, nodes: u64, ended: bool) {
+    fn note_count(&mut self, depth: usize, options: usize, nodes: u64, ended: bool)
+        requires { nodes ≤ self.old.credit }
+    {
+        self.credit -= nodes;
         self.weigh(nodes, options);
         if !ended {
             self.pass_by(depth, 0);
