@@ -1,10 +1,11 @@
 //! The levels of the search, and its loop.
 //!
-//! Walks, spans and the way to a span's first row have one loop, `run`, by two constant parameters. At each turn it
+//! Walks, spans and the way to a span's first row have one loop, `run`, by three constant parameters. At each turn it
 //! looks at what is below first. A search that is at a solution finds it again, as the first that it passes over, so
 //! that no flag says whether what is left was searched. By `WAY` the large functions of the way are others than those
 //! of the search, of which each then has one call and is inlined; a parameter at run time took 2 % of a span's
-//! instructions.
+//! instructions. By `FEW` so are those of a loop that counts by words: a listing, whose loop has no such code, takes
+//! 1.5 % fewer.
 //!
 //! Where the next choice is known to be the last, its solutions are counted and not made (`SEARCH.md`). That saves 11 %
 //! of the instructions. Open items are counted only at the depth of the last choice of the solution found last. That
@@ -42,7 +43,7 @@ use xc_moves::Dance;
 
 /// A branch that was entered, and whose moves are still to be made: in the search's loop at one place, since a large
 /// function is taken in only where there is one call of it. So a loop that goes the way to a row, `WAY`, has each of
-/// these functions once more.
+/// these functions once more, and so has one that counts by words, `FEW`.
 #[derive(Clone, Copy)]
 pub struct Entered {
     pub item: u32,
@@ -65,7 +66,7 @@ pub enum Below {
 /// Begins a level at an item, the next one, since what is left wasn't searched yet, and enters the first of its
 /// branches that isn't left out. A level without such a branch ends at once, and isn't noted. At the branch item it
 /// goes on with the search's own path.
-fn deepen<D: Dance, const WAY: bool>(
+fn deepen<D: Dance, const WAY: bool, const FEW: bool>(
     position: &mut Position<D>,
     stack: &mut Stack,
     next: Option<(u32, usize)>,
@@ -118,7 +119,7 @@ fn deepen<D: Dance, const WAY: bool>(
 
 /// Ends a level, the newest one.
 #[tactic(auto, using(crate::proofs::LoopSteps::ended_level, crate::proofs::LoopSteps::ends_tweaks))]
-fn end_level<D: Dance, const WAY: bool>(position: &mut Position<D>, level: &Level)
+fn end_level<D: Dance, const WAY: bool, const FEW: bool>(position: &mut Position<D>, level: &Level)
     requires stacked { (p : Puzzle) × (ls : List Level) × AreStacked p position.old.trail (level.now ∷ ls) }
     ensures { position.new ≡ record position.old {
       trail = oldest level.now.mark position.old.trail;
@@ -144,7 +145,10 @@ fn number_after(k: u32, many: u32) -> u32
 
 /// Enters the next branch of a level, the newest one, which has another.
 #[tactic(auto, using(crate::proofs::LoopSteps::back_at))]
-fn enter_next<D: Dance, const WAY: bool>(position: &mut Position<D>, level: &Level) -> Begun
+fn enter_next<D: Dance, const WAY: bool, const FEW: bool>(
+    position: &mut Position<D>,
+    level: &Level,
+) -> Begun
     requires stacked { (ls : List Level) × AreStacked position.old.puzzle position.old.trail (level.now ∷ ls) }
     requires more { level.now.begun < level.now.count }
     ensures still { position.new ≡ record position.old { trail = position.new.trail; undone = position.new.undone } }
@@ -160,7 +164,7 @@ fn enter_next<D: Dance, const WAY: bool>(position: &mut Position<D>, level: &Lev
 /// another branch, and then all have ended. A level that has another is of the branch item, and so are those below it:
 /// an early choice of another item has one branch at most.
 #[inline(always)]
-pub fn resume<D: Dance, const WAY: bool>(
+pub fn resume<D: Dance, const WAY: bool, const FEW: bool>(
     position: &mut Position<D>,
     stack: &mut Stack,
 ) -> Option<Entered>
@@ -184,14 +188,14 @@ pub fn resume<D: Dance, const WAY: bool>(
     while let Some(level) = stack.top() {
         if level.begun < level.count {
             let item = level.item;
-            let branch = enter_next::<D, WAY>(position, level);
+            let branch = enter_next::<D, WAY, FEW>(position, level);
             stack.note_branch(branch);
             return Some(Entered {
                 item,
                 place: branch.place as usize,
             });
         }
-        end_level::<D, WAY>(position, level);
+        end_level::<D, WAY, FEW>(position, level);
         stack.pop();
     }
     None
@@ -267,7 +271,7 @@ fn count_rest<D: Dance>(
 /// last choice led to a solution: where there are as many again, the solutions may be counted at once. It is the
 /// greatest number where what is left may reach the end, and elsewhere all that is left comes before it.
 #[inline(always)]
-fn go_below<D: Dance, const WAY: bool>(
+fn go_below<D: Dance, const WAY: bool, const FEW: bool>(
     position: &mut Position<D>,
     stack: &mut Stack,
     first: u32,
@@ -299,11 +303,11 @@ fn go_below<D: Dance, const WAY: bool>(
     if depth == *last && skip_rest(position, more) {
         return Below::Nothing;
     }
-    if !WAY && count_rest(position, few, depth, *last, more) {
+    if FEW && count_rest(position, few, depth, *last, more) {
         return Below::Nothing;
     }
     let next = position.choose_early();
-    match deepen::<D, WAY>(position, stack, next, first) {
+    match deepen::<D, WAY, FEW>(position, stack, next, first) {
         Below::Branch(entered) => Below::Branch(entered),
         Below::Nothing => Below::Nothing,
         Below::Solution => {
@@ -319,7 +323,7 @@ fn go_below<D: Dance, const WAY: bool>(
 
 /// Enters the next branch: one below the levels, or else the next of a level.
 #[inline(always)]
-fn enter_branch<D: Dance, const WAY: bool>(
+fn enter_branch<D: Dance, const WAY: bool, const FEW: bool>(
     position: &mut Position<D>,
     stack: &mut Stack,
     first: u32,
@@ -349,12 +353,12 @@ fn enter_branch<D: Dance, const WAY: bool>(
     ensures moved { result ≡ Next.Nothing → (stack.old.levels ≡ [] → 0 < last.old) →
         0 < moves_made position.new }
 {
-    match go_below::<D, WAY>(position, stack, first, more, last, few) {
+    match go_below::<D, WAY, FEW>(position, stack, first, more, last, few) {
         Below::Branch(entered) => return Next::Branch(entered),
         Below::Solution => return Next::Solution,
         Below::Nothing => {}
     }
-    match resume::<D, WAY>(position, stack) {
+    match resume::<D, WAY, FEW>(position, stack) {
         Some(entered) => Next::Branch(entered),
         None => Next::Nothing,
     }
@@ -404,7 +408,7 @@ fn no_last<const BOUND: bool>() -> usize
 // One loop for all searches, which at each turn first looks at what is below, so that no flag says whether that was
 // searched.
 // No wish to be inlined: its one call for each search is, and then after what it calls was taken in.
-pub fn run<'u, D: Dance, const BOUND: bool, const WAY: bool>(
+pub fn run<'u, D: Dance, const BOUND: bool, const WAY: bool, const FEW: bool>(
     position: &mut Position<D>,
     stack: &mut Stack,
     task: Task<'u>,
@@ -437,7 +441,7 @@ pub fn run<'u, D: Dance, const BOUND: bool, const WAY: bool>(
         return halted(Stop::Steps, more, steps);
     }
     loop {
-        match enter_branch::<D, WAY>(position, stack, first, &mut more, &mut last, few) {
+        match enter_branch::<D, WAY, FEW>(position, stack, first, &mut more, &mut last, few) {
             Next::Branch(at) => position.commit_branch::<WAY>(at.item, at.place as u32),
             Next::Solution => return halted(Stop::Member, more, steps),
             Next::Nothing => return halted(Stop::Nothing, more, steps),

@@ -61,7 +61,7 @@ pub fn run_on<'a, 'u, D: Dance>(state: State<'a, D>, task: Task<'u>) -> (State<'
         over,
         steps,
     };
-    let ran = run::<D, true, false>(&mut position, &mut stack, task, &mut []);
+    let ran = run::<D, true, false, false>(&mut position, &mut stack, task, &mut []);
     (State { position, stack }, ran)
 }
 
@@ -79,7 +79,7 @@ pub fn run_way<'a, 'u, D: Dance>(state: State<'a, D>, task: Task<'u>) -> (State<
         mut position,
         mut stack,
     } = state;
-    let ran = run::<D, true, true>(&mut position, &mut stack, task, &mut []);
+    let ran = run::<D, true, true, false>(&mut position, &mut stack, task, &mut []);
     (State { position, stack }, ran)
 }
 
@@ -132,7 +132,7 @@ fn settle<'a, D: Dance>(state: &mut State<'a, D>) -> bool
     if !is_stuck(&state.position) {
         return true;
     }
-    let Some(at) = resume::<D, true>(&mut state.position, &mut state.stack) else {
+    let Some(at) = resume::<D, true, false>(&mut state.position, &mut state.stack) else {
         return false;
     };
     state

@@ -184,7 +184,12 @@ impl<'a, D: Dance> Walk<'a, D> {
         if standing.has_ended() {
             return 0;
         }
-        replace_with(standing, many, Standing::run_on);
+        // Two loops. One has no code that counts by words, and where one solution is passed nothing would be.
+        if many == 1 || standing.few.is_empty() {
+            replace_with(standing, many, Standing::run_on::<false>);
+            return standing.passed;
+        }
+        replace_with(standing, many, Standing::run_on::<true>);
         standing.passed
     }
 
@@ -265,7 +270,7 @@ impl<'a, D: Dance> Standing<'a, D> {
     // It holds while no address of the state leaves the loop: what is out of line there takes slices, and all else
     // is inlined by its attribute.
     #[inline(never)]
-    fn run_on(self, many: u64) -> (Standing<'a, D>, ())
+    fn run_on<const FEW: bool>(self, many: u64) -> (Standing<'a, D>, ())
         requires some { 0 < many }
         requires standing { IsStanding self.position.puzzle self.position.trail self.stack.levels true }
         requires solved { self.unsearched ≡ false →
@@ -281,7 +286,7 @@ impl<'a, D: Dance> Standing<'a, D> {
         let (mut position, mut stack, mut few) = (self.position, self.stack, self.few);
         // Where it is at a solution, it finds that one again.
         let more = if unsearched { many - 1 } else { many };
-        let ran = run::<D, false, false>(
+        let ran = run::<D, false, false, FEW>(
             &mut position,
             &mut stack,
             Task {

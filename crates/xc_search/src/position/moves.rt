@@ -105,7 +105,7 @@ impl<'a, D: Dance> Position<'a, D> {
     }
 
     /// Does what `commit` does, by the uses of the option.
-    // For the way to a row: a second call of the dance's own `commit` would keep that out of the search's loop.
+    // For the way to a row, where speed matters less: the dance's own `commit` is taken in by each loop that calls it.
     #[inline(never)]
     pub fn commit_uses(&mut self, i: u32, place: u32)
         requires item { IsItem self.old.puzzle i }

@@ -37,7 +37,7 @@ deepen-requires-clause-next g c =
     early_next _ _ _ here.valid here.legal c.choose_early-next.ensures.choice
 
 -- where the last choice wasn't counted, as many are to be passed over
-as_many : (g : _) (c : After-choose_early-next g) → c.else-not-this.more ≡ c.args.more.now
+as_many : (g : _) (c : After-choose_early-next g) → c.else-this-ne0.more ≡ c.args.more.now
 as_many g c = grind (arith)
 
 pub returns-in-Branch-clause-entered : goal.returns-in-Branch-clause-entered
