@@ -8,8 +8,11 @@ use xc_input::Problem;
 /// Of how many options that are committed one is looked at.
 pub const SAMPLE: u64 = 29;
 
+/// How many nodes of a count by words take about as long as going over the options that one stands for.
+const NODES: u64 = 8;
+
 /// Linked tables that add up how many options their moves go over, as options are committed: of each `SAMPLE`th one, so
-/// that a search is hardly slower.
+/// that a search is hardly slower. What is counted by words without a move is added as options that take as long.
 #[derive(Drop)]
 pub struct Metered<'a> {
     pub links: Links,
@@ -93,6 +96,17 @@ impl<'a> Dance for Metered<'a> {
     }
 
     #[inline(always)]
+    fn counts_unmoved(&self) -> bool {
+        self.links.counts_unmoved()
+    }
+
+    #[inline(always)]
+    fn note_unmoved(&self, nodes: u64) {
+        self.gone_over
+            .set(self.gone_over.get().wrapping_add(nodes.div_ceil(NODES)));
+    }
+
+    #[inline(always)]
     fn moves(&self) -> &[Move] {
         self.links.moves()
     }
@@ -135,6 +149,11 @@ impl<'a> Dance for Metered<'a> {
     #[inline(always)]
     fn option_of(&self, problem: &Problem, i: u32, place: u32) -> u32 {
         self.links.option_of(problem, i, place)
+    }
+
+    #[inline(always)]
+    fn is_first_at(&self, problem: &Problem, i: u32, place: u32) -> bool {
+        self.links.is_first_at(problem, i, place)
     }
 
     #[inline(always)]

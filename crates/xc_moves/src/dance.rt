@@ -129,6 +129,10 @@ pub trait Dance {
         false
     }
 
+    /// Notes that such a count visited so many nodes: for a keeper that measures work, which here is none of its moves.
+    /// It has no clause, and does nothing unless a keeper does.
+    fn note_unmoved(&self, _nodes: u64) {}
+
     /// Makes a legal move for which there is room, as `apply` does.
     fn make(&mut self, m: Move) -> Count
         requires legal { IsLegal (state self.old).puzzle (state self.old).trail m }

@@ -167,7 +167,9 @@ impl Few {
             most,
             &mut budget,
         );
-        self.note_count(depth, many, most_nodes - budget, found.is_some());
+        let nodes = most_nodes - budget;
+        dance.note_unmoved(nodes);
+        self.note_count(depth, many, nodes, found.is_some());
         found
     }
 

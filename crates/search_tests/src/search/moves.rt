@@ -7,6 +7,7 @@ ghost use Rattle.xc_search.specs.Room.{room_for};
 
 use library_tests::fixtures::{ALONE, Wanted, wrong_row};
 use std::alloc::Global;
+use std::cell::Cell;
 use xc_dance::{Count, Dance, Full, Links, Move};
 use xc_input::{Kind, Problem};
 use xc_search::Search;
@@ -22,6 +23,9 @@ pub struct Counting {
     made: u64,
     undone: u64,
     at_once: u64,
+    /// Whether solutions may be counted without a move, and by how many nodes they were.
+    unmoved: bool,
+    nodes: Cell<u64>,
 }
 
 impl Dance for Counting {
@@ -76,6 +80,14 @@ impl Dance for Counting {
     fn bound(&self, i: u32) -> u32 {
         self.links.bound(i)
     }
+
+    fn counts_unmoved(&self) -> bool {
+        self.unmoved
+    }
+
+    fn note_unmoved(&self, nodes: u64) {
+        self.nodes.set(self.nodes.get().saturating_add(nodes));
+    }
 }
 
 /// The calls that a keeper counted.
@@ -95,6 +107,8 @@ pub fn keeper(alloc: Global, problem: &Problem) -> Option<Counting>
             made: 0,
             undone: 0,
             at_once: 0,
+            unmoved: false,
+            nodes: Cell::new(0),
         }),
         Err(_) => None,
     }
@@ -150,4 +164,35 @@ impl Wanted for Moves {
 #[test]
 fn calls_of_searches(rt: HostRuntime) {
     assert_eq!(rt; wrong_row(rt.alloc(), &SEARCHES), None);
+}
+
+/// How many solutions are passed over at once, by how many moves, and by how many nodes without a move.
+#[derive(Clone, Copy, Debug, PartialEq, Eq)]
+struct Unmoved(u64, u64, u64);
+
+const UNMOVED: [(Kind, &[u8], Unmoved); 2] = [
+    // The first level makes 2 moves and each of its branches 2. Below it four items have 4 nodes, two items one.
+    (Kind::Plain, PAIRS_OF_4, Unmoved(3, 8, 3)),
+    (Kind::Plain, PAIRS_OF_6, Unmoved(15, 12, 20)),
+];
+
+/// What a search makes that passes over all solutions, and may count them without a move.
+fn count_unmoved(alloc: Global, problem: &Problem) -> Option<Unmoved> {
+    let mut keeper = keeper(alloc, problem)?;
+    keeper.unmoved = true;
+    let mut search = Search::new(alloc, keeper, problem).ok()?;
+    let passed = search.pass(u64::MAX);
+    let keeper = search.close();
+    Some(Unmoved(passed, keeper.made, keeper.nodes.get()))
+}
+
+impl Wanted for Unmoved {
+    fn is_so(&self, alloc: Global, problem: &Problem) -> bool {
+        count_unmoved(alloc, problem) == Some(*self)
+    }
+}
+
+#[test]
+fn counts_without_moves(rt: HostRuntime) {
+    assert_eq!(rt; wrong_row(rt.alloc(), &UNMOVED), None);
 }
