@@ -437,11 +437,11 @@ module _ {bound : Bool} {c : ℕ} {u until : Option (List ℕ)} {d e : Dancing} 
       made = stands_made (stands_more s b);
     }
 
--- what is known of an end of its own is known of another, where no branch was begun
-pub seen_rest : {bound : Bool} {first : ℕ} {u until : Option (List ℕ)} {d e : Dancing} {ls ks : Levels}
-    {m most n begun steps last : ℕ} → IsSeenBy bound u until first most d.puzzle ls.levels
-    → Stands first u d ls m e ks n begun → (bound ≡ true → begun + steps ≡ most) → (bound ≡ true → 0 < steps)
-    → (bound ≡ true → begun ≡ 0 → 2 ^ 64 - 1 ≤ last) → IsRest until e.puzzle ks.levels last first
+-- what is known of an end of its own is known of another on the way to a row, where no branch was begun
+pub seen_rest : {way : Bool} {first : ℕ} {u until : Option (List ℕ)} {d e : Dancing} {ls ks : Levels}
+    {m most n begun steps last : ℕ} → IsSeenBy way u until first most d.puzzle ls.levels
+    → Stands first u d ls m e ks n begun → (way ≡ true → begun + steps ≡ most) → (way ≡ true → 0 < steps)
+    → (way ≡ true → begun ≡ 0 → 2 ^ 64 - 1 ≤ last) → IsRest until e.puzzle ks.levels last first
     → IsRest u e.puzzle ks.levels last first
 seen_rest (inl same) s count going far rest = rw same rest
 seen_rest {begun = begun} (inr (is, one, before, leaves)) s count going far rest =

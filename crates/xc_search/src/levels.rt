@@ -394,14 +394,19 @@ fn fixed<'u, const WAY: bool>(task: Task<'u>) -> Task<'u>
     }
 }
 
-/// How many levels there were where the last choice led to a solution, before there was one: more than there ever are,
-/// and for a run with an end the greatest number.
+/// How many levels there were where the last choice led to a solution, before there was one: more than there ever are.
+/// The greatest number for a run with an end, of whose row nothing is known yet, and on the way to a row.
 #[inline(always)]
-fn no_last<const BOUND: bool>() -> usize
+fn no_last<'u, const WAY: bool>(until: Option<&'u [u32]>) -> usize
     ensures some { 0 < result }
-    ensures bound { BOUND ≡ true → 2 ^ 64 - 1 ≤ result }
+    ensures end { IsSome until.entry → 2 ^ 64 - 1 ≤ result }
+    ensures way { WAY ≡ true → 2 ^ 64 - 1 ≤ result }
 {
-    if BOUND { usize::MAX } else { usize::MAX - 1 }
+    if WAY || until.is_some() {
+        usize::MAX
+    } else {
+        usize::MAX - 1
+    }
 }
 
 /// Does what a task says. A search that is at a solution finds that one again, as the first.
@@ -422,7 +427,8 @@ pub fn run<'u, D: Dance, const BOUND: bool, const WAY: bool, const FEW: bool>(
     requires all { IsSome task.until → task.first ≡ 1 }
     requires free { BOUND ≡ false → task.until ≡ None }
     requires fixed { WAY ≡ false → task.first ≡ 1 }
-    ensures ran { (u : Option (List ℕ)) → IsSeenBy BOUND u (option_map (λ u. u.now) task.entry.until) task.entry.first
+    requires way { WAY ≡ true → BOUND ≡ true }
+    ensures ran { (u : Option (List ℕ)) → IsSeenBy WAY u (option_map (λ u. u.now) task.entry.until) task.entry.first
         task.entry.steps position.old.puzzle stack.old.levels →
         RunsTo BOUND task.entry.first u (option_map (λ u. u.now) task.entry.until)
         position.old stack.old task.entry.over task.entry.steps
@@ -436,7 +442,7 @@ pub fn run<'u, D: Dance, const BOUND: bool, const WAY: bool, const FEW: bool>(
     let task = fixed::<WAY>(task);
     let (until, first) = (task.until, task.first);
     let (mut more, mut steps) = (task.over, task.steps);
-    let mut last = no_last::<BOUND>();
+    let mut last = no_last::<WAY>(until);
     if BOUND && steps == 0 {
         return halted(Stop::Steps, more, steps);
     }
@@ -451,7 +457,7 @@ pub fn run<'u, D: Dance, const BOUND: bool, const WAY: bool, const FEW: bool>(
             steps -= 1;
             if let Some(until) = until {
                 match place_apart(stack.levels(), until) {
-                    Place::Before => {}
+                    Place::Before => last = last.min(usize::MAX - 1),
                     // What is left below may reach the row, so it isn't counted at once.
                     Place::Begins => last = usize::MAX,
                     Place::Reached => return halted(Stop::Row, more, steps),

@@ -28,6 +28,7 @@ mod search;
 mod span;
 mod spanning;
 mod stack;
+mod unmoved;
 mod visiting;
 mod walk;
 mod went;

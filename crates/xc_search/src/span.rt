@@ -19,6 +19,7 @@ use crate::ran::Stop;
 use crate::rows::is_before;
 use crate::spanning::{State, go_over, reach};
 use crate::stack::Stack;
+use crate::unmoved::place_for_few;
 use crate::went::{Halt, Went};
 use std::alloc::{AllocError, Global};
 use std::marker::Model;
@@ -140,8 +141,15 @@ impl<'a, D: Dance> Span<'a, D> {
         let Ok(stack) = Stack::new(alloc, most) else {
             return Err((dance, Memory));
         };
+        let Ok(few) = place_for_few(alloc, &dance, problem) else {
+            return Err((dance, Memory));
+        };
         let position = Position::new(dance, problem);
-        let mut state = State { position, stack };
+        let mut state = State {
+            position,
+            stack,
+            few,
+        };
         let reached = reach(&mut state, from);
         let within = is_before(state.stack.levels(), until);
         Ok(Span {
@@ -282,6 +290,7 @@ impl<'a, D: Dance> Span<'a, D> {
         let State {
             mut position,
             mut stack,
+            few: _,
         } = state;
         unwind(&mut position, &mut stack);
         position.into_dance()

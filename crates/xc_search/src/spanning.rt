@@ -19,6 +19,7 @@ ghost use Rattle.xc_search.specs.Residuals.{choice_after, wanted_after};
 ghost use Rattle.xc_search.specs.inner.Ahead.{AreLed, AreLedBy};
 ghost use Rattle.xc_search.specs.inner.Spanning.{CanGoTo, CanRun, Reaches, Runs, RanTo, Settles};
 
+use crate::few::Few;
 use crate::levels::{Task, resume, run};
 use crate::position::Position;
 use crate::ran::{Ran, Stop};
@@ -33,20 +34,30 @@ use xc_moves::Dance;
 pub struct State<'a, D: Dance> {
     pub position: Position<'a, D>,
     pub stack: Stack,
+    /// Where what is left is counted by words: one place, or none where it never is.
+    pub few: Vec<Few>,
 }
+
+/// How many nodes of a search over words may be visited for each step that is to be taken: what is counted by words
+/// takes no step, and yet a search of a span is to stop about when its steps are over.
+const NODES_A_STEP: u64 = 64;
 
 /// Does what a task says that leaves no branch out and goes by early choices. It takes the state by value, as a walk's
 /// loop does: through a reference the bases and lengths of all tables would be loaded anew after each write to one.
 #[inline(never)]
-pub fn run_on<'a, 'u, D: Dance>(state: State<'a, D>, task: Task<'u>) -> (State<'a, D>, Ran)
+pub fn run_on<'a, 'u, D: Dance, const FEW: bool>(
+    state: State<'a, D>,
+    task: Task<'u>,
+) -> (State<'a, D>, Ran)
     requires can { CanRun (option_map (λ u. u.now) task.until) state.position state.stack }
     requires first { task.first ≡ 1 }
-    ensures { Runs true 1 (option_map (λ u. u.now) task.entry.until) state.entry.position state.entry.stack
+    ensures { Runs false 1 (option_map (λ u. u.now) task.entry.until) state.entry.position state.entry.stack
         task.entry.over task.entry.steps result.0.position result.0.stack result.1 }
 {
     let State {
         mut position,
         mut stack,
+        mut few,
     } = state;
     let Task {
         until,
@@ -61,8 +72,33 @@ pub fn run_on<'a, 'u, D: Dance>(state: State<'a, D>, task: Task<'u>) -> (State<'
         over,
         steps,
     };
-    let ran = run::<D, true, false, false>(&mut position, &mut stack, task, &mut []);
-    (State { position, stack }, ran)
+    let ran = run::<D, true, false, FEW>(&mut position, &mut stack, task, few.as_mut_slice());
+    (
+        State {
+            position,
+            stack,
+            few,
+        },
+        ran,
+    )
+}
+
+/// Does what a task says that leaves no branch out, by one of two loops: where no more than one member is passed over,
+/// nothing is counted by words.
+fn run_by<'a, 'u, D: Dance>(state: &mut State<'a, D>, task: Task<'u>) -> Ran
+    requires can { CanRun (option_map (λ u. u.now) task.until) state.old.position state.old.stack }
+    requires first { task.first ≡ 1 }
+    ensures { Runs false 1 (option_map (λ u. u.now) task.entry.until) state.old.position state.old.stack
+        task.entry.over task.entry.steps state.new.position state.new.stack result }
+{
+    if task.over > 1
+        && let Some(few) = state.few.first_mut()
+    {
+        few.allow(task.steps.saturating_mul(NODES_A_STEP));
+        replace_with(state, task, run_on::<D, true>)
+    } else {
+        replace_with(state, task, run_on::<D, false>)
+    }
 }
 
 /// Does what a task says, on the way to a row.
@@ -78,9 +114,17 @@ pub fn run_way<'a, 'u, D: Dance>(state: State<'a, D>, task: Task<'u>) -> (State<
     let State {
         mut position,
         mut stack,
+        few,
     } = state;
     let ran = run::<D, true, true, false>(&mut position, &mut stack, task, &mut []);
-    (State { position, stack }, ran)
+    (
+        State {
+            position,
+            stack,
+            few,
+        },
+        ran,
+    )
 }
 
 /// Goes from where there are no levels to the row `from`, or to the next one that the search's tree has, and enters no
@@ -171,7 +215,7 @@ pub fn go_over<'a, 'u, D: Dance>(
         over,
         steps,
     };
-    let ran = replace_with(state, task, run_on);
+    let ran = run_by(state, task);
     match ran.stop {
         Stop::Steps => {}
         Stop::Member | Stop::Row | Stop::Nothing => return ran,

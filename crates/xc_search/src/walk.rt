@@ -21,7 +21,7 @@ ghost use Rattle.xc_search.specs.Cover.{members, EachMemberCovers, EachCoverIsLi
 ghost use Rattle.xc_search.specs.inner.Levels.{most_levels, coming, choices_of, IsStanding};
 
 use crate::choice::Choice;
-use crate::counts::{is_once, most_levels};
+use crate::counts::most_levels;
 use crate::few::Few;
 use crate::level::Level;
 use crate::levels::{Task, run, unwind};
@@ -29,8 +29,9 @@ use crate::marks::{Mark, Marks};
 use crate::position::Position;
 use crate::ran::Stop;
 use crate::stack::Stack;
+use crate::unmoved::place_for_few;
 use core::mem::replace_with;
-use std::alloc::{AllocError, Global};
+use std::alloc::Global;
 use std::marker::Model;
 use xc_input::Problem;
 use xc_moves::{Dance, Memory};
@@ -312,20 +313,6 @@ impl<'a, D: Dance> Standing<'a, D> {
             (),
         )
     }
-}
-
-/// A place where what is left is counted by words, where that may be: not where an item may be in several options, nor
-/// where options give items colours. There a try at each level would only take time.
-fn place_for_few<D: Dance>(
-    alloc: Global,
-    dance: &D,
-    problem: &Problem,
-) -> Result<Vec<Few>, AllocError> {
-    let mut few = Vec::with_capacity(alloc, 1)?;
-    if dance.counts_unmoved() && problem.colours() == 0 && is_once(problem) {
-        few.push_reserved(Few::new(alloc, problem)?);
-    }
-    Ok(few)
 }
 
 /// How many solutions were passed over of `many`, where the search then ended and `more` lacked beside the last.

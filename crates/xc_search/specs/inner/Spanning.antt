@@ -113,10 +113,10 @@ pub record Stands (first : ℕ) (until : Option (List ℕ)) (d : Dancing) (ls : 
   pub counted : ks.begun ≡ ls.begun + begun
   pub undone : e.undone ≤ d.undone + room_for d.puzzle * begun
 
--- What a run passes over is seen against this end: its own, or any other where it has one step.
+-- What a run passes over is seen against this end: its own, or any other where it goes one step of the way to a row.
 abbrev pub IsSeenBy : Bool → Option (List ℕ) → Option (List ℕ) → ℕ → ℕ → Puzzle → List Level → Type 0
-IsSeenBy bound u until first steps p ls =
-    (u ≡ until) ⊎ ((bound ≡ true) × (steps ≡ 1) × (is_before u (row_at p ls) ≡ true) × LeavesOut u p ls first)
+IsSeenBy way u until first steps p ls =
+    (u ≡ until) ⊎ ((way ≡ true) × (steps ≡ 1) × (is_before u (row_at p ls) ≡ true) × LeavesOut u p ls first)
 
 -- One run came so far: it began so many branches, no more than it was to, if that is bound.
 pub record RunsTo (bound : Bool) (first : ℕ) (u until : Option (List ℕ)) (d : Dancing) (ls : Levels) (m most : ℕ)
@@ -132,11 +132,11 @@ pub record RunsTo (bound : Bool) (first : ℕ) (u until : Option (List ℕ)) (d 
   pub counted : ks.begun ≡ ls.begun + begun
   pub made : moves_made e ≤ d.undone + room_for d.puzzle * (begun + 1)
 
--- Seen against each end that it may be seen against, one run came so far.
+-- Seen against each end that it may be seen against, one bounded run came so far: on the way to a row, or off it.
 abbrev pub Runs : Bool → ℕ → Option (List ℕ) → Dancing → Levels → ℕ → ℕ → Dancing → Levels → Ran → Type 0
-Runs bound first until d ls m most e ks ran =
-    (u : Option (List ℕ)) → IsSeenBy bound u until first most d.puzzle ls.levels
-    → RunsTo bound first u until d ls m most ran.stop e ks ran.more ran.steps
+Runs way first until d ls m most e ks ran =
+    (u : Option (List ℕ)) → IsSeenBy way u until first most d.puzzle ls.levels
+    → RunsTo true first u until d ls m most ran.stop e ks ran.more ran.steps
 
 -- A run may begin at levels ls in state d.
 pub record CanRun (until : Option (List ℕ)) (d : Dancing) (ls : Levels) : Type 0 where

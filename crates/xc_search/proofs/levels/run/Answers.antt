@@ -1,7 +1,7 @@
 use Rattle.std.proofs.Common.{ℕ, ◌≡◌, ◌+◌, ◌<◌, true, false, not, refl, sym, ap, ◌∙◌, arith, inl, inr, List, Option}
 use Rattle.std.specs.Prelude.{nat_eq, option_map}
 use Rattle.std.proofs.lemmas.Bool.Decides.{nat_tests}
-use Rattle.xc_input.proofs.ListLemmas.{by_bool, by_option}
+use Rattle.xc_input.proofs.ListLemmas.{by_option}
 use Rattle.xc_search.specs.inner.Spanning.{BeginsBranch, IsRest, IsSeenBy}
 use Rattle.xc_search.proofs.BranchLemmas.{none_begun}
 use Rattle.xc_search.proofs.EndLemmas.{Pays-trans}
@@ -19,11 +19,10 @@ loop-at-init g c = record {
   stands = λ u _. stands_first c.fixed-task.result.first u _ _ _ c.requires.standing;
   rest = rw c.fixed-task.ensures (by_option c.args.task.until
       (λ e. rw e (rest_of_all c.args.position.now.puzzle c.args.stack.now.levels _ _))
-      (λ v e. first_rest _ _ _ _ _ c.requires.before (c.no_last-last.ensures.bound
-      (by_bool (not (nat_eq g.row.BOUND 0)) (λ is. is) (λ not. absurd (cc (e, c.requires.free not)))))
-      (c.requires.all (rw e refl))));
+      (λ v e. first_rest _ _ _ _ _ c.requires.before
+      (c.no_last-last.ensures.end (rw c.fixed-task.ensures (rw e refl))) (c.requires.all (rw e refl))));
   some_last = λ _. c.no_last-last.ensures.some;
-  far = λ is _. c.no_last-last.ensures.bound is;
+  far = λ is _. c.no_last-last.ensures.way is;
   same = refl;
   some = λ is. elim c.else-this-ne0.either [
     | inl both ↦ omega (arith, both.1)
@@ -38,14 +37,14 @@ module _ (g : _) (c : After-enter_branch g) where
   going = c.loop-at.invariant.some
 
   -- what is known of each end
-  rest : (u : Option (List ℕ)) → IsSeenBy (not (nat_eq g.row.BOUND 0)) u
+  rest : (u : Option (List ℕ)) → IsSeenBy (not (nat_eq g.row.WAY 0)) u
       (option_map (λ u. u.now) c.fixed-task.result.until) c.fixed-task.result.first
       c.fixed-task.result.steps c.args.position.now.puzzle c.args.stack.now.levels
       → IsRest u c.loop-at.position.puzzle c.loop-at.stack.levels c.loop-at.last
       c.fixed-task.result.first
   rest u is =
       let s = c.loop-at.invariant in
-      seen_rest is (s.stands u is) s.count going s.far s.rest
+      seen_rest is (s.stands u is) (λ w. s.count (c.requires.way w)) (λ w. going (c.requires.way w)) s.far s.rest
 
 -- a branch was begun
 begins : (g : _) (c : After-commit_branch g) (u : Option (List ℕ))
