@@ -370,7 +370,7 @@ SPANS = [
         f"from - problem 5f4feb9a050fe0f5\n{SEVEN_LISTING}"
         "from - until - solutions 1 steps 5 problem 5f4feb9a050fe0f5 text dbe8d46a240a82d4\n",
     ),
-    ("1 m0 3 - 2.1", SEVEN, "from - until 2 of 2 solutions 0 steps 3 problem 5f4feb9a050fe0f5 text 181a0cccc289f4cc\n"),
+    ("1 m0 2 - 2.1", SEVEN, "from - until 2 of 2 solutions 0 steps 2 problem 5f4feb9a050fe0f5 text e51b9ef4587523ae\n"),
     ("2 m0 0 2 -", THREE, "from 2 until - solutions 2 steps 1 problem 12589a6a85a80440 text 77535dd1d810060d\n"),
     (
         "3 m1 0 2.1 3",

@@ -13,7 +13,7 @@ const LISTED: &[u8] = b"from - problem 0123456789abcdef\n1:\n A (1 of 3)\n\
     from 2 until - solutions 2 steps 2 problem 0123456789abcdef text 950cebffa3b6f164\n";
 
 const SPAN: &[u8] =
-    b"from - until 2 of 2 solutions 0 steps 3 problem 5f4feb9a050fe0f5 text 181a0cccc289f4cc\n";
+    b"from - until 2 of 2 solutions 0 steps 2 problem 5f4feb9a050fe0f5 text e51b9ef4587523ae\n";
 
 /// Tools, their words and texts, and the status, the output and the messages.
 const RUNS: [(Tool, &[u8], &[u8], u8, &[u8], &[u8]); 5] = [
@@ -41,7 +41,7 @@ const RUNS: [(Tool, &[u8], &[u8], u8, &[u8], &[u8]); 5] = [
         b"1: cover\n",
         b"",
     ),
-    (Tool::Span, b"1,m0,3,-,2.1", SEVEN, 0, SPAN, b""),
+    (Tool::Span, b"1,m0,2,-,2.1", SEVEN, 0, SPAN, b""),
     (
         Tool::Join,
         b"m1",
