@@ -18,7 +18,7 @@ use xc_words::{MOST, Words, count_left};
 
 /// The most nodes that a count may visit for the solutions that are still to be passed over. Without it a count below a
 /// search of all of them would have no bound.
-const MOST_NODES: u64 = 1 << 16;
+const MOST_NODES: u64 = 1 << 18;
 
 /// Where what is left is gathered, and hints from how many levels on it is little.
 #[derive(Drop)]
