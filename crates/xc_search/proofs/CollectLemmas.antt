@@ -1,30 +1,25 @@
 -- The open items, and the options that are left, as they are collected.
 use Rattle.std.proofs.Common.{ℕ, ◌≡◌, ◌<◌, ◌≤◌, ◌+◌, ◌*◌, ◌-◌, ◌≢◌, ◌⊎◌, inl, inr, Bool, true, false, List, [], ◌∷◌}
 use Rattle.std.proofs.Common.{length, take, filter, map, Some, None, refl, sym, ap, ◌∙◌, subst, arith, zero, suc, ltb}
-use Rattle.std.proofs.Common.{◌++◌, set, get_or, IsTrue, ◌↔◌}
-use Rattle.std.specs.Prelude.{slice_get, All, flat_map, unwrap_or, ◌==◌}
+use Rattle.std.proofs.Common.{◌++◌, set, get_or}
+use Rattle.std.specs.Prelude.{slice_get, flat_map, unwrap_or, ◌==◌}
 use Rattle.std.specs.List.{AllByRecursion, range_with_len}
-use Rattle.std.proofs.lemmas.List.{take_more_set, append-nil, append_assoc, length-set, take_all}
-use Rattle.std.proofs.lemmas.List.Elements.{recursion_from_All, All-from_recursion}
-use Rattle.std.proofs.lemmas.Bool.{false≢true}
+use Rattle.std.proofs.lemmas.List.{take_more_set, append-nil, append_assoc, length-set}
 use Rattle.std.proofs.lemmas.Grind.{flat_map-append}
 use Rattle.std.proofs.lemmas.Option.{slice_get-get_or}
-use Rattle.xc_input.specs.declared.problem.Use.{Use}
-use Rattle.xc_input.specs.Named.{Named, IsSound}
-use Rattle.xc_input.specs.Problem.{Puzzle, Numbered, IsValid, IsItem, IsPrimary, IsSoundUse, IsSoundOption, uses_of}
-use Rattle.xc_input.specs.Problem.{primary_count, item_count, option_count}
-use Rattle.xc_input.proofs.ListLemmas.{by_bool, by_number, by_option, each_weaker, each_both, each-filter, each_passes}
-use Rattle.xc_input.proofs.ListLemmas.{each_at, each-append}
+use Rattle.xc_input.specs.Problem.{Puzzle, Numbered, IsValid, IsItem, IsPrimary, uses_of}
+use Rattle.xc_input.specs.Problem.{primary_count, option_count}
+use Rattle.xc_input.proofs.ListLemmas.{by_option, each_weaker, each_both, each-filter, each_passes}
+use Rattle.xc_input.proofs.ListLemmas.{each_at}
 use Rattle.xc_moves.specs.declared.dance.Move.{Move}
-use Rattle.xc_moves.specs.declared.dance.Move.TheVariants.{Purify}
 use Rattle.xc_moves.specs.Commits.{IsListedAt, IsUseAt, first_primary, option_at}
 use Rattle.xc_moves.specs.Places.{link_place, first_above}
-use Rattle.xc_moves.specs.Moves.{open_items, next_above, IsOpenPrimary, IsLegal, listed, listed_numbers, is_open}
-use Rattle.xc_moves.proofs.PlaceLemmas.{at_option, take_more-get, behind_items}
+use Rattle.xc_moves.specs.Moves.{open_items, next_above, IsOpenPrimary, listed, listed_numbers, is_open}
+use Rattle.xc_moves.proofs.PlaceLemmas.{take_more-get, behind_items}
 use Rattle.xc_moves.proofs.PlaceAnswers.{listed_use, next_contained}
 use Rattle.xc_moves.proofs.MoveLemmas.{next_above-split, next_above-none, next_above-open, next_above-gt, above_all}
 use Rattle.xc_moves.proofs.MoveLemmas.{rises_listed, holders, IsHolder}
-use Rattle.xc_search.specs.inner.Few.{owned, collected, IsSettled}
+use Rattle.xc_search.specs.inner.Few.{owned, collected}
 use Rattle.xc_search.proofs.ResidualLemmas.{open_rises}
 
 -- ======== Open items.
@@ -91,42 +86,6 @@ open_at p q t is k same e lt = subst (λ r. IsOpenPrimary r t (get_or is k 0)) (
 pub is_item : (p : Puzzle) (t : List Move) (i : ℕ) → IsOpenPrimary p t i → IsItem p i
 is_item p t i h = (h.0.0, omega (arith, h.0.1))
 
--- ======== Options that give open items no colour.
-
--- the use gives no open item a colour
-abbrev pub HasNone : List Move → Use → Type 0
-HasNone t u = (u.colour ≡ 0) ⊎ (is_open u.item t ≡ false)
-
-sound_use : (p : Puzzle) (o k : ℕ) (u : Use) → IsValid p → slice_get (uses_of p o) k ≡ Some u → IsSoundUse p u
-sound_use p o k u valid e = each_at (IsSoundUse p) (uses_of p o) k u
-    (at_option (IsSoundOption p) (AllByRecursion (IsSoundUse p)) p tt
-    (λ us s. recursion_from_All (IsSoundUse p) us s.sound) valid.options o) e
-
--- a use that no Purify could be made for
-pub use_none : (a : Named) (p : Puzzle) (t : List Move) (o k : ℕ) (us : List Use) (u : Use) (can : Bool) → IsSound a
-    → p ≡ a.puzzle → us ≡ uses_of a.puzzle o → slice_get us k ≡ Some u
-    → (IsTrue can ↔ IsLegal p t (Purify u.item u.colour)) → can ≡ false → HasNone t u
-use_none a p t o k us u can sound same is e tells cannot = by_bool (is_open u.item t)
-    (λ yes. by_number u.colour (λ z. inl z) (λ c some.
-    let sound_here = sound_use a.puzzle o k u sound.valid (ap (λ vs. slice_get vs k) (sym is) ∙ e) in
-    let count : primary_count p ≡ primary_count a.puzzle = ap primary_count same in
-    let items : item_count p ≡ item_count a.puzzle = ap item_count same in
-    let high : primary_count p < u.item = grind (arith, sound_here, count, some) in
-    let legal : IsLegal p t (Purify u.item u.colour) =
-    ((high, omega (arith, sound_here.0.1, items)), yes, omega (arith, some)) in
-    absurd (false≢true (sym cannot ∙ tells.1 legal))))
-    (λ shut. inr shut)
-
-pub uses_on : (t : List Move) (us : List Use) (k : ℕ) (u : Use) → AllByRecursion (HasNone t) (take k us)
-    → slice_get us k ≡ Some u → HasNone t u → AllByRecursion (HasNone t) (take (k + 1) us)
-uses_on t us k u each e none = subst (AllByRecursion (HasNone t)) (sym (take_more-get us k u e))
-    (each-append (HasNone t) (take k us) (u ∷ []) each (none, tt))
-
-pub uses_end : (p : Puzzle) (t : List Move) (o k : ℕ) (us : List Use) → us ≡ uses_of p o
-    → AllByRecursion (HasNone t) (take k us) → length us ≤ k → IsSettled p t o
-uses_end p t o k us is each all = subst (λ us. All (HasNone t) us) (take_all k us all ∙ is)
-    (All-from_recursion (HasNone t) (take k us) each)
-
 -- ======== Options that are left.
 
 -- an option's first primary item is this one
@@ -146,12 +105,11 @@ own_numbers : (p : Puzzle) (t : List Move) (i : ℕ) → map (λ o. o.number) (o
 own_numbers p t i = owned_numbers p i (listed p t i) (each_weaker (IsHolder p i) (λ o. uses_of p o.number ≡ o.uses) _
     (λ o h. h.0) (holders p t i))
 
--- The first n of these are the options of the items so far, each settled.
+-- The first n of these are the options of the items so far.
 pub record AreTaken (p : Puzzle) (t : List Move) (gone : List ℕ) (n : ℕ) (into : List ℕ) : Type 0 where
   pub few : n ≤ 64
   pub full : length into ≡ 64
   pub taken : take n into ≡ gone
-  pub settled : AllByRecursion (IsSettled p t) (take n into)
 
 -- They are those, and the options of item i up to the one before the place in its list.
 pub record AreTakenTo (p : Puzzle) (t : List Move) (i : ℕ) (gone : List ℕ) (n : ℕ) (into : List ℕ) (place : ℕ)
@@ -161,12 +119,11 @@ pub record AreTakenTo (p : Puzzle) (t : List Move) (i : ℕ) (gone : List ℕ) (
   pub last : ℕ
   pub taken : take n into ++ filter (is_own p i) (filter (λ x. ltb last x) (listed_numbers p t i))
       ≡ gone ++ filter (is_own p i) (listed_numbers p t i)
-  pub settled : AllByRecursion (IsSettled p t) (take n into)
   pub place_is : place ≡ link_place p i (first_above 0 last (listed_numbers p t i))
   pub option_is : option_at p i place ≡ next_above last (listed_numbers p t i)
 
 pub taken_none : (p : Puzzle) (t : List Move) (into : List ℕ) → length into ≡ 64 → AreTaken p t [] 0 into
-taken_none p t into full = record { few = omega arith; full = full; taken = refl; settled = tt }
+taken_none p t into full = record { few = omega arith; full = full; taken = refl }
 
 -- at the first option of item i
 pub taken_first : (p : Puzzle) (t : List Move) (i : ℕ) (gone : List ℕ) (n : ℕ) (into : List ℕ) (place : ℕ)
@@ -179,7 +136,6 @@ taken_first p t i gone n into place a is option = record {
   taken = ap (λ l. take n into ++ filter (is_own p i) l)
       (above_all 0 (listed_numbers p t i) (rises_listed p t i))
       ∙ ap (λ l. l ++ filter (is_own p i) (listed_numbers p t i)) a.taken;
-  settled = a.settled;
   place_is = is;
   option_is = option;
 }
@@ -219,7 +175,6 @@ taken_passed p t i {gone} {n} {into} next a o other is option =
       last = o.x;
       taken = ap (λ l. take n into ++ l) (sym skip) ∙ ap (λ l. take n into ++ filter (is_own p i) l) (sym rest)
           ∙ a.taken;
-      settled = a.settled;
       place_is = is;
       option_is = option;
     }
@@ -227,10 +182,10 @@ taken_passed p t i {gone} {n} {into} next a o other is option =
 -- it is
 pub taken_more : (p : Puzzle) (t : List Move) (i : ℕ) {gone : List ℕ} {n : ℕ} {into : List ℕ} {place : ℕ} (next : ℕ)
     → (a : AreTakenTo p t i gone n into place) → (o : OptionThere p t i a.last place) → is_own p i o.x ≡ true → n < 64
-    → IsSettled p t o.x → next ≡ link_place p i (first_above 0 o.x (listed_numbers p t i))
+    → next ≡ link_place p i (first_above 0 o.x (listed_numbers p t i))
     → option_at p i next ≡ next_above o.x (listed_numbers p t i)
     → AreTakenTo p t i gone (n + 1) (set into n o.x) next
-taken_more p t i {gone} {n} {into} next a o own lt settled is option =
+taken_more p t i {gone} {n} {into} next a o own lt is option =
     let rest = next_above-split 0 a.last o.x (listed_numbers p t i) (rises_listed p t i) o.next in
     let later = filter (is_own p i) (filter (λ y. ltb o.x y) (listed_numbers p t i)) in
     let first : filter (is_own p i) (o.x ∷ filter (λ y. ltb o.x y) (listed_numbers p t i)) ≡ o.x ∷ later =
@@ -243,8 +198,6 @@ taken_more p t i {gone} {n} {into} next a o own lt settled is option =
       taken = ap (λ l. l ++ later) more ∙ append_assoc (take n into) (o.x ∷ []) later
           ∙ ap (λ l. take n into ++ l) (sym first) ∙ ap (λ l. take n into ++ filter (is_own p i) l) (sym rest)
           ∙ a.taken;
-      settled = subst (AllByRecursion (IsSettled p t)) (sym more)
-          (each-append (IsSettled p t) (take n into) (o.x ∷ []) a.settled (settled, tt));
       place_is = is;
       option_is = option;
     }
@@ -260,13 +213,13 @@ passed_on p t i {gone} {n} {m} {into} {out} next a o count list other is option 
 
 pub more_on : (p : Puzzle) (t : List Move) (i : ℕ) {gone : List ℕ} {n m y : ℕ} {into out : List ℕ} {place : ℕ}
     (next : ℕ) → (a : AreTakenTo p t i gone n into place) → (o : OptionThere p t i a.last place) → m ≡ n + 1
-    → out ≡ set into n y → y ≡ o.x → is_own p i o.x ≡ true → n < 64 → IsSettled p t y
+    → out ≡ set into n y → y ≡ o.x → is_own p i o.x ≡ true → n < 64
     → next ≡ link_place p i (first_above 0 o.x (listed_numbers p t i))
     → option_at p i next ≡ next_above o.x (listed_numbers p t i) → AreTakenTo p t i gone m out next
-more_on p t i {gone} {n} {m} {y} {into} {out} next a o count list same own lt settled is option =
+more_on p t i {gone} {n} {m} {y} {into} {out} next a o count list same own lt is option =
     subst (λ k. AreTakenTo p t i gone k out next) (sym count)
     (subst (λ l. AreTakenTo p t i gone (n + 1) l next) (ap (set into n) (sym same) ∙ sym list)
-    (taken_more p t i next a o own lt (subst (IsSettled p t) same settled) is option))
+    (taken_more p t i next a o own lt is option))
 
 -- at the item's own node all were met
 pub taken_all : (p : Puzzle) (t : List Move) (is : List ℕ) (k i : ℕ) {n : ℕ} {into : List ℕ} {place : ℕ} → IsValid p
@@ -292,7 +245,6 @@ taken_all p t is k i {n} {into} {place} valid item e a own =
       taken = sym (append-nil (take n into)) ∙ ap (λ l. take n into ++ filter (is_own p i) l) (sym rest) ∙ a.taken
           ∙ ap (λ l. collected p t (take k is) ++ l) (sym (own_numbers p t i) ∙ sym (append-nil _))
           ∙ sym (flat_map-append _ (take k is) (i ∷ [])) ∙ ap one (sym (take_more-get is k i e));
-      settled = a.settled;
     }
 
 -- what is at the next place is further on

@@ -16,7 +16,7 @@ use Rattle.xc_words.specs.declared.words.Words.{Words}
 use Rattle.xc_search.specs.Listing.{listing}
 use Rattle.xc_search.specs.Residuals.{wanted_at}
 use Rattle.xc_search.specs.inner.Levels.{IsSearchable, IsOnce, residual_of}
-use Rattle.xc_search.specs.inner.Few.{IsSettled, collected, AreUseWords}
+use Rattle.xc_search.specs.inner.Few.{collected, AreUseWords}
 use Rattle.xc_search.proofs.ListingLemmas.{none_listed}
 use Rattle.xc_search.proofs.ResidualLemmas.{once_more}
 use Rattle.xc_search.proofs.LeftProper.{in_open, open_in, option_left, proper_left}
@@ -59,7 +59,6 @@ own_known p is os w left items words e f i x li lx opened stays held =
 pub record AreCollected (p : Puzzle) (t : List Move) (is os : List ℕ) (w : Words) : Type 0 where
   pub items : is ≡ open_items p t
   pub options : os ≡ collected p t is
-  pub settled : All (IsSettled p t) os
   pub words : AreUseWords p is os w
 
 -- a count that follows the words is that of what is left
@@ -73,7 +72,7 @@ one_counted : (p : Puzzle) (t : List Move) (os : List ℕ) (w : Words) → IsSea
     → Follows w (2 ^ length os - 1) (2 ^ length (open_items p t) - 1) n → n ≡ length (listing (residual_of p t))
 one_counted p t os w s once c n h =
     let items = length-map (open_items p t) (wanted_at p t) in
-    words_count _ (residual_of p t) os w (proper_left p t s) (are_words_of s once c.settled c.options c.words) n
+    words_count _ (residual_of p t) os w (proper_left p t s) (are_words_of s once c.options c.words) n
     (subst (λ k. Follows w (2 ^ length os - 1) (2 ^ k - 1) n) (sym items) h)
 
 pub few_counted : (p : Puzzle) (t : List Move) (is os : List ℕ) (w : Words) (left items : ℕ) → IsSearchable p t

@@ -6,7 +6,7 @@ use Rattle.std.proofs.Common.{take_all, get_or-set_same, get_or-set_other, ◌-�
 use Rattle.std.specs.Int.{bit_at, trailing_zeros}
 use Rattle.std.specs.List.{list_any}
 use Rattle.std.proofs.lemmas.Bool.{cases_eq, cases_lt, cases_order, eq-eqb, ne_eqb, eqb-true, lt-ltb, le-ltb}
-use Rattle.std.proofs.lemmas.Bool.{or_left, or_right, or_cases}
+use Rattle.std.proofs.lemmas.Bool.{or_left, or_cases}
 use Rattle.std.proofs.Math.Bool.{or-false, and-true}
 use Rattle.std.proofs.lemmas.Nat.{one_shl}
 use Rattle.std.proofs.lemmas.Nat.Bits.{bit_at-lt, bit_at_or, bit_at-pow_same}
@@ -17,8 +17,7 @@ use Rattle.std.proofs.lemmas.List.Folds.{list_any_more}
 use Rattle.xc_input.specs.Problem.{Puzzle, uses_of, colour_in, numbered_get}
 use Rattle.xc_input.specs.declared.problem.Use.{Use}
 use Rattle.xc_words.proofs.BitLemmas.{cleared, lowest_gone as bit_gone, others_stay, from_without}
-use Rattle.xc_search.specs.inner.Few.{share}
-use Rattle.xc_search.specs.inner.Filled.{held_at, shares_at}
+use Rattle.xc_search.specs.inner.Filled.{held_at}
 
 -- a word's bits are set where f holds
 abbrev pub Tells : ℕ → (ℕ → Bool) → Type 0
@@ -53,7 +52,7 @@ one_of a b c la lb e = elim (cases_eq a 1) [
 pub or_bit : (a b y : ℕ) → (bit_at (bit_or a b) y == 1) ≡ ((bit_at a y == 1) || (bit_at b y == 1))
 or_bit a b y = one_of (bit_at a y) (bit_at b y) _ (bit_at-lt a y) (bit_at-lt b y) (bit_at_or a b y)
 
-set_bit : (a k y : ℕ) → k < 64 → (bit_at (with_bit a k) y == 1) ≡ ((bit_at a y == 1) || (y == k))
+pub set_bit : (a k y : ℕ) → k < 64 → (bit_at (with_bit a k) y == 1) ≡ ((bit_at a y == 1) || (y == k))
 set_bit a k y within = or_bit a (1 * 2 ^ k % 2 ^ 64) y ∙ ap (λ t. (bit_at a y == 1) || t) (one_bit k y within)
 
 -- ---- a word without its lowest bit
@@ -74,7 +73,8 @@ from_rest n y e = eq-eqb (bit_at n y) 1 (from_without n (n - 1) y (eqb-true (bit
 
 -- ---- uses
 
-some_by : (b : Bool) (c : ℕ) (o : Option ℕ) (r : Bool) → is_some o ≡ r → is_some (if b then Some c else o) ≡ (b || r)
+pub some_by : (b : Bool) (c : ℕ) (o : Option ℕ) (r : Bool) → is_some o ≡ r
+    → is_some (if b then Some c else o) ≡ (b || r)
 some_by true c o r e = refl
 some_by false c o r e = e
 
@@ -113,7 +113,7 @@ written ws x w P room here before k h = elim (cases_lt k x) [
 
 -- ---- words of the first options
 
-set_here : (s q h : Bool) → ((s || (q && h)) || q) ≡ (s || (q && (h || true)))
+pub set_here : (s q h : Bool) → ((s || (q && h)) || q) ≡ (s || (q && (h || true)))
 set_here true q h = refl
 set_here false true true = refl
 set_here false true false = refl
@@ -175,46 +175,6 @@ told_whole p os n j y all = elim (cases_lt y n) [
       ∙ sym (ap (λ o. is_some (colour_in (uses_of p o) j)) (get_or_past os y 0 (omega (arith, past, all))))
 ]
 
--- ---- what two options share
-
-pub shares_more : (hs : List ℕ) (us : List Use) (k y : ℕ) (d : Use) → k < length us
-    → shares_at hs (take (k + 1) us) y ≡ (shares_at hs (take k us) y
-    || (((get_or us k d).colour == 0) && (bit_at (get_or hs (get_or us k d).item 0) y == 1)))
-shares_more hs us k y d within =
-    list_any_more (λ u. (u.colour == 0) && (bit_at (get_or hs u.item 0) y == 1)) us k d within
-
-pub share_taken : (a w y c : ℕ) (s : Bool) → c ≡ 0 → (bit_at a y == 1) ≡ s
-    → (bit_at (bit_or a w) y == 1) ≡ (s || ((c == 0) && (bit_at w y == 1)))
-share_taken a w y c s none before = or_bit a w y ∙ ap (λ t. t || (bit_at w y == 1)) before
-    ∙ sym (ap (λ t. s || ((t == 0) && (bit_at w y == 1))) none)
-
-pub share_passed : (a w y c : ℕ) (s : Bool) → c ≢ 0 → (bit_at a y == 1) ≡ s
-    → (bit_at a y == 1) ≡ (s || ((c == 0) && (bit_at w y == 1)))
-share_passed a w y c s some before = before ∙ sym (or-false s)
-    ∙ sym (ap (λ t. s || (t && (bit_at w y == 1))) (ne_eqb c 0 some))
-
-shares_same : (hs : List ℕ) (us vs : List Use) (y : ℕ)
-    → ((j : ℕ) → is_some (colour_in us j) ≡ true → (bit_at (get_or hs j 0) y == 1) ≡ is_some (colour_in vs j))
-    → shares_at hs us y ≡ share us vs
-shares_same hs [] vs y tells = refl
-shares_same hs (u ∷ us) vs y tells =
-    let head = tells u.item (some_by (u.item == u.item) u.colour (colour_in us u.item) _ refl
-    ∙ or_left (u.item == u.item) (is_some (colour_in us u.item)) (eq-eqb u.item u.item refl)) in
-    let tail = shares_same hs us vs y (λ j h. tells j (some_by (u.item == j) u.colour (colour_in us j) _ refl
-    ∙ or_right (u.item == j) (is_some (colour_in us j)) h)) in
-    ap (λ t. ((u.colour == 0) && t) || shares_at hs us y) head
-    ∙ ap (λ t. ((u.colour == 0) && is_some (colour_in vs u.item)) || t) tail
-
-pub share_told : (p : Puzzle) (os hs : List ℕ) (us : List Use) (x y : ℕ)
-    → numbered_get p.options (get_or os x 0) ≡ Some us
-    → ((z j : ℕ) → held_at p os j z ≡ true → Tells (get_or hs j 0) (held_at p os j))
-    → shares_at hs us y ≡ share (uses_of p (get_or os x 0)) (uses_of p (get_or os y 0))
-share_told p os hs us x y is tells =
-    let uses = uses_are p (get_or os x 0) us is in
-    shares_same hs us (uses_of p (get_or os y 0)) y
-    (λ j h. tells x j (ap (λ v. is_some (colour_in v j)) uses ∙ h) y)
-    ∙ ap (λ v. share v (uses_of p (get_or os y 0))) (sym uses)
-
 -- ---- the items of options
 
 set_taken : (s q h : Bool) → (q ≡ true → h ≡ true) → ((s || (q && (h && false))) || q) ≡ (s || (q && (h && true)))
@@ -245,7 +205,7 @@ turned_on alone rest left t i k y s h small room one gone kept known before =
           ∙ ap (λ b. s || ((k == i) && (h && not b))) (sym (kept ne))
     ]
 
-up_to : (k i : ℕ) (h : Bool) → ((nat_lt k i && h) || ((k == i) && h)) ≡ (nat_lt k (i + 1) && h)
+pub up_to : (k i : ℕ) (h : Bool) → ((nat_lt k i && h) || ((k == i) && h)) ≡ (nat_lt k (i + 1) && h)
 up_to k i h = elim (cases_order k i) [
   | inl e ↦
       ap (λ t. (t && h) || ((k == i) && h)) (le-ltb k i (omega (arith, e))) ∙ ap (λ t. t && h) (eq-eqb k i e)

@@ -1,10 +1,9 @@
 -- The words of the open items and the options that are left are those of what is left.
 use Rattle.std.proofs.Common.{ℕ, zero, suc, ◌≡◌, ◌≢◌, List, [], ◌∷◌, Some, arith, ap, subst, sym, ◌∙◌, map}
-use Rattle.std.specs.Prelude.{slice_get, All, AllPairs, is_some}
+use Rattle.std.specs.Prelude.{slice_get, AllPairs, is_some}
 use Rattle.std.proofs.lemmas.List.{length-map}
-use Rattle.std.proofs.lemmas.List.Elements.{recursion_from_All}
 use Rattle.xc_input.specs.Problem.{Puzzle, Numbered, uses_of, colour_in}
-use Rattle.xc_input.proofs.ListLemmas.{IsIn, in-slice_get, slice_get-in, AllPairs-from_each_two, each_at}
+use Rattle.xc_input.proofs.ListLemmas.{IsIn, in-slice_get, slice_get-in, AllPairs-from_each_two}
 use Rattle.xc_moves.specs.declared.dance.Move.{Move}
 use Rattle.xc_moves.specs.inner.Left.{left}
 use Rattle.xc_moves.specs.Moves.{open_items}
@@ -12,7 +11,7 @@ use Rattle.xc_words.specs.declared.words.Words.{Words}
 use Rattle.xc_search.specs.Listing.{Wanted}
 use Rattle.xc_search.specs.Residuals.{wanted_at, wanted_after}
 use Rattle.xc_search.specs.inner.Levels.{IsSearchable, IsOnce, residual_of}
-use Rattle.xc_search.specs.inner.Few.{IsSettled, share, collected, AreUseWords, AreWordsOf}
+use Rattle.xc_search.specs.inner.Few.{share, collected, AreUseWords, AreWordsOf}
 use Rattle.xc_search.proofs.ResidualLemmas.{has_left}
 use Rattle.xc_search.proofs.LeftProper.{in_wanted, option_left}
 use Rattle.xc_search.proofs.LeftShares.{stays_shares}
@@ -26,7 +25,7 @@ item_at p t (j ∷ is) zero w e = let same : wanted_at p t j ≡ w = cc in ap (�
 item_at p t (j ∷ is) (suc i) w e = item_at p t is i w e
 
 module _ {p : Puzzle} {t : List Move} {os : List ℕ} {w : Words} (s : IsSearchable p t) (once : IsOnce p)
-    (settled : All (IsSettled p t) os) (whole : os ≡ collected p t (open_items p t))
+    (whole : os ≡ collected p t (open_items p t))
     (words : AreUseWords p (open_items p t) os w) where
   wanted_once : (v : Wanted) → IsIn (wanted_after p t) v → (v.low ≡ 1) × (v.high ≡ 1)
   wanted_once v h =
@@ -63,6 +62,5 @@ module _ {p : Puzzle} {t : List Move} {os : List ℕ} {w : Words} (s : IsSearcha
     apart = λ i j x y o q e f g h.
         words.apart x y o.number q.number g h
         ∙ ap (λ us. share us (uses_of p q.number)) (uses_at i o e) ∙ ap (λ us. share o.uses us) (uses_at j q f)
-        ∙ sym (stays_shares p t s once o q (in-slice_get (left p t) i o e) (in-slice_get (left p t) j q f)
-        (each_at (IsSettled p t) os x o.number (recursion_from_All (IsSettled p t) os settled) g));
+        ∙ sym (stays_shares p t s once o q (in-slice_get (left p t) i o e));
   }

@@ -21,4 +21,5 @@ pub mod LeftShares
 pub mod LeftCollected
 pub mod LeftWords
 pub mod FillLemmas
+pub mod ColourLemmas
 pub mod FewLemmas

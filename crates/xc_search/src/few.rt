@@ -2,10 +2,11 @@
 mod collecting;
 mod filling;
 
-ghost use Rattle.std.specs.Prelude.{◌≡◌, ◌<◌, ◌≤◌, ◌^◌, ◌-◌, length, take, IfSome};
+ghost use Rattle.std.specs.Prelude.{ℕ, ◌≡◌, ◌<◌, ◌≤◌, ◌^◌, ◌-◌, length, take, IfSome};
 ghost use Rattle.xc_input.specs.Problem.{item_count};
 ghost use Rattle.xc_moves.specs.Moves.{open_items};
 ghost use Rattle.xc_search.specs.Listing.{listing};
+ghost use Rattle.xc_search.specs.inner.Filled.{HasColourRoom};
 ghost use Rattle.xc_search.specs.inner.Levels.{IsSearchable, IsOnce, residual_of};
 
 use crate::counts::count_primary;
@@ -30,6 +31,8 @@ pub struct Few {
     options: [u32; 64],
     /// By item, the options that hold it.
     holders: Vec<u64>,
+    /// By item and colour, if there are colours, the options that give the item this colour.
+    coloured: Vec<u64>,
     /// From how many levels on it is tried.
     from: usize,
     /// How many primary items an option holds, about.
@@ -44,14 +47,17 @@ pub struct Few {
 }
 
 impl Few {
-    /// Room for any problem with as many items, and hints for this one. Each count asks whether there is room.
+    /// Room for any problem with as many items and colours, and hints for this one. Each count asks whether there is
+    /// room.
     pub fn new(alloc: Global, problem: &Problem) -> Result<Few, AllocError> {
         let holders = vec![in alloc; 0; problem.items() as usize + 1]?;
+        let coloured = vec![in alloc; 0; coloured_len(problem)]?;
         Ok(Few {
             words: Words::new(),
             items: [0; 64],
             options: [0; 64],
             holders,
+            coloured,
             from: 1,
             each: most_held(problem),
             wait: 0,
@@ -84,10 +90,10 @@ impl Few {
     }
 
     /// Notes that a count over so many options took so many nodes. Where these are few, moves would have taken as long:
-    /// then the next tries are passed over, twice as many as before and one, up to 63.
+    /// then the next tries are passed over, four times as many as before and three, up to 255.
     fn weigh(&mut self, nodes: u64, options: usize) {
         self.pause = if nodes < options as u64 / 2 {
-            self.pause.min(31) * 2 + 1
+            self.pause.min(63) * 4 + 3
         } else {
             0
         };
@@ -111,6 +117,9 @@ impl Few {
         ensures within { IfSome result (λ n. n ≤ most) }
     {
         if self.holders.len() <= problem.items() as usize {
+            return None;
+        }
+        if self.coloured.len() < coloured_len(problem) {
             return None;
         }
         match collect_items(dance, &mut self.items, self.each * MOST) {
@@ -138,6 +147,7 @@ impl Few {
         requires searchable { IsSearchable problem.now.puzzle (D.state dance.now).trail }
         requires some { 0 < most }
         requires room { item_count problem.now.puzzle < length self.old.holders.items }
+        requires colour_room { HasColourRoom problem.now (length self.old.coloured.items) }
         requires few { items ≤ 64 }
         requires opened { take items self.old.items ≡ open_items problem.now.puzzle (D.state dance.now).trail }
         ensures counted { IfSome result (λ n.
@@ -155,6 +165,7 @@ impl Few {
             items,
             options,
             self.holders.as_mut_slice(),
+            self.coloured.as_mut_slice(),
             &mut self.words,
         );
         let many = options.len();
@@ -194,7 +205,7 @@ fn most_held(problem: &Problem) -> usize
     ensures few { result ≤ 64 }
 {
     let mut each: usize = 1;
-    for o in 0..problem.options().min(1000) {
+    for o in 0..problem.options().min(100) {
         each = each.max(count_primary(problem, problem.option(o + 1)));
     }
     each.min(MOST)
@@ -206,4 +217,20 @@ fn full(n: usize) -> u64
     ensures { result ≡ 2 ^ n - 1 }
 {
     if n == MOST { u64::MAX } else { (1u64 << n) - 1 }
+}
+
+/// Whether items and colours are so few that the words for them take no more than a MiB. A count reads few of them, but
+/// all are there from the start.
+pub fn are_colours_few(problem: &Problem) -> bool {
+    coloured_len(problem) <= 1 << 17
+}
+
+/// How many words there are by item and colour.
+fn coloured_len(problem: &Problem) -> usize
+    ensures { (n : ℕ) → n < 2 ^ 63 → result ≤ n → HasColourRoom problem.now n }
+{
+    if problem.colours() == 0 {
+        return 0;
+    }
+    (problem.items() as usize + 1).saturating_mul(problem.colours() as usize + 1)
 }

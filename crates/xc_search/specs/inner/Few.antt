@@ -1,12 +1,12 @@
 -- No public clause cites this module. What is left of a problem, as lists of numbers and as words of bits.
-use Rattle.std.specs.Prelude.{ℕ, ◌≡◌, ◌<◌, ◌≤◌, ◌≢◌, ◌⊎◌, ◌^◌, Bool, false, List, All, AllPairs, Some, filter, map, not}
-use Rattle.std.specs.Prelude.{◌==◌, ◌&&◌, slice_get, slice_index, length, is_some, flat_map}
+use Rattle.std.specs.Prelude.{ℕ, ◌≡◌, ◌<◌, ◌≤◌, ◌≢◌, ◌^◌, Bool, List, AllPairs, Some, filter, map, not}
+use Rattle.std.specs.Prelude.{◌==◌, slice_get, slice_index, length, is_some, flat_map}
 use Rattle.std.specs.Int.{bit_at}
 use Rattle.std.specs.List.{list_any}
 use Rattle.xc_input.specs.Problem.{Puzzle, Numbered, uses_of, colour_in, holds}
 use Rattle.xc_input.specs.declared.problem.Use.{Use}
 use Rattle.xc_moves.specs.declared.dance.Move.{Move}
-use Rattle.xc_moves.specs.Moves.{listed, is_open}
+use Rattle.xc_moves.specs.Moves.{listed, agrees}
 use Rattle.xc_moves.specs.Commits.{first_primary}
 use Rattle.xc_words.specs.declared.words.Words.{Words}
 use Rattle.xc_search.specs.Listing.{Wanted, Residual, stays}
@@ -19,16 +19,12 @@ owned p i os = filter (λ o. first_primary p o.uses == i) os
 abbrev pub collected : Puzzle → List Move → List ℕ → List ℕ
 collected p t is = flat_map (λ i. map (λ o. o.number) (owned p i (listed p t i))) is
 
--- the option gives no open item a colour
-abbrev pub IsSettled : Puzzle → List Move → ℕ → Type 0
-IsSettled p t o = All (λ u. (u.colour ≡ 0) ⊎ (is_open u.item t ≡ false)) (uses_of p o)
-
--- of two options, these uses hold an item without a colour that those hold
+-- of two options, these uses hold an item that those hold too, and they don't agree on its colour
 abbrev pub share : List Use → List Use → Bool
-share us vs = list_any (λ u. u.colour == 0 && is_some (colour_in vs u.item)) us
+share us vs = list_any (λ u. not (agrees u.colour (colour_in vs u.item))) us
 
 -- The words are those of these items and options, each at its bit: of each item the options that hold it, and of each
--- option its items and the options that share an item with it.
+-- option its items and the options that share an item with it on which they don't agree.
 pub record AreUseWords (p : Puzzle) (is os : List ℕ) (w : Words) : Type 0 where
   pub few_items : length is ≤ 64
   pub few_options : length os ≤ 64

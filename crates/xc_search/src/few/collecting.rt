@@ -1,11 +1,11 @@
 //! The open items and the options that are left.
-ghost use Rattle.std.specs.Prelude.{◌≡◌, ◌≤◌, ◌⊎◌, ℕ, length, take, All, Any, IfSome, IsTrue, ◌↔◌, true, false};
-ghost use Rattle.xc_input.specs.Problem.{IsValid, IsOption, uses_of};
+ghost use Rattle.std.specs.Prelude.{◌≡◌, ◌≤◌, ◌⊎◌, ℕ, length, take, IfSome};
+ghost use Rattle.xc_input.specs.Problem.{IsValid};
 ghost use Rattle.xc_moves.specs.Moves.{AreLegal, IsOpenPrimary, listed, open_items};
-ghost use Rattle.xc_search.specs.inner.Few.{collected, IsSettled};
+ghost use Rattle.xc_search.specs.inner.Few.{collected};
 
 use xc_input::Problem;
-use xc_moves::{Dance, Move};
+use xc_moves::Dance;
 use xc_words::MOST;
 
 /// The open items.
@@ -61,7 +61,7 @@ fn beside<D: Dance>(dance: &D, from: u32, items: usize) -> usize
     seen.saturating_sub(MOST)
 }
 
-/// The options that are left, if they are few, and none has a colour that is still to be agreed on.
+/// The options that are left, if they are few.
 pub fn collect_options<D: Dance>(
     dance: &D,
     problem: &Problem,
@@ -75,8 +75,6 @@ pub fn collect_options<D: Dance>(
     ensures few { IfSome result (λ n. n ≤ 64) }
     ensures collected { IfSome result (λ n.
         take n into.new ≡ collected problem.now.puzzle (D.state dance.now).trail items.now) }
-    ensures settled { IfSome result (λ n.
-        All (IsSettled problem.now.puzzle (D.state dance.now).trail) (take n into.new)) }
 {
     let mut options: usize = 0;
     for i in items {
@@ -85,7 +83,7 @@ pub fn collect_options<D: Dance>(
         while place != i {
             if dance.is_first_at(problem, i, place) {
                 let x = dance.option_of(problem, i, place);
-                if options == MOST || has_open_colour(dance, problem, x) {
+                if options == MOST {
                     return None;
                 }
                 into[options] = x;
@@ -95,21 +93,4 @@ pub fn collect_options<D: Dance>(
         }
     }
     Some(options)
-}
-
-/// Whether the option gives an open item a colour.
-fn has_open_colour<D: Dance>(dance: &D, problem: &Problem, o: u32) -> bool
-    requires same { (D.state dance.now).puzzle ≡ problem.now.puzzle }
-    requires option { IsOption problem.now.puzzle o }
-    ensures { result ≡ false → IsSettled problem.now.puzzle (D.state dance.now).trail o }
-{
-    if problem.colours() == 0 {
-        return false;
-    }
-    for u in problem.option(o) {
-        if u.colour != 0 && dance.can(&Move::Purify(u.item, u.colour)) {
-            return true;
-        }
-    }
-    false
 }

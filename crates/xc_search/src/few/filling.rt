@@ -1,19 +1,21 @@
 //! The words of items and options.
-ghost use Rattle.std.specs.Prelude.{◌≡◌, ◌<◌, ◌≤◌, ◌==◌, ◌^◌, ℕ, length, slice_index, All, true};
+ghost use Rattle.std.specs.Prelude.{◌≡◌, ◌<◌, ◌≤◌, ◌==◌, ◌^◌, ◌⊎◌, ℕ, length, slice_index, All, true};
 ghost use Rattle.std.specs.Int.{bit_at};
-ghost use Rattle.xc_input.specs.Problem.{IsItem, IsOption, item_count};
+ghost use Rattle.xc_input.specs.Problem.{IsItem, IsOption, item_count, uses_of};
 ghost use Rattle.xc_search.specs.inner.Few.{AreUseWords};
-ghost use Rattle.xc_search.specs.inner.Filled.{held_at, TellsHolders, shares_at};
+ghost use Rattle.xc_search.specs.inner.Filled.{held_at, TellsHolders, gives, TellsColour, colour_place, HasColourRoom};
+ghost use Rattle.xc_search.specs.inner.Filled.{differs_at, shares_at};
 
 use xc_input::{Problem, Use};
 use xc_words::Words;
 
-/// Fills the words of these items and options. `holders` is by item.
+/// Fills the words of these items and options. `holders` is by item, `coloured` by item and colour.
 pub fn fill(
     problem: &Problem,
     items: &[u32],
     options: &[u32],
     holders: &mut [u64],
+    coloured: &mut [u64],
     words: &mut Words,
 )
     requires items { All (IsItem problem.now.puzzle) items.now }
@@ -21,11 +23,14 @@ pub fn fill(
     requires few_items { length items.now ≤ 64 }
     requires few_options { length options.now ≤ 64 }
     requires room { item_count problem.now.puzzle < length holders.old }
+    requires colour_room { HasColourRoom problem.now (length coloured.old) }
     ensures { AreUseWords problem.now.puzzle items.now options.now words.new }
 {
     note_holders(problem, items, options, holders);
+    note_colours(problem, options, coloured);
+    let colours = problem.colours();
     for x in 0..options.len() {
-        words.apart[x] = all_apart(problem.option(options[x]), holders);
+        words.apart[x] = all_apart(problem.option(options[x]), holders, coloured, colours);
         words.alone[x] = 0;
     }
     for i in 0..items.len() {
@@ -72,16 +77,75 @@ fn note_holders(problem: &Problem, items: &[u32], options: &[u32], holders: &mut
     }
 }
 
-/// The options that share with these uses an item that isn't purified.
-fn all_apart(uses: &[Use], holders: &[u64]) -> u64
-    requires items { All (λ u. u.item < length holders.now) uses.now }
-    ensures { (y : ℕ) → (bit_at result y == 1) ≡ shares_at holders.now uses.now y }
+/// Notes for each item with a colour that these options give it, which of the options do.
+fn note_colours(problem: &Problem, options: &[u32], coloured: &mut [u64])
+    requires options { All (IsOption problem.now.puzzle) options.now }
+    requires few_options { length options.now ≤ 64 }
+    requires room { HasColourRoom problem.now (length coloured.old) }
+    ensures { let n = length problem.now.colours in (x j c : ℕ) → 0 < c → c ≤ n
+        → gives (uses_of problem.now.puzzle (slice_index options.now x)) j c ≡ true
+        → TellsColour problem.now.puzzle options.now j c (slice_index coloured.new (colour_place n j c)) }
 {
-    let mut apart = 0u64;
-    for u in uses {
-        if u.colour == 0 {
-            apart |= holders[u.item as usize];
+    let colours = problem.colours();
+    if colours == 0 {
+        return;
+    }
+    for o in options {
+        for u in problem.option(*o) {
+            if u.colour != 0 {
+                coloured[place_by_colour(*u, colours)] = 0;
+            }
         }
     }
+    for x in 0..options.len() {
+        for u in problem.option(options[x]) {
+            if u.colour != 0 {
+                coloured[place_by_colour(*u, colours)] |= 1u64 << x;
+            }
+        }
+    }
+}
+
+/// Where the word of the use's item and colour is, of so many colours.
+#[inline(always)]
+fn place_by_colour(u: Use, colours: u32) -> usize
+    requires { colour_place colours u.item u.colour < 2 ^ 64 }
+    ensures { result ≡ colour_place colours u.item u.colour }
+{
+    u.item as usize * (colours as usize + 1) + u.colour as usize
+}
+
+/// The options that share with these uses an item on which they don't agree, of so many colours.
+fn all_apart(uses: &[Use], holders: &[u64], coloured: &[u64], colours: u32) -> u64
+    requires items { All (λ u. u.item < length holders.now) uses.now }
+    requires colours { All (λ u. u.colour ≤ colours) uses.now }
+    requires room { All (λ u. (u.colour ≡ 0) ⊎ (colour_place colours u.item u.colour < length coloured.now)) uses.now }
+    ensures { (y : ℕ) → (bit_at result y == 1) ≡ shares_at colours holders.now coloured.now uses.now y }
+{
+    let mut apart = 0u64;
+    // Without colours each item is shared by all that hold it. A loop of its own, since it takes half as long.
+    if colours == 0 {
+        for u in uses {
+            apart |= holders[u.item as usize];
+        }
+        return apart;
+    }
+    for u in uses {
+        apart |= differing(*u, holders, coloured, colours);
+    }
     apart
+}
+
+/// The options that hold the use's item and don't agree on it.
+#[inline(always)]
+fn differing(u: Use, holders: &[u64], coloured: &[u64], colours: u32) -> u64
+    requires item { u.item < length holders.now }
+    requires colour { (u.colour ≡ 0) ⊎ (colour_place colours u.item u.colour < length coloured.now) }
+    ensures { (y : ℕ) → (bit_at result y == 1) ≡ differs_at colours holders.now coloured.now u y }
+{
+    let of = holders[u.item as usize];
+    if u.colour == 0 {
+        return of;
+    }
+    of & !coloured[place_by_colour(u, colours)]
 }

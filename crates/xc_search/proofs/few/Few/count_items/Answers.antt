@@ -28,6 +28,5 @@ returns-clause-counted g c =
     c.full.result c.full-2.result c.requires.searchable c.requires.once (record {
       items = c.requires.opened;
       options = c.in-Some.ensures.collected;
-      settled = c.in-Some.ensures.settled;
       words = c.fill.ensures;
     }) c.full.ensures c.full-2.ensures c.count_left-found.result c.count_left-found.ensures.counted

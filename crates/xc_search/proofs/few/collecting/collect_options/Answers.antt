@@ -1,8 +1,7 @@
-use Rattle.std.proofs.Common.{◌≢◌, arith, get_or, sym, subst, ◌∙◌, refl, inl, ap}
+use Rattle.std.proofs.Common.{◌≢◌, arith, get_or, sym, subst, ◌∙◌, refl, inl}
 use Rattle.std.proofs.lemmas.Option.{slice_get-get_or}
-use Rattle.xc_input.specs.Problem.{IsValid, IsItem, option_count}
+use Rattle.xc_input.specs.Problem.{IsValid, IsItem}
 use Rattle.xc_moves.specs.Moves.{IsOpenPrimary}
-use Rattle.xc_search.specs.inner.Few.{IsSettled}
 use Rattle.xc_search.proofs.CollectLemmas.{OptionThere, open_at, is_item, taken_first, there, passed_on, more_on}
 use Rattle.xc_search.proofs.CollectLemmas.{taken_all, option_nearer}
 use Rattle.xc_search.proofs.few.collecting.collect_options.Goals.{At-loop-place, else-is_first_at}
@@ -61,14 +60,6 @@ option_of-x-requires-clause-place g c =
     let o = here g (goal.at.option_of-x-requires-clause-place g c).At-loop-place c.loop-place-test.true in
     (o.x, o.use_at)
 
-pub has_open_colour-requires-clause-option : goal.has_open_colour-requires-clause-option
-has_open_colour-requires-clause-option g c =
-    let o = here g (goal.at.has_open_colour-requires-clause-option g c).At-loop-place c.loop-place-test.true in
-    let known = o.use_at.known in
-    let is = c.option_of-x.ensures o.x o.use_at in
-    let same = ap option_count c.requires.same in
-    (omega (arith, known.0, is), omega (arith, known.1, is, same))
-
 pub node_below-place-requires-in-loop-place-clause-item : goal.node_below-place-requires-in-loop-place-clause-item
 node_below-place-requires-in-loop-place-clause-item g c =
     item g (goal.at.node_below-place-requires-in-loop-place-clause-item g c).At-loop-place
@@ -93,12 +84,10 @@ loop-place-preserved g c =
     let option = c.node_below-place-in-loop-place.ensures.option o.x o.listed_at in
     let first = c.is_first_at.ensures o.x o.use_at in
     elim c.if-is_first_at.branch [
-      | goal.then-is_first_at+else-options-eq-MOST+else-has_open_colour w ↦ more_on s.puzzle s.trail _
+      | goal.then-is_first_at+else-options-eq-MOST w ↦ more_on s.puzzle s.trail _
           c.node_below-place-in-loop-place.result c.loop-place.invariant o w.options-is w.into-is
           (w.option_of-x.ensures o.x o.use_at) (sym first ∙ w.if-is_first_at.true)
-          (omega (arith, c.loop-place.invariant.few, w.if-options-eq-MOST.false))
-          (subst (λ p. IsSettled p s.trail w.option_of-x.result) (sym c.requires.same)
-          (w.has_open_colour.ensures w.if-has_open_colour.false)) place option
+          (omega (arith, c.loop-place.invariant.few, w.if-options-eq-MOST.false)) place option
       | else-is_first_at w ↦ passed_on s.puzzle s.trail _ c.node_below-place-in-loop-place.result
           c.loop-place.invariant o w.options-is w.into-is (sym first ∙ w.if-is_first_at.false) place option
     ]

@@ -8,8 +8,9 @@ use Rattle.std.proofs.lemmas.Nat.{and_le_r}
 use Rattle.std.proofs.lemmas.Nat.Bits.{bit_at-trailing_zeros}
 use Rattle.xc_input.specs.Problem.{uses_of, colour_in}
 use Rattle.xc_search.specs.inner.Few.{share}
-use Rattle.xc_search.specs.inner.Filled.{held_at, TellsHolders}
-use Rattle.xc_search.proofs.FillLemmas.{lowest_gone, others_kept, from_rest, share_told, turned_on, turned_all, written}
+use Rattle.xc_search.specs.inner.Filled.{held_at, TellsHolders, shares_at}
+use Rattle.xc_search.proofs.FillLemmas.{lowest_gone, others_kept, from_rest, turned_on, turned_all, written}
+use Rattle.xc_search.proofs.ColourLemmas.{share_told, known_colours, uses_known, uses_room, room_kept}
 use Rattle.xc_search.proofs.few.filling.fill.Goals as goal
 
 pub loop-x-preserved : goal.loop-x-preserved
@@ -17,6 +18,9 @@ loop-x-preserved c =
     let os = c.args.options.now in
     let p = c.args.problem.now.puzzle in
     let ws = c.loop-x.words in
+    let us = c.option.result.now in
+    let hs = c.note_holders.new.holders in
+    let cs = c.note_colours.new.coloured in
     record {
       sizes = (
         c.loop-x.invariant.sizes.0,
@@ -26,12 +30,24 @@ loop-x-preserved c =
       apart = λ k y h. written ws.apart c.loop-x.x c.all_apart.result
           (λ z v. (bit_at v y == 1) ≡ share (uses_of p (get_or os z 0)) (uses_of p (get_or os y 0)))
           (omega (arith, c.loop-x.invariant.sizes.2, c.requires.few_options, c.loop-x-test.true))
-          (c.all_apart.ensures y ∙ share_told p os c.note_holders.new.holders c.option.result.now c.loop-x.x y
-          c.option.ensures.value c.note_holders.ensures.held) (λ z l. c.loop-x.invariant.apart z y l) k h;
+          (c.all_apart.ensures y ∙ ap (λ n. shares_at n hs cs us y) c.colours-colours.ensures.value
+          ∙ share_told p _ os hs cs us c.loop-x.x y c.colours-colours.ensures.whole.valid c.option.ensures.value
+          (known_colours c.args.problem.now us c.option.ensures.known) c.note_holders.ensures.held
+          c.note_colours.ensures) (λ z l. c.loop-x.invariant.apart z y l) k h;
       alone = written ws.alone c.loop-x.x 0 (λ z v. v ≡ 0)
           (omega (arith, c.loop-x.invariant.sizes.1, c.requires.few_options, c.loop-x-test.true)) refl
           c.loop-x.invariant.alone;
     }
+
+pub all_apart-requires-clause-colours : goal.all_apart-requires-clause-colours
+all_apart-requires-clause-colours c =
+    uses_known c.args.problem.now _ _ c.option.ensures.known c.colours-colours.ensures.value
+
+pub all_apart-requires-clause-room : goal.all_apart-requires-clause-room
+all_apart-requires-clause-room c =
+    uses_room c.args.problem.now _ _ _
+    (room_kept c.args.problem.now _ _ c.note_colours.auto.coloured c.requires.colour_room) c.option.ensures.known
+    c.colours-colours.ensures.value
 
 pub loop-rest-smaller : goal.loop-rest-smaller
 loop-rest-smaller c = omega (arith, c.loop-rest-test.true, and_le_r c.loop-rest.rest (c.loop-rest.rest - 1))
