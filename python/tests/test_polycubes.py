@@ -7,7 +7,7 @@ from folders import InFolder
 from test_commands import run
 
 from helgrothy import NoPicture, Problem, make
-from helgrothy._reason.turns import images
+from helgrothy.draw._turns import images
 from helgrothy.make import polycubes
 from helgrothy.make.cubes import SETS
 

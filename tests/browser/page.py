@@ -25,7 +25,7 @@ from browser.chromium import PATIENCE, Browser, program  # noqa: E402
 from helgrothy import Problem, make  # noqa: E402
 from helgrothy._page.examples import examples, first_of  # noqa: E402
 from helgrothy._run.programs import Run  # noqa: E402
-from helgrothy.draw.solid import _darker as darker  # noqa: E402
+from helgrothy.draw._solid import _darker as darker  # noqa: E402
 
 OWNED = "window.owned = () => { owned.times++; }; owned.times = 0;"
 SCRIPT = os.path.join(TOP, "scripts", "helgrothy")

@@ -26,12 +26,12 @@ from typing import Any
 
 from .. import cost, engines, shuffle, symmetry, why, wishes
 from .._cli.console import SHARE, limited
-from .._reason.grids import GRIDS
 from .._run.stream import Solutions
 from .._text.amounts import spelled
 from .._text.listing import bare_steps
 from .._text.shown import shown
 from ..draw import drawing_of
+from ..draw._grids import GRIDS
 from ..errors import HelgrothyError, NoPicture, OutOfTime, ProgramFailed, TableFault, reason_of
 from ..lint import Remark, lint
 from ..make import KINDS

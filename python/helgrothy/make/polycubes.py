@@ -7,9 +7,9 @@ import re
 from collections.abc import Iterator, Sequence
 from typing import Any
 
-from .._reason.turns import images
 from ..draw import Cell, Drawing, Shades
-from ..draw.solid import Cube, Solid, check_box
+from ..draw._solid import Cube, Solid, check_box
+from ..draw._turns import images
 from ..errors import TableFault
 from ..problem import Problem
 from .cubes import SETS
