@@ -12,8 +12,8 @@ from .._run.report import Hear, unheard
 from .._text.sheet import Row, Sheet
 from ..draw import Cell, Drawing, Picture, check_size, shade
 from ..problem import Problem
-from .designs import LEVELS, Design, Factor, Option, read_factors, read_rules
-from .fewest import Best, Few, fewest
+from ._designs.design import LEVELS, Design, Factor, Option, read_factors, read_rules
+from ._designs.fewest import Best, Few, fewest
 from .kind import Found, Kind, check_numbers, check_texts, read_text
 
 __all__ = ["few", "problem"]
@@ -60,7 +60,7 @@ def _best(factors: str, strength: int, seconds: float | None, hear: Hear) -> Bes
     read = read_factors(factors)
     rules = read_rules(factors, read)
     if rules:
-        from . import allowed
+        from ._designs import allowed
 
         return allowed.fewest(factors, read, strength, rules, seconds, hear)
     return fewest(read, strength, seconds, hear)
