@@ -11,7 +11,7 @@ from ..data import FORMATS
 from ..draw import _chances as chances
 from ..errors import NoPicture, OutOfTime, ProgramFailed
 from ..make import KINDS
-from ..make.kind import kind_of
+from ..make._kind import kind_of
 from . import console
 from .console import fail, write
 from .line import Report

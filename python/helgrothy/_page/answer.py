@@ -35,7 +35,7 @@ from ..draw._grids import GRIDS
 from ..errors import HelgrothyError, NoPicture, OutOfTime, ProgramFailed, TableFault, reason_of
 from ..lint import Remark, lint
 from ..make import KINDS
-from ..make.kind import kind_of
+from ..make._kind import kind_of
 from ..problem import Problem
 from ..table import by_patterns
 from . import forms, shares

@@ -6,7 +6,7 @@ from typing import Any
 
 from ..errors import NoPicture
 from ..make import KINDS
-from ..make.kind import kind_of
+from ..make._kind import kind_of
 from ..problem import Problem
 from .record import Draw
 

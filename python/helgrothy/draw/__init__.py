@@ -599,7 +599,7 @@ def drawing_of(problem: Problem[Any]) -> Drawing:
     # The makers make problems, which are drawn here: so they can't be imported with the module.
     from .._text.sheet import as_made
     from ..make import KINDS
-    from ..make.kind import kind_of
+    from ..make._kind import kind_of
 
     name = kind_of(problem.comments)
     if name is None or name not in KINDS:

@@ -11,9 +11,9 @@ from ..draw import Drawing
 from ..draw._grids import SQUARE
 from ..errors import TableFault
 from ..problem import Problem
-from .kind import Counted, Kind, check_items, check_sizes, check_texts, is_one, picture, read_text
-from .pieces import CELL, Form, Pieces, Place, alike, area, blocks
-from .pieces import drawing as pieces_drawing
+from ._kind import Counted, Kind, check_items, check_sizes, check_texts, is_one, picture, read_text
+from ._pieces import CELL, Form, Pieces, Place, alike, area, blocks
+from ._pieces import drawing as pieces_drawing
 
 __all__ = ["problem"]
 

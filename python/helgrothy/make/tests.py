@@ -13,7 +13,7 @@ from .._text.sheet import Row, Sheet
 from ..draw import Cell, Drawing, Picture, check_size, shade
 from ..problem import Problem
 from ._designs.design import LEVELS, Design, Factor, Option, read_factors, read_rules
-from .kind import Found, Kind, check_numbers, check_texts, read_text
+from ._kind import Found, Kind, check_numbers, check_texts, read_text
 
 if TYPE_CHECKING:
     from ._designs.fewest import Best, Few

@@ -12,7 +12,7 @@ from collections.abc import Sequence
 
 from ..._run.report import Hear, unheard
 from ...errors import OutOfTime
-from ..kind import check_items, numbered
+from .._kind import check_items, numbered
 from .bits import Values
 from .design import Factor, Meeting, Rules
 from .fewest import Best

@@ -14,7 +14,7 @@ from ..._text.shown import bytes_of
 from ..._text.syntax import MOST_USES, Nearest
 from ...errors import TableFault
 from ...problem import Problem
-from ..kind import check_items, numbered
+from .._kind import check_items, numbered
 
 Option = dict[Hashable, Optional[str]]
 # What comes together in a test: values of some factors, each factor and value by its number.

@@ -24,7 +24,7 @@ from ..._text.shown import bytes_of
 from ...errors import OutOfTime, ProgramFailed
 from ...problem import Problem
 from ...shuffle import order
-from ..kind import Found, check_items
+from .._kind import Found, check_items
 from .bits import Test, Values
 from .design import Design, Factor, Meeting, Option, Rules
 from .quick import Greedy, Wanted, meetings_of

@@ -14,7 +14,7 @@ from ..draw import Cell, Drawing, Picture, Shades, board_of, check_size
 from ..draw._grids import Grid
 from ..errors import TableFault
 from ..problem import Problem
-from .kind import cut, numbered
+from ._kind import cut, numbered
 
 Place = tuple[int, ...]
 Form = frozenset[Place]
