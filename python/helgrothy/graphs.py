@@ -29,7 +29,7 @@ from .problem import Problem
 
 if TYPE_CHECKING:
     from .draw import Drawing, Picture
-    from .draw.net import Layout, Point
+    from .draw._net import Layout, Point
 
 __all__ = ["Coloured", "Graph", "colouring", "colourings", "edge_covers", "edge_partitions", "perfect_matchings"]
 
@@ -218,7 +218,7 @@ def _all_of(given: Any) -> Iterable[Any]:
 
 
 def _layout(nodes: Sequence[Any], positions: Positions | None) -> Layout:
-    from .draw.net import Layout
+    from .draw._net import Layout
 
     if positions is not None:
         return Layout.free([_place(node, positions) for node in nodes])
@@ -301,7 +301,7 @@ class _Look:
 
     def _net(self, options: Sequence[Any], fills: Mapping[Any, str]) -> Picture:
         from ._text.names import item_names
-        from .draw.net import Line, Net, Node, dark
+        from .draw._net import Line, Net, Node, dark
 
         colours, parts = self.show(options)
         names = item_names(self.graph.nodes)

@@ -15,13 +15,13 @@ from collections.abc import Generator, Hashable, Sequence
 from dataclasses import dataclass
 from typing import Any, TypeVar
 
-from ._reason import grids
-from ._reason.turns import Cell, symmetries
 from ._run.solution import Solution
 from ._run.stream import Outcome, Solutions, check_numbers, sooner
 from ._text.shown import shown
 from ._text.syntax import ONCE
+from .draw import _grids as grids
 from .draw import compiled
+from .draw._turns import Cell, symmetries
 from .errors import NoPicture, OutOfTime
 from .problem import Problem
 

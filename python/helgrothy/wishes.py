@@ -143,7 +143,7 @@ def _wish(line: int, words: Sequence[str], named: Named, every: Iterable[int]) -
 def of_table(problem: Problem[Any]) -> Costs | None:
     """The wishes of the table that a problem was made from by `helgrothy.make`; None where it has none."""
     from .make import KINDS
-    from .make.kind import kind_of
+    from .make._kind import kind_of
 
     kind = KINDS.get(kind_of(problem.comments) or "")
     try:

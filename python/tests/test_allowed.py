@@ -10,10 +10,10 @@ from folders import InFolder
 from test_commands import run, run_until
 
 from helgrothy import OutOfTime, Problem, ProgramFailed, TableFault, make
-from helgrothy.make import allowed
-from helgrothy.make.designs import read_factors, read_rules
-from helgrothy.make.fewest import Best
-from helgrothy.make.shorten import Shorter
+from helgrothy.make._designs import allowed
+from helgrothy.make._designs.design import read_factors, read_rules
+from helgrothy.make._designs.fewest import Best
+from helgrothy.make._designs.shorten import Shorter
 
 FACTORS = """\
 system linux mac

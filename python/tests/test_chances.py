@@ -13,7 +13,8 @@ from test_counter import dominoes
 
 from helgrothy import OutOfTime, Problem, ProgramNotFound
 from helgrothy._run import occurrences, programs
-from helgrothy.draw import Pattern, chances
+from helgrothy.draw import Pattern
+from helgrothy.draw import _chances as chances
 
 
 class Occurrences(InFolder):

@@ -11,9 +11,9 @@ from test_commands import run, run_until
 
 from helgrothy import OutOfTime, Problem, make
 from helgrothy._run import programs
-from helgrothy.make import fewest, quick
-from helgrothy.make.bits import Values
-from helgrothy.make.designs import Design, read_factors
+from helgrothy.make._designs import fewest, quick
+from helgrothy.make._designs.bits import Values
+from helgrothy.make._designs.design import Design, read_factors
 
 FACTORS = """\
 # what is to be tested

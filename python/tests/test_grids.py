@@ -8,9 +8,9 @@ from folders import InFolder
 from test_commands import run
 
 from helgrothy import NoPicture, Problem, symmetry
-from helgrothy._reason.grids import HEX, TRIANGLE
-from helgrothy._reason.turns import symmetries
 from helgrothy.draw import Pattern
+from helgrothy.draw._grids import HEX, TRIANGLE
+from helgrothy.draw._turns import symmetries
 
 CELL = r"r(\d+)c(\d+)"
 # A hexagon of seven hexagons, and one of six triangles.

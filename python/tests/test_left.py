@@ -23,7 +23,7 @@ START = """
 import time
 from helgrothy import Problem, cost, engines, hint, make, minimal, shuffle, symmetry, why
 from helgrothy._run import occurrences
-from helgrothy.draw import chances
+from helgrothy.draw import _chances as chances
 from helgrothy.__main__ import main
 p = Problem("AB", options=["A", "B", "AB"])
 """

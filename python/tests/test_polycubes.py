@@ -7,9 +7,9 @@ from folders import InFolder
 from test_commands import run
 
 from helgrothy import NoPicture, Problem, make
-from helgrothy._reason.turns import images
+from helgrothy.draw._turns import images
 from helgrothy.make import polycubes
-from helgrothy.make.cubes import SETS
+from helgrothy.make._cubes import SETS
 
 # Bad pieces and boxes, each with the sentence that says what is wrong.
 BAD = (

@@ -6,7 +6,7 @@ from folders import InFolder
 from test_commands import run
 
 from helgrothy import NoPicture, Problem, TableFault, make
-from helgrothy._reason.grids import HEX, TRIANGLE
+from helgrothy.draw._grids import HEX, TRIANGLE
 from helgrothy.make import polyforms
 
 # A hexagon of 24 triangles, and one of 7 hexagons without the middle.

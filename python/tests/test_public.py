@@ -52,10 +52,12 @@ class Names(unittest.TestCase):
                 helgrothy._load(wrong)
 
     def test_modules_without_an_underscore_are_public(self):
-        contents = pydoc.plain(pydoc.render_doc(helgrothy)).partition("PACKAGE CONTENTS\n")[2].partition("\n\n")[0]
-        listed = re.findall(r"^    (\w+)", contents, re.MULTILINE)
-        # The classes are in the last two.
-        self.assertEqual({name for name in listed if name[0] != "_"}, MODULES | {"problem", "errors"})
+        # The classes are in the last two of the first package.
+        for package, public in ((helgrothy, MODULES | {"problem", "errors"}), (make, set(make.KINDS)), (helgrothy.draw, set())):
+            contents = pydoc.plain(pydoc.render_doc(package)).partition("PACKAGE CONTENTS\n")[2].partition("\n\n")[0]
+            listed = re.findall(r"^    (\w+)", contents, re.MULTILINE)
+            self.assertGreater(len(listed), len(public))
+            self.assertEqual({name for name in listed if name[0] != "_"}, public)
 
     def test_nothing_is_loaded_before_it_is_used(self):
         code = "import sys, helgrothy; dir(helgrothy); print(*(name for name in sys.modules if 'helgrothy' in name))"

@@ -50,7 +50,7 @@ class Startup(unittest.TestCase):
                 if words.partition(" ")[0] in KINDS:
                     self.assertEqual([name for name in SLOW if name in modules], [])
                 if words in lists:
-                    self.assertNotIn("helgrothy.make.kind", modules)
+                    self.assertNotIn("helgrothy.make._kind", modules)
 
     def test_lists_are_those_of_the_parsers(self):
         """What is printed without loading a module agrees with it."""

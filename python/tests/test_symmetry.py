@@ -7,7 +7,7 @@ import unittest
 from test_commands import run
 
 from helgrothy import NoPicture, OutOfTime, Problem, make, symmetry
-from helgrothy._reason.turns import motions
+from helgrothy.draw._turns import motions
 
 EXAMPLES = os.path.join(os.path.dirname(os.path.dirname(os.path.dirname(os.path.abspath(__file__)))), "examples")
 SQUARE, QUEEN = r"r(\d+)c(\d+)", r"r(\d+) c(\d+)"

@@ -3,7 +3,7 @@
 import itertools
 import unittest
 
-from helgrothy._reason.turns import images, motions, symmetries
+from helgrothy.draw._turns import images, motions, symmetries
 
 SOMA = [
     [(0, 0, 0), (0, 0, 1), (0, 1, 0)],

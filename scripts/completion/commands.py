@@ -7,7 +7,8 @@ from collections.abc import Iterator
 from dataclasses import dataclass, field
 
 from helgrothy._cli.commands import parser_of_all
-from helgrothy.make import cubes, polyforms, polyominoes
+from helgrothy.make import _cubes as cubes
+from helgrothy.make import polyforms, polyominoes
 
 # What a word may be: any of some words, a file, a folder, a problem (a file that ends with .dlx), or something that
 # nobody can guess.

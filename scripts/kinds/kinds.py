@@ -28,7 +28,7 @@ sys.dont_write_bytecode = True
 
 from helgrothy import make  # noqa: E402
 from helgrothy._page.terms import TITLES  # noqa: E402
-from helgrothy.make.kind import Kind  # noqa: E402
+from helgrothy.make._kind import Kind  # noqa: E402
 
 _BLOCK = re.compile(r"^```sh\n(.*?)^```\n", re.MULTILINE | re.DOTALL)
 _REST = (

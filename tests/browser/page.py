@@ -25,7 +25,7 @@ from browser.chromium import PATIENCE, Browser, program  # noqa: E402
 from helgrothy import Problem, make  # noqa: E402
 from helgrothy._page.examples import examples, first_of  # noqa: E402
 from helgrothy._run.programs import Run  # noqa: E402
-from helgrothy.draw.solid import _darker as darker  # noqa: E402
+from helgrothy.draw._solid import _darker as darker  # noqa: E402
 
 OWNED = "window.owned = () => { owned.times++; }; owned.times = 0;"
 SCRIPT = os.path.join(TOP, "scripts", "helgrothy")
@@ -589,16 +589,14 @@ class Page(Pages):
     def test_one_at_random_and_chances(self):
         self.choose("queens", board="6")
         for what in ("random", "chances"):
-            self.assertEqual(self.tab.is_shown(f"#{what}"), hasattr(Problem, {"chances": "occurrences"}.get(what, what)))
-        if self.tab.is_shown("#random"):
-            self.press_and_wait("#random")
-            self.assertEqual(self.tab.text("#summary"), "4 solutions; 1 of them here.")
-        if self.tab.is_shown("#chances"):
-            self.press_and_wait("#chances")
-            self.assertEqual(self.tab.text("#summary"), "Of 4 solutions, in percent.")
-            self.assertEqual([self.tab.is_shown(it) for it in ("#picture svg", "#way", "#bar")], [True, False, False])
-            self.solve()
-            self.assertTrue(self.tab.is_shown("#way"))
+            self.assertTrue(self.tab.is_shown(f"#{what}"))
+        self.press_and_wait("#random")
+        self.assertEqual(self.tab.text("#summary"), "4 solutions; 1 of them here.")
+        self.press_and_wait("#chances")
+        self.assertEqual(self.tab.text("#summary"), "Of 4 solutions, in percent.")
+        self.assertEqual([self.tab.is_shown(it) for it in ("#picture svg", "#way", "#bar")], [True, False, False])
+        self.solve()
+        self.assertTrue(self.tab.is_shown("#way"))
         self.is_quiet()
 
     def press_and_wait(self, button):

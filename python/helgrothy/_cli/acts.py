@@ -17,7 +17,7 @@ from .line import Report
 if TYPE_CHECKING:
     import argparse
 
-    from ..make.kind import Kind
+    from ..make._kind import Kind
 
 # `lint` looks for a solution so long.
 _SEARCH_SECONDS = 5.0

@@ -8,10 +8,10 @@ from .._run import occurrences
 from .._run.occurrences import Occurrences
 from .._text.sheet import labelling
 from ..data import FORMATS
-from ..draw import chances
+from ..draw import _chances as chances
 from ..errors import NoPicture, OutOfTime, ProgramFailed
 from ..make import KINDS
-from ..make.kind import kind_of
+from ..make._kind import kind_of
 from . import console
 from .console import fail, write
 from .line import Report

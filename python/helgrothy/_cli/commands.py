@@ -22,7 +22,7 @@ from .console import OF_THIS_KIND, Parser, limited, natural, number, positive, s
 from .puzzle_commands import add_choices
 
 if TYPE_CHECKING:
-    from ..make.kind import Kind
+    from ..make._kind import Kind
 
 _EXAMPLES = """\
 examples:

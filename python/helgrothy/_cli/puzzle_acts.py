@@ -7,7 +7,7 @@ from typing import TYPE_CHECKING, Any
 
 from ..errors import OutOfTime
 from ..given import forbidden, given
-from ..make.kind import kind_of
+from ..make._kind import kind_of
 from ..problem import Problem
 from . import console
 from .puzzle_commands import CLUES_AS_OPTIONS
@@ -16,7 +16,7 @@ if TYPE_CHECKING:
     import argparse
     from collections.abc import Callable, Sequence
 
-    from ..make.clues import Clues
+    from ..make._clues import Clues
     from ..minimal import Minimal
 
 
@@ -67,7 +67,7 @@ def uniqueness(problem: Problem[Any], found: Sequence[Sequence[int]], among: str
 
 def clues_of(problem: Problem[Any], arguments: argparse.Namespace) -> Clues:
     """Options of a problem as clues, of which those are given that the command says."""
-    from ..make.clues import Clues
+    from ..make._clues import Clues
 
     return Clues(
         problem,

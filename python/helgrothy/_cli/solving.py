@@ -15,7 +15,7 @@ from .._text.listing import bare_steps
 from ..errors import OutOfTime, TableFault
 from ..given import Given
 from ..make import KINDS
-from ..make.kind import Found, kind_of, read_text
+from ..make._kind import Found, kind_of, read_text
 from ..problem import Problem
 from . import console
 from . import count as count_command

@@ -26,20 +26,20 @@ from typing import Any
 
 from .. import cost, engines, shuffle, symmetry, why, wishes
 from .._cli.console import SHARE, limited
-from .._reason.grids import GRIDS
 from .._run.stream import Solutions
 from .._text.amounts import spelled
 from .._text.listing import bare_steps
 from .._text.shown import shown
 from ..draw import drawing_of
+from ..draw._grids import GRIDS
 from ..errors import HelgrothyError, NoPicture, OutOfTime, ProgramFailed, TableFault, reason_of
 from ..lint import Remark, lint
 from ..make import KINDS
-from ..make.kind import kind_of
+from ..make._kind import kind_of
 from ..problem import Problem
 from ..table import by_patterns
 from . import forms, shares
-from .record import Draw, Record
+from .record import Draw, Record, line_of
 
 MOST_LIMIT = 1_000
 MOST_SECONDS = 600.0
@@ -109,26 +109,22 @@ def answer(request: Request) -> Iterator[str]:
         with limited(request.seconds):
             yield from _ANSWERS[request.what](request)
     except (MemoryError, RecursionError):
-        yield _line({"error": "it took more memory than it may"})
+        yield line_of({"error": "it took more memory than it may"})
     except (re.error, OverflowError) as error:
-        yield _line({"error": f"a pattern is wrong: {error}"})
+        yield line_of({"error": f"a pattern is wrong: {error}"})
     except (HelgrothyError, ValueError, OSError) as error:
-        yield _line({"error": shown(reason_of(error))})
-
-
-def _line(fields: dict[str, Any]) -> str:
-    return json.dumps(fields, separators=(",", ":"))
+        yield line_of({"error": shown(reason_of(error))})
 
 
 def _lint(request: Request) -> Iterator[str]:
-    yield _line({"remarks": _remarks(lint(_raw(request)))})
+    yield line_of({"remarks": _remarks(lint(_raw(request)))})
 
 
 def _make(request: Request) -> Iterator[str]:
     text = _problem(request).text
     if len(text) > _MOST_BYTES:
         raise ValueError("the problem is too large for a page; `helgrothy make` writes it")
-    yield _line({"text": text})
+    yield line_of({"text": text})
 
 
 def _problem(request: Request) -> Problem[Any]:
@@ -163,7 +159,7 @@ class _Solving:
         request = self._request
         remarks = [] if request.kind else lint(_raw(request))
         if any(remark.is_fault for remark in remarks):
-            yield _line({"remarks": _remarks(remarks), "error": "the text has faults"})
+            yield line_of({"remarks": _remarks(remarks), "error": "the text has faults"})
             return
         problem = _problem(request)
         record = Record(problem, self._drawing(problem))
@@ -221,12 +217,12 @@ class _Solving:
 
     def _count(self, problem: Problem[Any]) -> Iterator[str]:
         """How many solutions there are, where the time that is left is enough."""
-        yield _line({"counting": True})
+        yield line_of({"counting": True})
         with suppress(OutOfTime, ProgramFailed):
             total = problem.count(seconds=self._left() * SHARE)
             if total < _MOST_COUNTED:
                 # A page's own numbers aren't that large.
-                yield _line({"count": str(total)})
+                yield line_of({"count": str(total)})
 
     def _one(self, problem: Problem[Any], record: Record) -> Iterator[str]:
         """One of all solutions, each with the same chance."""
@@ -330,7 +326,7 @@ def run() -> None:
     try:
         request = Request.of(raw)
     except (ValueError, RecursionError) as error:
-        _send(answers, _line({"error": shown(str(error))}))
+        _send(answers, line_of({"error": shown(str(error))}))
         os._exit(0)
     _limit(request)
     for line in answer(request):

@@ -11,7 +11,7 @@ from dataclasses import dataclass
 from typing import Any, NoReturn
 
 from ..make import KINDS
-from ..make.kind import Kind
+from ..make._kind import Kind
 from ..problem import Problem
 from .terms import FIELDS, TITLES
 

@@ -69,7 +69,7 @@ class Record:
                 more = True
                 break
             lines.append(shown(line))
-        return _line(
+        return line_of(
             {
                 "problem": {
                     "comments": list(map(shown, problem.comments)),
@@ -107,13 +107,14 @@ class Record:
                 fields["words"] = {number: words[number] for number in fresh}
         if len(self._elements) > fresh_from:
             fields["elements"] = self._elements_from(fresh_from)
-        return _line({"solution": fields})
+        return line_of({"solution": fields})
 
     def chances(self, picture: Any, total: int) -> str:
         """A picture of the shares of all solutions, of which there are so many."""
         fresh_from = len(self._elements)
         parts = self._parts(picture.svg())
-        return _line({"chances": {"picture": parts, "elements": self._elements_from(fresh_from), "total": str(total)}})
+        fields = {"picture": parts, "elements": self._elements_from(fresh_from), "total": str(total)}
+        return line_of({"chances": fields})
 
     def _elements_from(self, number: int) -> list[list[Any]]:
         """The elements from a number on, as the page gets them."""
@@ -141,7 +142,7 @@ class Record:
     @staticmethod
     def end(total: int, is_complete: bool, notes: Iterable[str] = ()) -> str:
         """The end: how many solutions there were, whether these are all, and what else is to be said."""
-        return _line({"end": {"total": total, "complete": is_complete, "notes": list(map(shown, notes))}})
+        return line_of({"end": {"total": total, "complete": is_complete, "notes": list(map(shown, notes))}})
 
 
 def _element(element: ElementTree.Element) -> Element:
@@ -157,5 +158,6 @@ def _name(element: ElementTree.Element) -> str:
     return element.tag.rpartition("}")[2]
 
 
-def _line(fields: dict[str, Any]) -> str:
+def line_of(fields: dict[str, Any]) -> str:
+    """A line of an answer."""
     return json.dumps(fields, separators=(",", ":"))

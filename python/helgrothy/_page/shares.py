@@ -6,7 +6,7 @@ from typing import Any
 
 from ..errors import NoPicture
 from ..make import KINDS
-from ..make.kind import kind_of
+from ..make._kind import kind_of
 from ..problem import Problem
 from .record import Draw
 
@@ -16,7 +16,7 @@ def find(problem: Problem[Any], draw: Draw | None, seconds: float) -> tuple[Any,
     if draw is None:
         raise NoPicture("chances are drawn, and this problem has no picture")
     from .._run import occurrences
-    from ..draw import chances
+    from ..draw import _chances as chances
 
     kind: Any = KINDS.get(kind_of(problem.comments) or "")
     found = occurrences.find(problem, seconds)

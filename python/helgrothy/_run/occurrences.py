@@ -7,7 +7,6 @@ item of its own.
 
 from __future__ import annotations
 
-import os
 import select
 import time
 from collections import Counter, deque
@@ -21,7 +20,7 @@ from .._text.syntax import ONCE
 from ..errors import OutOfTime, ProgramNotFound
 from ..problem import Problem
 from .counter import MOST_MEGABYTES, PROGRAM
-from .programs import Ending, Run, read_number
+from .programs import Ending, Run, processors, read_number
 from .wire import Wire
 
 __all__ = ["Occurrences", "find"]
@@ -57,7 +56,7 @@ def find(problem: Problem[Any], seconds: float | None = None, jobs: int | None =
         with suppress(OutOfTime):
             return Occurrences(_printed(problem, patience), total)
     classes = _Classes(problem)
-    times = _Counting(classes, problem.kind, deadline).run(jobs or _processors())
+    times = _Counting(classes, problem.kind, deadline).run(jobs or processors())
     return Occurrences(classes.shared(times), total)
 
 
@@ -84,10 +83,6 @@ def _searched(problem: Problem[Any], seconds: float | None) -> list[int]:
 def _is_kept(problem: Problem[Any], option: Any) -> bool:
     """Whether an option has a primary item. Programs ignore others."""
     return any(item in problem.items for item, _ in problem._pairs(option))
-
-
-def _processors() -> int:
-    return len(os.sched_getaffinity(0)) if hasattr(os, "sched_getaffinity") else os.cpu_count() or 1
 
 
 class _Classes:

@@ -92,6 +92,11 @@ def has(program: str) -> bool:
     return True
 
 
+def processors() -> int:
+    """How many processors this process may use."""
+    return len(os.sched_getaffinity(0))
+
+
 @contextmanager
 def undisturbed() -> Iterator[None]:
     """A clock that has run down is heard after this.

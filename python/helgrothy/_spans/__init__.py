@@ -8,12 +8,13 @@ from __future__ import annotations
 import time
 from typing import TYPE_CHECKING
 
+from .._run.programs import processors
 from ..errors import OutOfTime
 from .join import count as joined
 from .join import number_of
 from .loop import Job, Kept, Loop, Progress, Report, submitting
 from .rows import WHOLE, Row, Until
-from .workers import MOST_JOBS, Own, Workers, executor_jobs, processors
+from .workers import MOST_JOBS, Own, Workers, executor_jobs
 
 if TYPE_CHECKING:
     from concurrent.futures import Executor

@@ -15,6 +15,7 @@ from collections.abc import Sequence
 from typing import Any
 
 from .._cli import console
+from .._run.programs import processors
 from .._text.clock import duration, percent
 from ..errors import OutOfTime, ProgramFailed, SearchFault
 from . import record as records
@@ -29,7 +30,7 @@ from .rows import WHOLE, Span, share_of, word_of
 from .show import Shown
 from .span import Task, run
 from .text import ignored, kind_of
-from .workers import MOST_JOBS, Dask, Own, Workers, processors
+from .workers import MOST_JOBS, Dask, Own, Workers
 
 NOT_DONE = 6
 _PROGRAMS = ("dlx1", "dlx2", "dlx3")

@@ -18,6 +18,7 @@ from collections.abc import Callable
 from importlib import import_module
 from typing import TYPE_CHECKING, Any
 
+from .._run.programs import processors
 from ..errors import SearchFault
 from .loop import Outcome, Submit, submitting
 from .pace import LONGEST, LONGEST_HERE
@@ -38,11 +39,6 @@ _FILES, _OTHER_FILES = 3, 32
 # So many seconds a scheduler may take to answer.
 _PATIENCE = 30
 _SELDOM = 2.0
-
-
-def processors() -> int:
-    """How many processors this process may use."""
-    return len(os.sched_getaffinity(0)) if hasattr(os, "sched_getaffinity") else os.cpu_count() or 1
 
 
 def _most_by_files() -> int:

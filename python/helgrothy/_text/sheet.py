@@ -42,7 +42,7 @@ class Sheet:
 def sheet_of(problem: Problem[Any]) -> Sheet | None:
     """The tables of a problem that a kind made which draws tables; None for another problem."""
     from ..make import KINDS
-    from ..make.kind import kind_of
+    from ..make._kind import kind_of
 
     name = kind_of(problem.comments)
     make = None if name is None or name not in KINDS else KINDS[name].sheet

@@ -14,9 +14,9 @@ from collections.abc import Callable, Hashable, Iterator, Sequence
 from dataclasses import dataclass, field
 from typing import TYPE_CHECKING, Any, Protocol
 
-from .._reason import grids
 from .._text.shown import escaped, shown
 from ..errors import NoPicture
+from . import _grids as grids
 
 if TYPE_CHECKING:
     from ..problem import Problem
@@ -517,7 +517,7 @@ def board_of(grid: grids.Grid, title: str, cells: dict[Place, Cell], has_grid: b
     """A picture of cells of a grid."""
     if grid is grids.SQUARE:
         return Picture(title, cells, has_grid=has_grid)
-    from .boards import Board
+    from ._boards import Board
 
     return Board(grid, title, cells, has_grid)
 
@@ -599,7 +599,7 @@ def drawing_of(problem: Problem[Any]) -> Drawing:
     # The makers make problems, which are drawn here: so they can't be imported with the module.
     from .._text.sheet import as_made
     from ..make import KINDS
-    from ..make.kind import kind_of
+    from ..make._kind import kind_of
 
     name = kind_of(problem.comments)
     if name is None or name not in KINDS:

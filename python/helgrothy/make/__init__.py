@@ -46,7 +46,7 @@ if TYPE_CHECKING:
         words,
         wordsearch,
     )
-    from .kind import Kind
+    from ._kind import Kind
 
 __all__ = [
     "KINDS",

@@ -13,8 +13,8 @@ from typing import Any
 from ..draw import Cell, Drawing, Picture, check_size
 from ..errors import TableFault
 from ..problem import Problem
-from .clues import Clues
-from .kind import Counted, Kind, check_items, check_texts, cut, picture, read_text
+from ._clues import Clues
+from ._kind import Counted, Kind, check_items, check_texts, cut, picture, read_text
 
 __all__ = ["problem"]
 

@@ -9,7 +9,7 @@ from typing import Any
 
 from ..draw import Cell, Drawing, Picture, Shades, check_size
 from ..problem import Problem
-from .kind import Counted, Kind, check_items, check_numbers
+from ._kind import Counted, Kind, check_items, check_numbers
 
 __all__ = ["problem"]
 

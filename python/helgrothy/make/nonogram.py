@@ -19,9 +19,9 @@ from .._text.syntax import MOST_USES
 from ..draw import Cell, Drawing, Picture, check_size
 from ..errors import TableFault
 from ..problem import Problem
-from .clues import Clues
-from .kind import Counted, Kind, check_texts, cut, numbered, read_text
-from .runs import EMPTY, FILLED, Clue, arrangements, count, known, steps
+from ._clues import Clues
+from ._kind import Counted, Kind, check_texts, cut, numbered, read_text
+from ._runs import EMPTY, FILLED, Clue, arrangements, count, known, steps
 
 __all__ = ["problem"]
 

@@ -7,14 +7,14 @@ import re
 from collections.abc import Iterator, Sequence
 from typing import Any
 
-from .._reason.turns import images
 from ..draw import Cell, Drawing, Shades
-from ..draw.solid import Cube, Solid, check_box
+from ..draw._solid import Cube, Solid, check_box
+from ..draw._turns import images
 from ..errors import TableFault
 from ..problem import Problem
-from .cubes import SETS
-from .kind import Counted, Kind, check_items, check_sizes, check_texts, is_one, numbered, read_text
-from .pieces import Form, Lines, Pieces, alike, blocks
+from ._cubes import SETS
+from ._kind import Counted, Kind, check_items, check_sizes, check_texts, is_one, numbered, read_text
+from ._pieces import Form, Lines, Pieces, alike, blocks
 
 __all__ = ["problem"]
 

@@ -14,14 +14,14 @@ from collections.abc import Iterable, Iterator
 from contextlib import suppress
 from typing import Any
 
-from .._reason.grids import GRIDS, HEX, TRIANGLE, Grid, of_rhombus, points_up
-from .._reason.grids import Place as Spot
 from ..draw import Cell, Drawing, board_of
+from ..draw._grids import GRIDS, HEX, TRIANGLE, Grid, of_rhombus, points_up
+from ..draw._grids import Place as Spot
 from ..errors import NoPicture, TableFault
 from ..problem import Problem
-from .kind import Counted, Kind, check_items, check_sizes, check_texts, picture, read_text
-from .pieces import CELL, Form, Lines, Pieces, alike, area, blocks
-from .pieces import drawing as pieces_drawing
+from ._kind import Counted, Kind, check_items, check_sizes, check_texts, picture, read_text
+from ._pieces import CELL, Form, Lines, Pieces, alike, area, blocks
+from ._pieces import drawing as pieces_drawing
 
 __all__ = ["problem"]
 

@@ -7,13 +7,13 @@ import re
 from collections.abc import Iterator, Sequence
 from typing import Any
 
-from .._reason.grids import SQUARE
 from ..draw import Drawing
+from ..draw._grids import SQUARE
 from ..errors import TableFault
 from ..problem import Problem
-from .kind import Counted, Kind, check_items, check_sizes, check_texts, is_one, picture, read_text
-from .pieces import CELL, Form, Pieces, Place, alike, area, blocks
-from .pieces import drawing as pieces_drawing
+from ._kind import Counted, Kind, check_items, check_sizes, check_texts, is_one, picture, read_text
+from ._pieces import CELL, Form, Pieces, Place, alike, area, blocks
+from ._pieces import drawing as pieces_drawing
 
 __all__ = ["problem"]
 

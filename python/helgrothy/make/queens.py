@@ -10,7 +10,7 @@ from typing import Any
 from ..draw import Cell, Drawing, Picture, Shades
 from ..errors import TableFault
 from ..problem import Problem
-from .kind import Counted, Kind, check_items, check_numbers, check_texts, picture, read_text
+from ._kind import Counted, Kind, check_items, check_numbers, check_texts, picture, read_text
 
 __all__ = ["problem"]
 

@@ -16,8 +16,8 @@ from ..draw import Cell, Drawing, Picture, Shades, check_size
 from ..errors import TableFault
 from ..problem import Problem
 from ..wishes import Wish, check
-from .kind import Counted, Kind, check_items, check_numbers, check_texts, numbered, read_text
-from .rules import DaysOff, InARow, Rest, Rule
+from ._kind import Counted, Kind, check_items, check_numbers, check_texts, numbered, read_text
+from ._rules import DaysOff, InARow, Rest, Rule
 
 __all__ = ["problem"]
 

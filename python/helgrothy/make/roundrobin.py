@@ -12,8 +12,8 @@ from .._text.sheet import Row, Sheet, whole_names
 from ..draw import Cell, Drawing, Picture, check_size
 from ..errors import TableFault
 from ..problem import Problem
-from .kind import Counted, Kind, check_items, check_numbers, check_texts, numbered, read_text
-from .teams import Season, Team, read, rounds
+from ._kind import Counted, Kind, check_items, check_numbers, check_texts, numbered, read_text
+from ._teams import Season, Team, read, rounds
 
 __all__ = ["problem"]
 

@@ -15,10 +15,10 @@ from .._text.syntax import MOST_USES
 from ..draw import Cell, Drawing, Picture
 from ..errors import TableFault
 from ..problem import Problem
-from . import areas
-from .areas import Cage, Square
-from .clues import Clues, options_of
-from .kind import Counted, Kind, check_texts, cut, numbered, read_text
+from . import _areas as areas
+from ._areas import Cage, Square
+from ._clues import Clues, options_of
+from ._kind import Counted, Kind, check_texts, cut, numbered, read_text
 
 __all__ = ["problem"]
 

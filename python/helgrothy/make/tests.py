@@ -5,16 +5,18 @@ from __future__ import annotations
 import argparse
 import re
 from collections.abc import Callable, Iterator, Sequence
-from typing import Any
+from typing import TYPE_CHECKING, Any
 
 from .._cli.console import no_longer_limited, positive
 from .._run.report import Hear, unheard
 from .._text.sheet import Row, Sheet
 from ..draw import Cell, Drawing, Picture, check_size, shade
 from ..problem import Problem
-from .designs import LEVELS, Design, Factor, Option, read_factors, read_rules
-from .fewest import Best, Few, fewest
-from .kind import Found, Kind, check_numbers, check_texts, read_text
+from ._designs.design import LEVELS, Design, Factor, Option, read_factors, read_rules
+from ._kind import Found, Kind, check_numbers, check_texts, read_text
+
+if TYPE_CHECKING:
+    from ._designs.fewest import Best, Few
 
 __all__ = ["few", "problem"]
 
@@ -59,10 +61,13 @@ def _best(factors: str, strength: int, seconds: float | None, hear: Hear) -> Bes
     check_numbers(strength=strength)
     read = read_factors(factors)
     rules = read_rules(factors, read)
+    # Only who asks for few tests waits for what searches for them.
     if rules:
-        from . import allowed
+        from ._designs import allowed
 
         return allowed.fewest(factors, read, strength, rules, seconds, hear)
+    from ._designs.fewest import fewest
+
     return fewest(read, strength, seconds, hear)
 
 

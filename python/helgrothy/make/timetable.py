@@ -14,8 +14,8 @@ from .._text.syntax import MOST_NAME
 from ..draw import Cell, Drawing, Picture, Shades, check_size
 from ..problem import Problem
 from ..wishes import Wish, check
-from .kind import Counted, Kind, check_items, check_numbers, check_texts, numbered, read_text
-from .lessons import Lesson, Order, Plan, Room, Slot
+from ._kind import Counted, Kind, check_items, check_numbers, check_texts, numbered, read_text
+from ._lessons import Lesson, Order, Plan, Room, Slot
 
 __all__ = ["problem"]
 

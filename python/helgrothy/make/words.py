@@ -11,7 +11,7 @@ from typing import Any, Optional
 from .._text.syntax import MOST_USES
 from ..draw import Cell, Drawing, Picture, check_size
 from ..problem import Problem
-from .kind import Counted, Kind, check_texts, picture, read_text
+from ._kind import Counted, Kind, check_texts, picture, read_text
 
 __all__ = ["problem"]
 

@@ -15,7 +15,18 @@ from .._text.syntax import MOST_COLOUR, MOST_NAME, MOST_USES
 from ..draw import Cell, Drawing, Picture, Shades, check_size
 from ..errors import TableFault
 from ..problem import Problem
-from .kind import Counted, Kind, check_items, check_numbers, check_sizes, check_texts, cut, numbered, picture, read_text
+from ._kind import (
+    Counted,
+    Kind,
+    check_items,
+    check_numbers,
+    check_sizes,
+    check_texts,
+    cut,
+    numbered,
+    picture,
+    read_text,
+)
 
 if TYPE_CHECKING:
     import random

@@ -6,9 +6,9 @@ import math
 from collections.abc import Callable, Iterator, Mapping
 from dataclasses import dataclass
 
-from .._reason.grids import Grid, Place, points_up
 from .._text.shown import escaped, shown
 from . import Cell, Picture, check_size, label_width
+from ._grids import Grid, Place, points_up
 
 Point = tuple[float, float]
 # The corners of each cell, in pixels.
@@ -54,7 +54,7 @@ _SHAPES = {"hex": _hexagon, "triangle": _triangle}
 
 
 class Board(Picture):
-    """Cells of a grid of hexagons or triangles by row and column, from 0 on, as `helgrothy._reason.grids` has them."""
+    """Cells of a grid of hexagons or triangles by row and column, from 0 on, as `helgrothy.draw._grids` has them."""
 
     # Of a cell in the SVG, in pixels.
     sides = {"hex": 21.0, "triangle": 44.0}

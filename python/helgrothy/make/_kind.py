@@ -19,7 +19,7 @@ from ..problem import Problem
 if TYPE_CHECKING:
     from .._text.sheet import Sheet
     from ..wishes import Wish
-    from .clues import Clues
+    from ._clues import Clues
 
 T = TypeVar("T", bound=Sized)
 

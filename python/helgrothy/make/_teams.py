@@ -9,7 +9,7 @@ from dataclasses import dataclass, field
 
 from .._text.syntax import Nearest
 from ..errors import TableFault
-from .kind import check_items
+from ._kind import check_items
 
 _FORMS = "neither home:ROUND, away:ROUND, not:TEAM@ROUND nor shares:TEAM"
 _WHERE = re.compile(r"(home|away):([0-9]{1,9})\Z")

@@ -8,7 +8,7 @@ from collections.abc import Iterator, Sequence
 from dataclasses import dataclass
 
 from ..errors import TableFault
-from .kind import cut, numbered, picture
+from ._kind import cut, numbered, picture
 
 Square = tuple[int, int]
 Numbered = tuple[int, str]

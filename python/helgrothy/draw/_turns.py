@@ -3,7 +3,7 @@
 A cell is a tuple of whole numbers: (row, column) of a board, (layer, row, column) of a box. A motion is a linear map
 that takes cells to cells. On a grid of squares or cubes it exchanges axes and reverses some of them: a board has 8
 motions, and 4 of them are turns; a box has 48, and 24 of them are turns. The others are mirror images. Other grids have
-motions of their own (`grids`).
+motions of their own (`_grids`).
 """
 
 from __future__ import annotations

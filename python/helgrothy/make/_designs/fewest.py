@@ -17,16 +17,16 @@ import time
 from collections.abc import Hashable, Iterable, Sequence
 from dataclasses import dataclass
 
-from .._run.programs import Run
-from .._run.report import Hear, unheard
-from .._text.names import codes
-from .._text.shown import bytes_of
-from ..errors import OutOfTime, ProgramFailed
-from ..problem import Problem
-from ..shuffle import order
+from ..._run.programs import Run
+from ..._run.report import Hear, unheard
+from ..._text.names import codes
+from ..._text.shown import bytes_of
+from ...errors import OutOfTime, ProgramFailed
+from ...problem import Problem
+from ...shuffle import order
+from .._kind import Found, check_items
 from .bits import Test, Values
-from .designs import Design, Factor, Meeting, Option, Rules
-from .kind import Found, check_items
+from .design import Design, Factor, Meeting, Option, Rules
 from .quick import Greedy, Wanted, meetings_of
 
 _SEED = 1
@@ -290,8 +290,8 @@ class _Lines:
         """The tests of a solution by their numbers, none where there is no solution, or None where the steps weren't
         enough to know. Raises `OutOfTime`."""
         # Who makes problems alone doesn't wait for these.
-        from .._spans.record import of_text
-        from .._spans.rows import WHOLE
+        from ..._spans.record import of_text
+        from ..._spans.rows import WHOLE
 
         text = b""
         with Run("dlx-span", ["2", "m1", str(steps), "-", "-"], (line + b"\n" for line in lines), seconds) as run:

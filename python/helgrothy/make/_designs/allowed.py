@@ -10,12 +10,12 @@ import random
 import time
 from collections.abc import Sequence
 
-from .._run.report import Hear, unheard
-from ..errors import OutOfTime
+from ..._run.report import Hear, unheard
+from ...errors import OutOfTime
+from .._kind import check_items, numbered
 from .bits import Values
-from .designs import Factor, Meeting, Rules
+from .design import Factor, Meeting, Rules
 from .fewest import Best
-from .kind import check_items, numbered
 from .quick import Greedy, Wanted
 from .shorten import Shorter
 

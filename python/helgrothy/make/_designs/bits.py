@@ -4,7 +4,7 @@ from __future__ import annotations
 
 from collections.abc import Callable, Iterator, Sequence
 
-from .designs import Factor
+from .design import Factor
 
 # A test: the values that it has, by the number of the factor.
 Test = dict[int, int]

@@ -11,10 +11,10 @@ import random
 import time
 from collections.abc import Iterable, Iterator, Sequence
 
-from ..errors import OutOfTime
-from ..shuffle import order
+from ...errors import OutOfTime
+from ...shuffle import order
 from .bits import Test, Values, ones, places
-from .designs import Meeting
+from .design import Meeting
 
 # What comes together, by the places of its values.
 Places = tuple[int, ...]

@@ -10,7 +10,7 @@ from __future__ import annotations
 from collections.abc import Callable, Collection, Iterable
 from dataclasses import dataclass
 
-from .turns import Form, Motion, images, motions, moved
+from ._turns import Form, Motion, images, motions, moved
 
 Place = tuple[int, int]
 

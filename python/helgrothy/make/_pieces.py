@@ -9,12 +9,12 @@ from collections.abc import Callable, Collection, Iterable, Iterator, Sequence
 from typing import Any
 
 from .._cli.console import did_you_mean
-from .._reason.grids import Grid
 from .._text.syntax import MOST_USES
 from ..draw import Cell, Drawing, Picture, Shades, board_of, check_size
+from ..draw._grids import Grid
 from ..errors import TableFault
 from ..problem import Problem
-from .kind import cut, numbered
+from ._kind import cut, numbered
 
 Place = tuple[int, ...]
 Form = frozenset[Place]

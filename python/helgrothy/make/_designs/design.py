@@ -9,12 +9,12 @@ from dataclasses import dataclass, field
 from math import comb, prod
 from typing import Optional
 
-from .._text.names import colour_names
-from .._text.shown import bytes_of
-from .._text.syntax import MOST_USES, Nearest
-from ..errors import TableFault
-from ..problem import Problem
-from .kind import check_items, numbered
+from ..._text.names import colour_names
+from ..._text.shown import bytes_of
+from ..._text.syntax import MOST_USES, Nearest
+from ...errors import TableFault
+from ...problem import Problem
+from .._kind import check_items, numbered
 
 Option = dict[Hashable, Optional[str]]
 # What comes together in a test: values of some factors, each factor and value by its number.

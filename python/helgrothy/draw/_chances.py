@@ -9,7 +9,7 @@ from typing import TYPE_CHECKING, Any, Optional
 from .._run.occurrences import Occurrences
 from ..errors import NoPicture
 from . import SIDE, Cell, Drawing, Picture, Place
-from .boards import LEAST_LINE, Board, BoardJoins
+from ._boards import LEAST_LINE, Board, BoardJoins
 
 if TYPE_CHECKING:
     from ..problem import Problem

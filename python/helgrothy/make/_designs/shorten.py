@@ -13,7 +13,7 @@ import time
 from collections.abc import Sequence
 from math import comb
 
-from ..errors import OutOfTime
+from ...errors import OutOfTime
 from .bits import places
 from .quick import Places, Sets, Wanted
 
