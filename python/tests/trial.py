@@ -112,7 +112,9 @@ def is_right(rng, with_exports):
         freed = {i: (0, 3) if b is None else b for i, b in primary.items()}
         assert conflict.items and set(conflict.items) <= set(freed), "why names items"
     if with_exports:
-        for name, write in export.FORMATS.items():
+        # clasp reads no integer programs.
+        for name in sorted(set(export.FORMATS) - {"lp"}):
+            write = export.FORMATS[name]
             assert count("".join(f"{line}\n" for line in write(problem)), name) == len(wanted), f"export {name}"
 
 
