@@ -448,7 +448,7 @@ pub fn run<'u, D: Dance, const BOUND: bool, const WAY: bool, const FEW: bool>(
     }
     loop {
         match enter_branch::<D, WAY, FEW>(position, stack, first, &mut more, &mut last, few) {
-            Next::Branch(at) => position.commit_branch::<WAY>(at.item, at.place as u32),
+            Next::Branch(at) => position.commit_branch::<WAY, FEW>(at.item, at.place as u32),
             Next::Solution => return halted(Stop::Member, more, steps),
             Next::Nothing => return halted(Stop::Nothing, more, steps),
         }

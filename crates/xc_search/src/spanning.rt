@@ -181,7 +181,7 @@ fn settle<'a, D: Dance>(state: &mut State<'a, D>) -> bool
     };
     state
         .position
-        .commit_branch::<true>(at.item, at.place as u32);
+        .commit_branch::<true, false>(at.item, at.place as u32);
     true
 }
 

@@ -146,9 +146,10 @@ impl<'a, D: Dance> Position<'a, D> {
     }
 
     /// Makes the moves of a branch at an item: commits the other uses of its option, or covers the
-    /// item where it takes none. `WAY`: on the way to a row, where speed matters less.
+    /// item where it takes none. `WAY`: on the way to a row, where speed matters less. `FEW`: in the loop that counts by
+    /// words, since it is too large to be taken in where two loops call it.
     #[inline(always)]
-    pub fn commit_branch<const WAY: bool>(&mut self, item: u32, place: u32)
+    pub fn commit_branch<const WAY: bool, const FEW: bool>(&mut self, item: u32, place: u32)
         requires can { CanBranch self.old.puzzle item (option_at self.old.puzzle item place) self.old.trail }
         requires place { IsPlace self.old.puzzle item place }
         ensures { self.new ≡ record self.old
