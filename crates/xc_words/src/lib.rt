@@ -1,4 +1,5 @@
-//! Exact covers of at most 64 items by at most 64 options, counted by words of bits.
+//! Exact covers of at most 64 items by at most 64 options, and sets of options that hold items within bounds, counted by
+//! words of bits.
 //!
 //! ```text
 //! let mut budget = 2000;
@@ -6,8 +7,10 @@
 //! ```
 #![tactic(auto)]
 
+mod bounded;
 mod counting;
 mod words;
 
+pub use bounded::{BoundedWords, count_bounded};
 pub use counting::count_left;
 pub use words::{MOST, Words};
