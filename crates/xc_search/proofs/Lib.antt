@@ -23,3 +23,5 @@ pub mod LeftWords
 pub mod FillLemmas
 pub mod ColourLemmas
 pub mod FewLemmas
+pub mod FairSets
+pub mod LeftBounded

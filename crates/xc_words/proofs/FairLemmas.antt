@@ -4,6 +4,8 @@ use Rattle.std.proofs.Common.{refl, arith, sym, ◌∙◌, ap, ap₂, inl, inr, 
 use Rattle.std.proofs.Common.{subst, slice_index, cond, eqb, eqb-true, eq-eqb, leb-true, le-leb}
 use Rattle.std.specs.Int.{bit_at, trailing_zeros, w64}
 use Rattle.std.specs.List.{list_all}
+use Rattle.std.specs.Prelude.{sum_by}
+use Rattle.std.proofs.lemmas.List.Sums.{sum_by-cons}
 use Rattle.std.proofs.lemmas.Bool.{and_parts}
 use Rattle.std.proofs.lemmas.Nat.{and_le_r}
 use Rattle.std.proofs.lemmas.Nat.Bits.{bit_at_and, bit_at_or, bit_at-lt, bit_at-zero, bit_at-pow_same, bit_at-pow_other}
@@ -11,6 +13,7 @@ use Rattle.xc_words.specs.declared.bounded.BoundedWords.{BoundedWords}
 use Rattle.xc_words.specs.Words.{bits_from, bits_of}
 use Rattle.xc_words.specs.Bounded.{is_fair, none_apart, holds_within, fair_sets, times_in}
 use Rattle.xc_words.proofs.BitLemmas.{cleared, bits_cleared}
+use Rattle.xc_words.proofs.SetLemmas.{tally, ones_tally}
 use Rattle.xc_words.proofs.SetLemmas.{joined, joined_same, joined_old, joined_new, joined_fits, joined_twice, ones_sub}
 use Rattle.xc_words.proofs.SetLemmas.{ones_super, ones_least, ones_pow, pow_fits}
 
@@ -34,16 +37,33 @@ differs x y d = by_bool (eqb x y) (λ q. absurd (d (eqb-true x y q))) (λ q. q)
 
 -- ======== The members of a word one by one.
 
-bits_on : (a n m : ℕ) → bit_at m a ≡ 1 → bits_from a (suc n) m ≡ a ∷ bits_from (suc a) n m
+pub bits_on : (a n m : ℕ) → bit_at m a ≡ 1 → bits_from a (suc n) m ≡ a ∷ bits_from (suc a) n m
 bits_on a n m e =
     let z : a + 1 ≡ suc a = omega arith in rw e (ap (λ b. a ∷ bits_from b n m) z)
 
-bits_off : (a n m : ℕ) → bit_at m a ≡ 0 → bits_from a (suc n) m ≡ bits_from (suc a) n m
+pub bits_off : (a n m : ℕ) → bit_at m a ≡ 0 → bits_from a (suc n) m ≡ bits_from (suc a) n m
 bits_off a n m e = let z : a + 1 ≡ suc a = omega arith in rw e (ap (λ b. bits_from b n m) z)
 
 bits_none : (a n : ℕ) → bits_from a n 0 ≡ []
 bits_none a zero = refl
 bits_none a (suc n) = bits_off a n 0 (bit_at-zero a) ∙ bits_none (suc a) n
+
+-- how many members
+tally_sum : (a n m : ℕ) → tally a n m ≡ sum_by (λ x. 1) (bits_from a n m)
+tally_sum a zero m = refl
+tally_sum a (suc n) m =
+    let rest = tally_sum (suc a) n m in
+    by_bit m a
+    (λ e.
+    let on = ap (sum_by (λ (x : ℕ). 1)) (bits_on a n m e) in
+    omega (arith, rest, e, on, sum_by-cons (λ (x : ℕ). 1) a (bits_from (suc a) n m)))
+    (λ e. let off = ap (sum_by (λ (x : ℕ). 1)) (bits_off a n m e) in omega (arith, rest, e, off))
+
+ones_bits_by : (n m : ℕ) → m < 2 ^ n → count_ones m ≡ sum_by (λ x. 1) (bits_from 0 n m)
+ones_bits_by n m f = ones_tally n m f ∙ tally_sum 0 n m
+
+pub ones_bits : (m : ℕ) → m < 2 ^ 64 → count_ones m ≡ sum_by (λ x. 1) (bits_of m)
+ones_bits = ones_bits_by 64
 
 -- a test of all members
 all_on : (f : ℕ → Bool) (a n m : ℕ) → list_all f (bits_from a n m) ≡ true → (i : ℕ) → a ≤ i → i < a + n

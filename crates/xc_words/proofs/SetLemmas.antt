@@ -46,7 +46,7 @@ joined_twice s x y f l k = same_from_bits_below 64 _ _ (joined_fits _ y (joined_
 -- ======== How many members.
 
 -- of the n places from a on, how many of their bits are set
-abbrev tally : ℕ → ℕ → ℕ → ℕ
+abbrev pub tally : ℕ → ℕ → ℕ → ℕ
 tally a zero m = 0
 tally a (suc n) m = bit_at m a + tally (suc a) n m
 
@@ -62,7 +62,7 @@ ones_one : count_ones 1 ≡ 1
 unfolding lib.Count.ones
 ones_one = refl
 
-ones_tally : (n m : ℕ) → m < 2 ^ n → count_ones m ≡ tally 0 n m
+pub ones_tally : (n m : ℕ) → m < 2 ^ n → count_ones m ≡ tally 0 n m
 ones_tally zero m f = let z : m ≡ 0 = omega (arith, f) in ap count_ones z ∙ ones_none
 ones_tally (suc n) m f =
     let half = ones_tally n (m / 2) (omega (arith, f)) in
