@@ -28,6 +28,19 @@ first_of m left f some =
     let k = bit_at-lt left x in
     (t.0, omega (arith, e, t.1, l, k), omega (arith, e, t.1, l, k))
 
+-- the words are those of fewer options too
+of_less : (w : BoundedWords) (items left rest : ℕ) → ((y : ℕ) → y < 64 → bit_at rest y ≡ 1 → bit_at left y ≡ 1)
+    → AreOfOptions w items left → AreOfOptions w items rest
+of_less w items left rest less of = record {
+  both = λ x y l k a b c. of.both x y l k (less x l a) (less y k b) c;
+  some = of.some;
+  known = λ x i l k a b. of.known x i l k (less x l a) b;
+  held = λ x i l k a b c. elim (of.held x i l k (less x l a) b c) [
+    | inl many ↦ inl many
+    | inr all ↦ inr (λ y m d e h. all y m (less y m d) e h)
+  ];
+}
+
 module _ (w : BoundedWords) (items left set unmet : ℕ) (right : IsRight w items left set unmet)
     (fits : left < 2 ^ 64) (set_fits : set < 2 ^ 64) where
   -- with fewer items that are unmet
@@ -87,7 +100,7 @@ module _ (w : BoundedWords) (items left set unmet : ℕ) (right : IsRight w item
     -- without the option
     pub right_without : IsRight w items rest set unmet
     right_without = record {
-      words = right.words;
+      words = of_less w items left rest (λ y l b. (kept y l b).0) right.words;
       sound = right.sound;
       next = λ y l b. right.next y l (kept y l b).0;
       unmet_known = right.unmet_known;
@@ -115,7 +128,7 @@ module _ (w : BoundedWords) (items left set unmet : ℕ) (right : IsRight w item
                 let i = a.0 in
                 let more = times_more w i taken t y taken_fits f l (λ z k c. some z (joined_old taken y z c)) a.3
                 (fresh y l b) in_y in
-                let high = (fair.within i a.1 (right.words.known x i a.2)).1 in
+                let high = (fair.within i a.1 (right.words.known x i within a.1 known a.2)).1 in
                 omega (arith, more, high, a.4)
           ]
 
@@ -146,12 +159,12 @@ module _ (w : BoundedWords) (items left set unmet : ℕ) (right : IsRight w item
           omega (arith, same, with_x.1.within i k h) in
           by_bit (slice_index w.holders i) y
           (λ one. by_bit (slice_index w.holders i) x
-          (λ held. elim (right.words.held x i within k h held) [
+          (λ held. elim (right.words.held x i within k known h held) [
             | inl many ↦ elim (cases_lt (times_in w taken i) (slice_index w.high i)) [
               | inl less ↦ let more = times_one w i taken y taken_fits l in omega (arith, more, less)
               | inr full ↦ absurd (at.2 (i, k, many, one, full))
             ]
-            | inr all ↦ absurd (omega (arith, all y l here.1 one, at.1))
+            | inr all ↦ absurd (omega (arith, all y l here.0 here.1 one, at.1))
           ])
           (λ none.
           let fits_y = joined_fits set y set_fits l in
@@ -185,7 +198,7 @@ module _ (w : BoundedWords) (items left set unmet : ℕ) (right : IsRight w item
           let moved : bit_at (slice_index w.apart y) x ≡ 1 =
           subst (λ v. bit_at (slice_index w.apart y) v ≡ 1) qx
           (subst (λ v. bit_at (slice_index w.apart v) q ≡ 1) py one) in
-          absurd (omega (arith, right.words.both y x l within moved, at.1)))
+          absurd (omega (arith, right.words.both y x l within here.0 known moved, at.1)))
           (λ none. none))
           (λ r. with_y.beside p q lp lq (old p in_p (λ e. here.1 (sym py ∙ e))) (old q in_q (not_same q x r)) d))
           (λ s. by_bool (eqb q y)
@@ -203,7 +216,7 @@ module _ (w : BoundedWords) (items left set unmet : ℕ) (right : IsRight w item
       -- with the option
       pub right_taken : IsRight w items stay taken unmet
       right_taken = record {
-        words = right.words;
+        words = of_less w items left stay (λ y l b. (kept y l (beside.stays y l b).0).0) right.words;
         sound = (right.next x within known).1;
         next = λ y l b. (
           fresh y l (beside.stays y l b).0,
@@ -233,7 +246,7 @@ branch_closed w unmet set new b less closed (inr a) = elim (closed a.0 a.1 a.2) 
 ]
 
 -- at first
-pub right_first : (w : BoundedWords) (items left : ℕ) → AreOfOptions w items → IsRight w items left 0 items
+pub right_first : (w : BoundedWords) (items left : ℕ) → AreOfOptions w items left → IsRight w items left 0 items
 right_first w items left of = record {
   words = of;
   sound = record {

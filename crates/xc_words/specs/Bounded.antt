@@ -29,12 +29,15 @@ abbrev pub fair_sets : BoundedWords → ℕ → List ℕ → ℕ → ℕ
 fair_sets w items [] set = if is_fair w items set then 1 else 0
 fair_sets w items (x ∷ xs) set = fair_sets w items xs set + fair_sets w items xs (bit_or set (2 ^ x))
 
--- The words of these items and options: apart goes both ways, each item may be held, and an option has each of its
--- items among its own, unless all other options of the item are apart from it.
-pub record AreOfOptions (w : BoundedWords) (items : ℕ) : Type 0 where
-  pub both : (x y : ℕ) → x < 64 → y < 64 → bit_at (slice_index w.apart x) y ≡ 1 → bit_at (slice_index w.apart y) x ≡ 1
+-- The words of these items, and of the options that are left: apart goes both ways, each item may be held, and an
+-- option has each of its items among its own, unless all other options of the item are apart from it.
+pub record AreOfOptions (w : BoundedWords) (items left : ℕ) : Type 0 where
+  pub both : (x y : ℕ) → x < 64 → y < 64 → bit_at left x ≡ 1 → bit_at left y ≡ 1
+      → bit_at (slice_index w.apart x) y ≡ 1 → bit_at (slice_index w.apart y) x ≡ 1
   pub some : (i : ℕ) → i < 64 → bit_at items i ≡ 1 → 1 ≤ slice_index w.high i
-  pub known : (x i : ℕ) → bit_at (slice_index w.many x) i ≡ 1 → bit_at items i ≡ 1
-  pub held : (x i : ℕ) → x < 64 → i < 64 → bit_at items i ≡ 1 → bit_at (slice_index w.holders i) x ≡ 1
-      → (bit_at (slice_index w.many x) i ≡ 1)
-      ⊎ ((y : ℕ) → y < 64 → y ≢ x → bit_at (slice_index w.holders i) y ≡ 1 → bit_at (slice_index w.apart x) y ≡ 1)
+  pub known : (x i : ℕ) → x < 64 → i < 64 → bit_at left x ≡ 1 → bit_at (slice_index w.many x) i ≡ 1
+      → bit_at items i ≡ 1
+  pub held : (x i : ℕ) → x < 64 → i < 64 → bit_at left x ≡ 1 → bit_at items i ≡ 1
+      → bit_at (slice_index w.holders i) x ≡ 1 → (bit_at (slice_index w.many x) i ≡ 1)
+      ⊎ ((y : ℕ) → y < 64 → bit_at left y ≡ 1 → y ≢ x → bit_at (slice_index w.holders i) y ≡ 1
+      → bit_at (slice_index w.apart x) y ≡ 1)

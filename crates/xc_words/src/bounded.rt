@@ -143,7 +143,7 @@ pub fn count_bounded(
     most: u64,
     budget: &mut u64,
 ) -> Option<u64>
-    ensures counted { IfSome result (λ n. AreOfOptions words.now items
+    ensures counted { IfSome result (λ n. AreOfOptions words.now items left
         → n ≡ fair_sets words.now items (bits_of left) 0) }
     ensures within { IfSome result (λ n. n ≤ most) }
     ensures spent { budget.new ≤ budget.old }

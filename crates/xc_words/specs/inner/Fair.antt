@@ -40,7 +40,7 @@ pub record IsAllowed (w : BoundedWords) (items set : ℕ) : Type 0 where
 
 -- a set is sound, also with any one of the options that are left, and items that are met need no option
 pub record IsRight (w : BoundedWords) (items left set unmet : ℕ) : Type 0 where
-  pub words : AreOfOptions w items
+  pub words : AreOfOptions w items left
   pub sound : IsAllowed w items set
   pub next : (y : ℕ) → y < 64 → bit_at left y ≡ 1 → (bit_at set y ≡ 0) × IsAllowed w items (bit_or set (2 ^ y))
   pub unmet_known : (i : ℕ) → i < 64 → bit_at unmet i ≡ 1 → bit_at items i ≡ 1
