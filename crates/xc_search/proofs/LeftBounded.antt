@@ -54,10 +54,10 @@ pub record AreBoundedWordsOf (n : ℕ) (r : Residual) (is os : List ℕ) (w : Bo
       → (Agree n o q → ⊥) ⊎ ((v : Wanted) × IsIn r.items v × (v.high ≡ 1) × (holds o v.item ≡ true)
       × (holds q v.item ≡ true))
 
-has_on : (m i : ℕ) → bit_at m i ≡ 1 → has m i ≡ true
+pub has_on : (m i : ℕ) → bit_at m i ≡ 1 → has m i ≡ true
 has_on m i b = eq-eqb (bit_at m i) 1 b
 
-on_has : (m i : ℕ) → has m i ≡ true → bit_at m i ≡ 1
+pub on_has : (m i : ℕ) → has m i ≡ true → bit_at m i ≡ 1
 on_has m i e = eqb-true (bit_at m i) 1 e
 
 has_off : (m i : ℕ) → bit_at m i ≡ 0 → has m i ≡ false
@@ -80,7 +80,7 @@ in_two a b i =
     (λ e. has_off (bit_and a b) i (omega (arith, both, e)) ∙ sym (ap (λ x. x && has b i) (has_off a i e)))
 
 -- the element at a place below the length
-place : {X : Type 0} (xs : List X) (i : ℕ) → i < length xs → (x : X) × (slice_get xs i ≡ Some x)
+pub place : {X : Type 0} (xs : List X) (i : ℕ) → i < length xs → (x : X) × (slice_get xs i ≡ Some x)
 place [] i l = absurd (omega (arith, l))
 place (x ∷ xs) zero l = (x, refl)
 place (x ∷ xs) (suc i) l = place xs i (omega (arith, l))
@@ -90,7 +90,7 @@ length_sum [] = refl
 length_sum (x ∷ xs) = omega (arith, length_sum xs, sum_by-cons (λ x. 1) x xs)
 
 -- the bits of a full word
-full_bit : (k i : ℕ) → bit_at (2 ^ k - 1) i ≡ 1 → i < k
+pub full_bit : (k i : ℕ) → bit_at (2 ^ k - 1) i ≡ 1 → i < k
 full_bit k i b = elim (cases_lt i k) [
   | inl l ↦ l
   | inr l ↦ absurd (omega (arith, b, bit_at_ones_above k i l))
@@ -174,7 +174,8 @@ module _ (n : ℕ) (r : Residual) (is os : List ℕ) (w : BoundedWords) (p : IsP
       | inl i ↦
           let low = ws.bounds i.0 v h i.1 in
           let few = ws.few_items in
-          let within = fair.within i.0 (omega (arith, slice_get_within is i.0 v.item i.1, few)) (item_on i.0 v.item i.1) in
+          let below = slice_get_within is i.0 v.item i.1 in
+          let within = fair.within i.0 (omega (arith, below, few)) (item_on i.0 v.item i.1) in
           let same = times t i.0 v.item f inside i.1 in
           (omega (arith, within.0, same, low.0), omega (arith, within.1, same, low.1))
       | inr free ↦
@@ -225,7 +226,8 @@ module _ (n : ℕ) (r : Residual) (is os : List ℕ) (w : BoundedWords) (p : IsP
         let low = ws.bounds i v.0 v.1 at in
         let met = c.met v.0 v.1 in
         let same = times t i v.0.item f inside at in
-        let few = ones_few (bit_and (slice_index w.holders i) t) (omega (arith, f, and_le_r (slice_index w.holders i) t)) in
+        let few = ones_few (bit_and (slice_index w.holders i) t)
+        (omega (arith, f, and_le_r (slice_index w.holders i) t)) in
         (omega (arith, met.0, same, low.0), omega (arith, met.1, same, low.1, few));
   }
 

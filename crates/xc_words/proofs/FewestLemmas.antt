@@ -90,7 +90,8 @@ module _ (w : BoundedWords) (left set x rest stay : ℕ) (some : 0 < rest) (fits
         at.0,
         at.1,
         λ i k m gone c. by_bit rest i
-            (λ e. subst (λ j. times_in w set j < slice_index w.high j) (sym (only_lowest rest i some fits k e gone)) free)
+            (λ e. subst (λ j. times_in w set j < slice_index w.high j) (sym (only_lowest rest i some fits k e gone))
+            free)
             (λ e. at.2 i k m e c),
       )
 

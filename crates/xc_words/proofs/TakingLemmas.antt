@@ -12,7 +12,8 @@ use Rattle.xc_words.specs.Words.{bits_of}
 use Rattle.xc_words.specs.Bounded.{fair_sets, times_in, AreOfOptions}
 use Rattle.xc_words.specs.inner.Fair.{IsBranchOf, IsBeside, IsRight, IsWithout}
 use Rattle.xc_words.proofs.SetLemmas.{ones_none}
-use Rattle.xc_words.proofs.SetLemmas.{joined, joined_same, joined_old, joined_new, joined_other, joined_fits, some_member}
+use Rattle.xc_words.proofs.SetLemmas.{joined, joined_same, joined_old, joined_new, joined_other, joined_fits}
+use Rattle.xc_words.proofs.SetLemmas.{some_member}
 use Rattle.xc_words.proofs.FairLemmas.{by_bool, by_bit, not_same, IsNever, none_fair, dropped, parted, none_left}
 use Rattle.xc_words.proofs.FairLemmas.{times_least, times_more, times_one, times_most, more_of}
 

@@ -1,5 +1,5 @@
-//! Exact covers of at most 64 items by at most 64 options, and sets of options that hold items within bounds, counted by
-//! words of bits.
+//! Exact covers of at most 64 items by at most 64 options, and sets of options that hold items within bounds, counted
+//! by words of bits.
 //!
 //! ```text
 //! let mut budget = 2000;

@@ -75,14 +75,16 @@ pub loop-left-preserved : goal.loop-left-preserved
 loop-left-preserved t c =
     let inv = c.loop-left.invariant in
     let fits : c.loop-left.left < 2 ^ 64 = omega (arith, c.loop-left.auto.left-fits) in
-    let first = first_of c.fewest_of-branch.result.options c.loop-left.left fits (omega (arith, c.loop-left-test.true)) in (
+    let first = first_of c.fewest_of-branch.result.options c.loop-left.left fits
+    (omega (arith, c.loop-left-test.true)) in (
       omega (arith, c.if-found-most.false, inv.0),
       omega (arith, inv.1, c.count_beside.ensures.spent),
       inv.2,
       omega (arith, inv.3, c.count_beside.ensures.spent),
       λ items right.
           let at = inv.4 items right in
-          one_on c.args.words.now items c.loop-left.left c.loop-budget.set c.fewest_of-branch.new.unmet c.loop-left.sum _
+          one_on c.args.words.now items c.loop-left.left c.loop-budget.set c.fewest_of-branch.new.unmet
+          c.loop-left.sum _
           fits inv.2 at.0 at.1 _ first.0 first.2 c.without-left.result c.without-left.ensures.without
           c.with-taken.result c.with-taken.ensures c.beside-stay.result c.beside-stay.ensures c.in_ok-found.found
           (c.in_ok-found.ensures.counted items (right_next c.args.words.now items c.loop-left.left c.loop-budget.set
@@ -100,7 +102,8 @@ returns-then-sum-most-clause-counted t c = λ items right.
     (omega (arith, c.loop-left.auto.left-fits)) inv.2 c.fewest_of-branch.result
     (branch_closed c.args.words.now c.loop-budget.unmet c.loop-budget.set
     c.fewest_of-branch.new.unmet c.fewest_of-branch.result c.fewest_of-branch.ensures.less
-    c.fewest_of-branch.ensures.closed c.fewest_of-branch.ensures.branch) (omega (arith, c.if-branch-eq0.true)) (omega (arith, c.loop-left-test.false)) in
+    c.fewest_of-branch.ensures.closed c.fewest_of-branch.ensures.branch)
+    (omega (arith, c.if-branch-eq0.true)) (omega (arith, c.loop-left-test.false)) in
     ap (λ n. c.loop-left.sum + n) one ∙ at.1
 
 -- src/bounded.rt:183:13
@@ -120,7 +123,8 @@ returns-then-branch-left-clause-counted t c = λ items right.
     (omega (arith, c.loop-left.auto.left-fits)) inv.2 c.fewest_of-branch.result
     (branch_closed c.args.words.now c.loop-budget.unmet c.loop-budget.set
     c.fewest_of-branch.new.unmet c.fewest_of-branch.result c.fewest_of-branch.ensures.less
-    c.fewest_of-branch.ensures.closed c.fewest_of-branch.ensures.branch) c.loop-left.left (omega (arith, c.loop-left.auto.left-fits)) (omega (arith, c.if-branch-left.true)) in
+    c.fewest_of-branch.ensures.closed c.fewest_of-branch.ensures.branch)
+    c.loop-left.left (omega (arith, c.loop-left.auto.left-fits)) (omega (arith, c.if-branch-left.true)) in
     no_more c.loop-left.sum _ _ none at.1
 
 -- src/bounded.rt:186:13
@@ -172,8 +176,10 @@ loop-budget-preserved t c =
           fits inv.2 c.fewest_of-branch.result
           (branch_closed c.args.words.now c.loop-budget.unmet c.loop-budget.set
           c.fewest_of-branch.new.unmet c.fewest_of-branch.result c.fewest_of-branch.ensures.less
-          c.fewest_of-branch.ensures.closed c.fewest_of-branch.ensures.branch) c.without.result rest_fits (omega (arith, c.loop-left-test.false, fewer)) in
-          last_on c.args.words.now items c.loop-left.left c.loop-budget.set c.fewest_of-branch.new.unmet c.loop-left.sum _
+          c.fewest_of-branch.ensures.closed c.fewest_of-branch.ensures.branch)
+          c.without.result rest_fits (omega (arith, c.loop-left-test.false, fewer)) in
+          last_on c.args.words.now items c.loop-left.left c.loop-budget.set c.fewest_of-branch.new.unmet
+          c.loop-left.sum _
           fits inv.2 at.0 at.1 _ first.0 first.2 c.without.result c.without.ensures.without
           c.with-set.result c.with-set.ensures c.beside-left.result c.beside-left.ensures none,
     )

@@ -24,9 +24,11 @@ loop-rest-preserved-then-of-set c =
     let inv = c.loop-rest.invariant in
     let fits : c.loop-rest.rest < 2 ^ 64 = omega (arith, c.loop-rest.auto.rest-fits) in (
       stays_full c.args.words.now c.args.left c.args.set c.args.x c.loop-rest.rest c.loop-rest.stay some fits
-          (slice_index c.args.words.now.holders (trailing_zeros w64 c.loop-rest.rest)) _ c.minus-stay-then-of-set.ensures refl inv.0,
+          (slice_index c.args.words.now.holders (trailing_zeros w64 c.loop-rest.rest)) _
+          c.minus-stay-then-of-set.ensures refl inv.0,
       goes_full c.args.words.now c.args.left c.args.set c.args.x c.loop-rest.rest c.loop-rest.stay some fits
-          (slice_index c.args.words.now.holders (trailing_zeros w64 c.loop-rest.rest)) _ c.minus-stay-then-of-set.ensures refl
+          (slice_index c.args.words.now.holders (trailing_zeros w64 c.loop-rest.rest)) _
+          c.minus-stay-then-of-set.ensures refl
           (omega (arith, c.if-of-set.true, c.from.ensures)) inv.2 inv.1,
       λ i b. inv.2 i (from_without _ _ i b),
     )

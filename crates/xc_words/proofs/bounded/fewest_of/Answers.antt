@@ -63,7 +63,8 @@ loop-rest-preserved-then-branches-least c =
 pub loop-rest-preserved : goal.loop-rest-preserved
 loop-rest-preserved c =
     let inv = c.loop-rest.invariant in
-    let few = ones_few (bit_and (slice_index c.args.words.now.holders (trailing_zeros w64 c.loop-rest.rest)) c.args.left)
+    let few = ones_few
+    (bit_and (slice_index c.args.words.now.holders (trailing_zeros w64 c.loop-rest.rest)) c.args.left)
     (omega (
       arith,
       c.ranges.left.fits,
