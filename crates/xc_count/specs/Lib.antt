@@ -1,3 +1,4 @@
 pub mod Number
 pub mod Occurrences
+pub mod Turns
 pub mod inner

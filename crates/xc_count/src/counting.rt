@@ -3,10 +3,12 @@ ghost use Rattle.std.specs.Prelude.{ℕ, ◌≡◌, ◌≤◌, length, true, fal
 ghost use Rattle.xc_input.specs.Problem.{Puzzle, IsValid};
 ghost use Rattle.xc_search.specs.Cover.{members};
 ghost use Rattle.xc_count.specs.Number.{HasCovers};
+ghost use Rattle.xc_count.specs.Turns.{CountsByTurns};
 ghost use Rattle.xc_count.specs.inner.Held.{HoldsOnce};
 
 use crate::by_option::sweep_options;
 use crate::errors::Halted;
+use crate::lone::{LoneSearch, leave_alone};
 use crate::plan::Plan;
 use crate::planning::planning_work;
 use crate::rival::{FIRST_WORK, Rival};
@@ -57,29 +59,49 @@ fn sweep_beside(
     }
 }
 
-/// How many covers a problem has, and whether the sweep came to it.
+/// What the two ways that have turns came to.
 #[derive(Drop)]
-pub struct Counted {
-    pub covers: Natural,
-    pub is_swept: bool,
+pub enum Counting<'a> {
+    /// How many covers there are: the sweep ended first.
+    Swept(Natural),
+    /// The same: the search ended first, or there was no sweep.
+    Searched(Natural),
+    /// The states would take too much memory, so the search is left alone.
+    GaveUp(LoneSearch<'a>),
 }
 
-/// How many covers a problem has, and which of the two ways that have turns ended first.
-pub fn count_by_turns(alloc: Global, problem: &Problem, bound: usize) -> Result<Counted, Memory>
-    ensures covers { IfOk result (λ c. c.covers ≡ length (members problem.now.puzzle)) }
+/// What `count` does, until the sweep gives up: then the search is returned, for the caller to go on with. It never
+/// gives up where `bound` is 0, since then there is only the search, which goes on to its end. `gone_over` is for the
+/// search alone.
+///
+/// # Errors
+/// `Memory` where there is none for the search's tables.
+pub fn count_by_turns<'a>(
+    alloc: Global,
+    problem: &'a Problem,
+    bound: usize,
+    gone_over: &'a Cell<u64>,
+) -> Result<Counting<'a>, Memory>
+    ensures counts { IfOk result (λ c. CountsByTurns problem.now.puzzle bound c) }
+    ensures valid { IfOk result (λ _. IsValid problem.now.puzzle) }
+{
+    let mut rival = Rival::new(alloc, problem, gone_over)?;
+    match sweep_beside(alloc, problem, bound, &mut rival) {
+        Ok(covers) => Ok(Counting::Swept(covers)),
+        Err(Halted::Failed(_)) if bound > 0 => Ok(Counting::GaveUp(leave_alone(rival, problem))),
+        Err(_) => Ok(Counting::Searched(rival.finish(alloc)?)),
+    }
+}
+
+/// How many covers a problem has. Where the sweep gives up, the search goes on at once.
+fn number_of_covers(alloc: Global, problem: &Problem, bound: usize) -> Result<Natural, Memory>
+    ensures members { IfOk result (λ n. n ≡ length (members problem.now.puzzle)) }
     ensures valid { IfOk result (λ _. IsValid problem.now.puzzle) }
 {
     let gone_over = Cell::new(0);
-    let mut rival = Rival::new(alloc, problem, &gone_over)?;
-    match sweep_beside(alloc, problem, bound, &mut rival) {
-        Ok(covers) => Ok(Counted {
-            covers,
-            is_swept: true,
-        }),
-        Err(_) => Ok(Counted {
-            covers: rival.finish(alloc)?,
-            is_swept: false,
-        }),
+    match count_by_turns(alloc, problem, bound, &gone_over)? {
+        Counting::Swept(covers) | Counting::Searched(covers) => Ok(covers),
+        Counting::GaveUp(search) => search.go_on_to_end(alloc),
     }
 }
 
@@ -100,8 +122,8 @@ pub fn count(alloc: Global, problem: &Problem, bound: usize) -> Result<Natural, 
     ensures members { IfOk result (λ n. n ≡ length (members problem.now.puzzle)) }
     ensures covers { IfOk result (λ n. HasCovers problem.now.puzzle n) }
 {
-    let counted = count_by_turns(alloc, problem, bound)?;
-    Ok(counted.covers)
+    let covers = number_of_covers(alloc, problem, bound)?;
+    Ok(covers)
 }
 
 /// A valid problem has as many covers as its listing has members, and no other number of them.

@@ -1,14 +1,16 @@
 //! The solution of a number.
 
-ghost use Rattle.std.specs.Prelude.{◌≡◌, IfOk, IfSome, option_map};
+ghost use Rattle.std.specs.Prelude.{◌≡◌, ◌<◌, IfOk, option_map};
 ghost use Rattle.xc_input.specs.Problem.{IsValid, numbered_get};
 ghost use Rattle.xc_search.specs.Cover.{members};
+ghost use Rattle.xc_count.specs.Turns.{FindsByTurns};
 ghost use Rattle.xc_count.specs.inner.Held.{HoldsOnce};
 ghost use Rattle.xc_count.specs.inner.Plans.{IsPlan};
 
 use crate::branches::{branch_item, branch_with};
 use crate::counting::is_once;
 use crate::errors::Halted;
+use crate::lone::{LoneSearch, leave_alone};
 use crate::passing::nth_by_search;
 use crate::plan::Plan;
 use crate::planning::planning_work;
@@ -86,28 +88,63 @@ fn nth_by_plan(
     nth_by_counts(alloc, problem, &plan, number, plan.leaves(bound), rival)
 }
 
-/// The solution of a number beside a search that has turns, and goes on alone where the counts give up.
-fn nth_by_turns(
+/// What the counts and the search that have turns came to.
+#[derive(Drop)]
+pub enum Finding<'a> {
+    /// The solution of the number, or none where there are fewer.
+    Found(Option<Vec<Choice>>),
+    /// The states would take too much memory, so the search is left alone.
+    LeftAlone(LoneSearch<'a>),
+}
+
+/// The solution of a number beside a search that has turns, which is left alone where the counts give up.
+fn nth_beside<'a>(
     alloc: Global,
-    problem: &Problem,
+    problem: &'a Problem,
     number: &Natural,
     bound: usize,
-) -> Result<Option<Option<Vec<Choice>>>, Memory>
+    gone_over: &'a Cell<u64>,
+) -> Result<Finding<'a>, Memory>
     requires once { HoldsOnce problem.now.puzzle }
     requires valid { IsValid problem.now.puzzle }
-    ensures { IfOk result (λ known. IfSome known (λ found. option_map (λ c. c.items) found
-        ≡ numbered_get (members problem.now.puzzle) number.now)) }
+    requires bound { 0 < bound }
+    ensures { IfOk result (λ f. FindsByTurns problem.now.puzzle number.now bound f) }
 {
     let most = number.capped();
-    let gone_over = Cell::new(0);
-    let mut rival = Rival::up_to(alloc, problem, &gone_over, most)?;
+    let mut rival = Rival::up_to(alloc, problem, gone_over, most)?;
     // No search passes so many solutions in a lifetime.
     if Natural::from_u64(alloc, most) < *number {
         rival.pause();
     }
     match nth_by_plan(alloc, problem, number, bound, &mut rival) {
-        Ok(found) => Ok(Some(found)),
-        Err(_) => rival.find(alloc, number),
+        Ok(found) => Ok(Finding::Found(found)),
+        Err(Halted::Failed(_)) => Ok(Finding::LeftAlone(leave_alone(rival, problem))),
+        Err(Halted::Overtaken) => {
+            let search = leave_alone(rival, problem);
+            Ok(Finding::Found(search.go_on_to(alloc, number)?))
+        }
+    }
+}
+
+/// What `nth` does, until the counts give up: then the search is returned, for the caller to go on with. They never
+/// give up where `bound` is 0 or an item has other bounds than `1:1`, since then there is only the search. `gone_over`
+/// is for the search alone.
+///
+/// # Errors
+/// `Memory` where there is none for the search's tables.
+pub fn nth_by_turns<'a>(
+    alloc: Global,
+    problem: &'a Problem,
+    number: &Natural,
+    bound: usize,
+    gone_over: &'a Cell<u64>,
+) -> Result<Finding<'a>, Memory>
+    ensures { IfOk result (λ f. FindsByTurns problem.now.puzzle number.now bound f) }
+{
+    if bound > 0 && is_once(problem) {
+        nth_beside(alloc, problem, number, bound, gone_over)
+    } else {
+        Ok(Finding::Found(nth_by_search(alloc, problem, number)?))
     }
 }
 
@@ -128,10 +165,9 @@ pub fn nth(
     ensures { IfOk result (λ found. option_map (λ c. c.items) found
         ≡ numbered_get (members problem.now.puzzle) number.now) }
 {
-    if bound > 0 && is_once(problem) {
-        if let Some(found) = nth_by_turns(alloc, problem, number, bound)? {
-            return Ok(found);
-        }
+    let gone_over = Cell::new(0);
+    match nth_by_turns(alloc, problem, number, bound, &gone_over)? {
+        Finding::Found(found) => Ok(found),
+        Finding::LeftAlone(search) => search.go_on_to(alloc, number),
     }
-    nth_by_search(alloc, problem, number)
 }

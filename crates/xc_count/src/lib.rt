@@ -14,6 +14,7 @@ mod kept;
 mod keys;
 mod layer;
 mod left;
+mod lone;
 mod marks;
 mod members;
 mod metered;
@@ -30,6 +31,7 @@ mod sweeping;
 mod taken;
 mod times;
 
-pub use counting::{count, one_number_of_covers};
-pub use finding::nth;
-pub use occurring::{count_each, occurrences};
+pub use counting::{Counting, count, count_by_turns, one_number_of_covers};
+pub use finding::{Finding, nth, nth_by_turns};
+pub use lone::LoneSearch;
+pub use occurring::{count_each, each_by_search, each_by_turns, occurrences};

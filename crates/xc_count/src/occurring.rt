@@ -1,13 +1,13 @@
 //! In how many solutions each option is.
-ghost use Rattle.std.specs.Prelude.{ℕ, ◌≡◌, ◌≢◌, ◌+◌, ◌-◌, ◌≤◌, length, slice_index, All, AllPairs, IfOk, OnOk};
-ghost use Rattle.std.specs.Prelude.{if◌then◌else◌};
+ghost use Rattle.std.specs.Prelude.{ℕ, ◌≡◌, ◌≢◌, ◌+◌, ◌-◌, ◌≤◌, ◌<◌, length, slice_index, All, AllPairs, IfOk, OnOk};
+ghost use Rattle.std.specs.Prelude.{IfNone, IfSome, if◌then◌else◌};
 ghost use Rattle.xc_input.specs.Problem.{IsValid};
 ghost use Rattle.xc_search.specs.Cover.{members, options_of};
 ghost use Rattle.xc_count.specs.inner.Held.{HoldsOnce};
 ghost use Rattle.xc_count.specs.Occurrences.{occurrences, takes};
 
 use crate::by_states::occurrences_by_states;
-use crate::counting::{count_by_turns, is_once};
+use crate::counting::{Counting, count_by_turns, is_once};
 use crate::errors::CountError;
 use crate::members::{all_members, pass};
 use crate::plan::Plan;
@@ -58,20 +58,27 @@ fn numbers_of(alloc: Global, times: &[Times]) -> Result<Vec<Natural>, AllocError
     Ok(numbers)
 }
 
-/// In how many solutions each option is, by a search through all of them.
-fn occurrences_by_search(alloc: Global, problem: &Problem) -> Result<Vec<Natural>, Memory>
-    ensures { IfOk result (λ ns. ns.items ≡ occurrences problem.now.puzzle) }
+/// How many solutions a problem has, and in how many each option is, by a search through all of them.
+///
+/// # Errors
+/// `Memory` where there is none for the search's tables or the numbers.
+pub fn each_by_search(alloc: Global, problem: &Problem) -> Result<(Natural, Vec<Natural>), Memory>
+    ensures covers { IfOk result (λ found. found.0 ≡ length (members problem.now.puzzle)) }
+    ensures each { IfOk result (λ found. found.1.items ≡ occurrences problem.now.puzzle) }
 {
+    let mut covers = Times::zero(alloc);
     let mut times = never(alloc, problem.options())?;
     let gone_over = Cell::new(0);
     let mut span = all_members(alloc, problem, &gone_over)?;
     while pass(&mut span, 1) == 1 {
+        covers.count_one(alloc)?;
         add_solution(alloc, times.as_mut_slice(), span.choices())?;
     }
-    Ok(numbers_of(alloc, times.as_slice())?)
+    let numbers = numbers_of(alloc, times.as_slice())?;
+    Ok((covers.number(alloc)?, numbers))
 }
 
-/// The same by the states of a sweep, with a plan of its own.
+/// In how many solutions each option is, by the states of a sweep, with a plan of its own.
 fn occurrences_by_plan(
     alloc: Global,
     problem: &Problem,
@@ -83,6 +90,36 @@ fn occurrences_by_plan(
 {
     let plan = Plan::new(alloc, problem, bound)?;
     occurrences_by_states(alloc, problem, &plan, plan.leaves(bound))
+}
+
+/// What `count_each` does, until the states take too much memory: then nothing is returned, and `each_by_search` is
+/// left. They never do where `bound` is 0, since then there is only the search.
+///
+/// # Errors
+/// `Memory` where there is none for the search's tables or the numbers.
+pub fn each_by_turns(
+    alloc: Global,
+    problem: &Problem,
+    bound: usize,
+) -> Result<Option<(Natural, Vec<Natural>)>, Memory>
+    ensures covers { IfOk result (λ found. IfSome found (λ f. f.0 ≡ length (members problem.now.puzzle))) }
+    ensures each { IfOk result (λ found. IfSome found (λ f. f.1.items ≡ occurrences problem.now.puzzle)) }
+    ensures bound { IfOk result (λ found. IfNone found (0 < bound)) }
+{
+    if bound == 0 {
+        return Ok(Some(each_by_search(alloc, problem)?));
+    }
+    let gone_over = Cell::new(0);
+    match count_by_turns(alloc, problem, bound, &gone_over)? {
+        Counting::Swept(covers) if is_once(problem) => {
+            match occurrences_by_plan(alloc, problem, bound) {
+                Ok(times) => Ok(Some((covers, times))),
+                Err(_) => Ok(None),
+            }
+        }
+        Counting::Swept(_) | Counting::Searched(_) => Ok(Some(each_by_search(alloc, problem)?)),
+        Counting::GaveUp(_) => Ok(None),
+    }
 }
 
 /// How many solutions a problem has, and in how many each option is, in the order of the file. First they are counted.
@@ -100,14 +137,10 @@ pub fn count_each(
     ensures covers { IfOk result (λ found. found.0 ≡ length (members problem.now.puzzle)) }
     ensures each { IfOk result (λ found. found.1.items ≡ occurrences problem.now.puzzle) }
 {
-    let counted = count_by_turns(alloc, problem, bound)?;
-    if counted.is_swept && is_once(problem) {
-        if let Ok(times) = occurrences_by_plan(alloc, problem, bound) {
-            return Ok((counted.covers, times));
-        }
+    match each_by_turns(alloc, problem, bound)? {
+        Some(found) => Ok(found),
+        None => each_by_search(alloc, problem),
     }
-    let times = occurrences_by_search(alloc, problem)?;
-    Ok((counted.covers, times))
 }
 
 /// In how many solutions each option is, as `count_each` returns it.
