@@ -14,13 +14,13 @@ use xc_search::{Choice, Search, Step};
 const ROOMS: [usize; 4] = [1_000_000, 1_800, 500, 0];
 
 /// Four items in pairs.
-const PAIRS: &[u8] = b"a b c d\na b\na c\na d\nb c\nb d\nc d\n";
+pub const PAIRS: &[u8] = b"a b c d\na b\na c\na d\nb c\nb d\nc d\n";
 
 /// A secondary item that two options may share for one colour, and not with none.
-const SHARED: &[u8] = b"A B | x\nA x:r\nA x:g\nA x\nB x:r\nB x:g\nB x\nB\n";
+pub const SHARED: &[u8] = b"A B | x\nA x:r\nA x:g\nA x\nB x:r\nB x:g\nB x\nB\n";
 
 /// An item that is held twice or three times, in options that share a secondary item.
-const OFTEN: &[u8] = b"2:3|A B | x\nA x:r\nA x:g\nA x:r\nA\nB x:r\nB\nB x\n";
+pub const OFTEN: &[u8] = b"2:3|A B | x\nA x:r\nA x:g\nA x:r\nA\nB x:r\nB\nB x\n";
 
 /// The number of covers, in decimal.
 struct Covers(&'static [u8]);
