@@ -6,6 +6,8 @@
 - Where a sweep has nothing to gain, the count takes hardly longer than the solver: with options of 1,000 uses that a
   sweep reads for each state, and with one item whose 99,999 options have a secondary item each.
 - Colours that gave 16,384 states one hash, when it had no seed, take no longer than other colours.
+- Where the states take more than the bound, that is reported, whatever was asked, and where it can't be written the
+  search doesn't go on. With `b0` there are no states, and nothing is reported.
 
 The last line is `N passed, M failed`.
 """
@@ -14,6 +16,7 @@ from __future__ import annotations
 import os
 import random
 import resource
+import select
 import subprocess
 import sys
 import tempfile
@@ -45,6 +48,7 @@ COLOURS = 500
 # A problem with an option of so many uses is swept in the order of the file.
 MANY = 6000
 
+GAVE_UP = "The states take too much memory: the search goes on alone.\n"
 BOUND = 10
 MEGABYTE = 1_000_000
 
@@ -131,7 +135,51 @@ def peak(words: list[str], text: bytes, limit: float) -> int:
     return most
 
 
+def lots(people: int) -> Problem:
+    """Couples draw lots: each gives to one, and neither to themselves nor to their partner."""
+    gives, gets = ([f"{side}{k}" for k in range(people)] for side in "gr")
+    both = range(people)
+    return Problem(1, [*gives, *gets], [], [[gives[i], gets[j]] for i in both for j in both if i // 2 != j // 2])
+
+
+def reported(words: list[str], text: bytes, patience: float) -> str:
+    """What dlx-count reports first in so many seconds."""
+    with tempfile.TemporaryFile() as file:
+        file.write(text)
+        file.seek(0)
+        with subprocess.Popen(
+            [programs.find("dlx-count"), "1", *words], stdin=file, stdout=subprocess.DEVNULL, stderr=subprocess.PIPE
+        ) as process:
+            assert process.stderr is not None
+            ready = select.select([process.stderr], [], [], patience)[0]
+            line = process.stderr.readline() if ready else b""
+            process.kill()
+    return line.decode()
+
+
+def unread(words: list[str], text: bytes) -> int | None:
+    """The status where standard error takes nothing; None where the search goes on all the same."""
+    with open("/dev/full", "wb") as full:
+        command = [programs.find("dlx-count"), "1", *words]
+        try:
+            return subprocess.run(command, input=text, stdout=subprocess.DEVNULL, stderr=full, timeout=60).returncode
+        except subprocess.TimeoutExpired:
+            return None
+
+
+def gives_up() -> Iterator[str | None]:
+    text = lots(20).text()
+    for words in (["b1"], ["b1", "o"], ["b1", "n500000000"]):
+        line = reported(words, text, 60)
+        yield None if line == GAVE_UP else f"lots, {words}: {line!r}"
+        status = unread(words, text)
+        yield None if status == 3 else f"lots, {words}, standard error full: status {status}"
+    line = reported(["b0"], text, 1)
+    yield None if not line else f"lots, no memory for states: {line!r}"
+
+
 def failures() -> Iterator[str | None]:
+    yield from gives_up()
     most = peak(["1", f"b{BOUND}"], long_numbers(20_000, 14).text(), 1.5)
     allowed = (1.3 * BOUND + 12) * MEGABYTE
     yield None if most <= allowed else f"long numbers: {most / MEGABYTE:.0f} megabytes with b{BOUND}"

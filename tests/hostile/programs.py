@@ -325,6 +325,9 @@ def hurting():
     yield "permutations of 300", "1", "\n".join([" ".join(names[:600]), *(f"{a} {b}" for a in names[:300] for b in names[300:600]), ""]), None
 
 
+GAVE_UP = b"The states take too much memory: the search goes on alone.\n"
+
+
 def counts():
     """A count ends soon where the number is near, and else goes on, in little more memory than its bound allows."""
     for what, kind, text, wanted in hurting():
@@ -336,7 +339,8 @@ def counts():
                 run_of_it.kill()
                 out, err = run_of_it.communicate()
         took = time.monotonic() - begun
-        is_right = out == b"" and (run_of_it.returncode == 0 and err.startswith(b"Altogether ") or not wanted and err == b"")
+        said = err.removeprefix(GAVE_UP)
+        is_right = out == b"" and (run_of_it.returncode == 0 and said.startswith(b"Altogether ") or not wanted and said == b"")
         tell(is_right and took < HANG and err.decode().endswith(f"Altogether {wanted}\n" if wanted else ""), f"a count of {what}: {run_of_it.returncode}, {err[:80]!r}, {took:.1f} s")
 
 
@@ -359,7 +363,8 @@ def bounds_of_counts():
             begun = time.monotonic()
             status = count.wait(HANG)
             told = count.stderr.read()
-        tell(is_counting and status == -signal.SIGINT and told == b"", f"a count that is stopped: {status}, {told[:80]!r}")
+        is_silent = told == b"" or megabytes > 0 and told == GAVE_UP
+        tell(is_counting and status == -signal.SIGINT and is_silent, f"a count that is stopped: {status}, {told[:80]!r}")
         tell(time.monotonic() - begun < 10, "a count that is stopped doesn't end at once")
         tell(most < 2 * megabytes + 20, f"a count within {megabytes} MB takes {most:.0f}")
     small = ["sh", "-c", 'ulimit -v 20000; exec "$@"', "sh", path("dlx-count"), "1", "b4000"]

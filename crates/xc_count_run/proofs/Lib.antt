@@ -1,1 +1,2 @@
+mod AloneLemmas
 mod LineLemmas

@@ -5,8 +5,9 @@ use Rattle.xc_input.specs.Named.{Named}
 use Rattle.xc_input.specs.Pieces.{SourceState}
 use Rattle.xc_search.specs.Cover.{members}
 use Rattle.xc_list.specs.Messages.{warning_text}
-use Rattle.xc_streams.specs.Texts.{Seen, SinkState, Took, BrokeOff}
+use Rattle.xc_streams.specs.Texts.{Seen}
 use Rattle.xc_tools.specs.WholeRuns.{Sinks, IsRefused, ReadsProblem}
+use Rattle.xc_count_run.specs.Alone.{DidBehind, DidPerhapsAlone}
 use Rattle.xc_count_run.specs.Each.{DidTellEach}
 use Rattle.xc_count_run.specs.LastLine.{Concludes, count_text}
 use Rattle.xc_count_run.specs.Solutions.{DidFind}
@@ -26,14 +27,11 @@ DidAnswer how_many status old new a = DidCount a status old new
 DidAnswer (solution digits) status old new a = DidFind a (digits_value 10 digits) status old new
 DidAnswer of_each_option status old new a = DidTellEach a status old new
 
--- A warning couldn't be printed, at 3, and the output wasn't touched; or the warnings were printed, and then what was
--- asked of the problem was answered.
+-- What was asked of a problem was answered behind the warnings: at once, or behind the line that the search goes on
+-- alone.
 abbrev pub DidWarnAndAnswer : {O E : Type 0} → Wish → ℕ → Sinks O E → Sinks O E → Named → List ℕ → Type 0
-DidWarnAndAnswer wish status old new a ignored =
-    let warnings = flat_map warning_text ignored in
-    ((status ≡ 3) × BrokeOff old.err.state new.err.state warnings × (new.out ≡ old.out))
-    ⊎ ((warned : Seen _ SinkState) × Took old.err.state warned.state warnings
-    × DidAnswer wish status (record old { err = warned }) new a)
+DidWarnAndAnswer wish status old new a ignored = DidBehind (flat_map warning_text ignored)
+    (λ warned. DidPerhapsAlone (λ from. DidAnswer wish status from new a) status warned new) status old new
 
 -- What a run did, by its words and its status, which is 1 exactly if the words are wrong.
 abbrev pub DidCountWords : {S O E : Type 0} → List (List ℕ) → ℕ → Seen S SourceState → Seen S SourceState

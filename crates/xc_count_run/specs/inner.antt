@@ -5,7 +5,8 @@ use Rattle.std.specs.Str.{byte}
 use Rattle.xc_check.specs.LongNumbers.{long_number}
 use Rattle.xc_input.specs.Named.{Named}
 use Rattle.xc_search.specs.Cover.{members}
-use Rattle.xc_streams.specs.Texts.{SinkState, WasTold}
+use Rattle.xc_streams.specs.Texts.{SinkState, Took, BrokeOff, WasTold}
+use Rattle.xc_count_run.specs.Alone.{gave_up_text}
 use Rattle.xc_count_run.specs.LastLine.{Concludes, count_text}
 use Rattle.xc_count_run.specs.declared.asked.Question.{Question}
 use Rattle.xc_count_run.specs.declared.asked.Question.TheVariants.{HowMany, Solution, OfEachOption}
@@ -31,3 +32,8 @@ megabytes (word ∷ _) = unwrap_or (bound_word word) 512
 abbrev pub ReportsCount : Named → ℕ → SinkState → SinkState → Type 0
 ReportsCount a status old new = Concludes (count_text (length (members a.puzzle))) status old new
     ⊎ ((status ≡ 4) × WasTold old new (codes "Out of memory.\n"))
+
+-- and what it reports if a search goes on alone: that line, as far as that goes, and then the number
+abbrev pub ReportsAlone : Named → ℕ → SinkState → SinkState → Type 0
+ReportsAlone a status old new = ((status ≡ 3) × BrokeOff old new gave_up_text)
+    ⊎ ((between : SinkState) × Took old between gave_up_text × ReportsCount a status between new)

@@ -1,11 +1,14 @@
 //! What is reported of a count.
 ghost use Rattle.std.specs.Prelude.{◌≡◌, ◌==◌, ◌++◌, ℕ, IfOk, codes, if◌then◌else◌};
 ghost use Rattle.natural.specs.Numerals.{numeral};
+ghost use Rattle.xc_streams.specs.Texts.{Writes};
+ghost use Rattle.xc_count_run.specs.Alone.{gave_up_text};
 ghost use Rattle.xc_count_run.specs.LastLine.{count_text};
 ghost use Rattle.xc_count_run.specs.Solutions.{fewer_text};
 
 use natural::Natural;
 use std::alloc::{AllocError, Global};
+use xc_list::{Sink, SinkFault, write_all};
 
 /// What follows the number of solutions.
 fn tail<'a>(is_one: bool) -> &'a [u8]
@@ -53,4 +56,15 @@ pub fn fewer_line(alloc: Global, number: &Natural) -> Result<Vec<u8>, AllocError
     } else {
         line_of(alloc, b"There are fewer than ", number, b" solutions.\n")
     }
+}
+
+/// Reports that the states take too much memory. Where that can't be written, nobody waits for a search that may never
+/// end.
+pub fn write_gave_up<E: Sink>(err: &mut E) -> Result<(), SinkFault>
+    ensures { Writes (E.state err.old) (E.state err.new) result gave_up_text }
+{
+    write_all(
+        err,
+        b"The states take too much memory: the search goes on alone.\n",
+    )
 }

@@ -3,15 +3,16 @@ ghost use Rattle.std.specs.Prelude.{◌≡◌, ◌++◌, IfOk, OnOk, flat_map, l
 ghost use Rattle.std.specs.List.{enumerate_from};
 ghost use Rattle.xc_search.specs.Cover.{members};
 ghost use Rattle.xc_tools.specs.WholeRuns.{sinks};
+ghost use Rattle.xc_count.specs.Occurrences.{occurrences};
+ghost use Rattle.xc_count_run.specs.Alone.{DidPerhapsAlone};
 ghost use Rattle.xc_count_run.specs.Each.{DidTellEach, PrintsBoth, option_line, option_lines};
 ghost use Rattle.xc_count_run.specs.LastLine.{count_text};
 
-use crate::messages::count_line;
-use crate::running::write_last;
+use crate::messages::{count_line, write_gave_up};
+use crate::running::{FAILED, write_last};
 use natural::Natural;
 use std::alloc::{AllocError, Global};
-use xc_count::count_each;
-use xc_dance::Memory;
+use xc_count::{each_by_search, each_by_turns};
 use xc_input::Problem;
 use xc_list::{Sink, write_all};
 use xc_tools::{flushed, out_of_memory, write_failed};
@@ -44,17 +45,6 @@ fn lines_of(alloc: Global, numbers: &[Natural]) -> Result<Vec<u8>, AllocError>
     Ok(text)
 }
 
-/// The lines of a problem's options, and the last line of its count.
-fn texts_of(alloc: Global, problem: &Problem, bound: usize) -> Result<(Vec<u8>, Vec<u8>), Memory>
-    ensures lines { IfOk result (λ texts. texts.0.items ≡ option_lines problem.now.puzzle) }
-    ensures last { IfOk result (λ texts. texts.1.items ≡ count_text (length (members problem.now.puzzle))) }
-{
-    let (covers, numbers) = count_each(alloc, problem, bound)?;
-    let lines = lines_of(alloc, numbers.as_slice())?;
-    let last = count_line(alloc, &covers)?;
-    Ok((lines, last))
-}
-
 /// Writes and flushes lines, and then writes the last one.
 fn print_both<O: Sink, E: Sink>(lines: &[u8], last: &[u8], out: &mut O, err: &mut E) -> u8
     ensures { PrintsBoth lines.now last.now result
@@ -70,6 +60,41 @@ fn print_both<O: Sink, E: Sink>(lines: &[u8], last: &[u8], out: &mut O, err: &mu
 }
 
 /// Prints of each option in how many solutions it is, and how many there are.
+fn tell_numbers<O: Sink, E: Sink>(
+    alloc: Global,
+    problem: &Problem,
+    found: &(Natural, Vec<Natural>),
+    out: &mut O,
+    err: &mut E,
+) -> u8
+    requires covers { found.now.0 ≡ length (members problem.now.puzzle) }
+    requires each { found.now.1.items ≡ occurrences problem.now.puzzle }
+    ensures did { DidTellEach problem.now result
+        (sinks O.state E.state out.old err.old) (sinks O.state E.state out.new err.new) }
+{
+    let (covers, numbers) = found;
+    match (
+        lines_of(alloc, numbers.as_slice()),
+        count_line(alloc, covers),
+    ) {
+        (Ok(lines), Ok(last)) => print_both(lines.as_slice(), last.as_slice(), out, err),
+        _ => out_of_memory(err),
+    }
+}
+
+/// The same by a search through all solutions.
+fn search_each<O: Sink, E: Sink>(alloc: Global, problem: &Problem, out: &mut O, err: &mut E) -> u8
+    ensures did { DidTellEach problem.now result
+        (sinks O.state E.state out.old err.old) (sinks O.state E.state out.new err.new) }
+{
+    match each_by_search(alloc, problem) {
+        Ok(found) => tell_numbers(alloc, problem, &found, out, err),
+        Err(_) => out_of_memory(err),
+    }
+}
+
+/// Prints of each option in how many solutions it is, and how many there are, by states if they don't take too much
+/// memory.
 pub fn tell_each<O: Sink, E: Sink>(
     alloc: Global,
     problem: &Problem,
@@ -77,11 +102,16 @@ pub fn tell_each<O: Sink, E: Sink>(
     out: &mut O,
     err: &mut E,
 ) -> u8
-    ensures did { DidTellEach problem.now result
+    ensures did { DidPerhapsAlone (λ from. DidTellEach problem.now result
+        from (sinks O.state E.state out.new err.new)) result
         (sinks O.state E.state out.old err.old) (sinks O.state E.state out.new err.new) }
 {
-    match texts_of(alloc, problem, bound) {
-        Ok((lines, last)) => print_both(lines.as_slice(), last.as_slice(), out, err),
+    match each_by_turns(alloc, problem, bound) {
+        Ok(Some(found)) => tell_numbers(alloc, problem, &found, out, err),
+        Ok(None) => match write_gave_up(err) {
+            Ok(()) => search_each(alloc, problem, out, err),
+            Err(_) => FAILED,
+        },
         Err(_) => out_of_memory(err),
     }
 }

@@ -1,20 +1,22 @@
 //! A whole run.
-ghost use Rattle.std.specs.Prelude.{◌≡◌, ◌*◌, ◌^◌, ◌-◌, map, min, length, codes};
+ghost use Rattle.std.specs.Prelude.{◌≡◌, ◌⊎◌, ◌*◌, ◌^◌, ◌-◌, map, min, length, codes};
 ghost use Rattle.xc_input.specs.Named.{Named};
 ghost use Rattle.xc_search.specs.Cover.{members};
 ghost use Rattle.xc_streams.specs.Texts.{seen, WasTold};
 ghost use Rattle.xc_tools.specs.WholeRuns.{no_problem, sinks};
+ghost use Rattle.xc_count_run.specs.Alone.{DidPerhapsAlone};
 ghost use Rattle.xc_count_run.specs.Counts.{DidAnswer, DidCountWords, DidWarnAndAnswer};
 ghost use Rattle.xc_count_run.specs.LastLine.{Concludes};
-ghost use Rattle.xc_count_run.specs.inner.{ReportsCount, meaning};
+ghost use Rattle.xc_count_run.specs.inner.{ReportsAlone, ReportsCount, meaning};
 
 use crate::asked::{Asked, Question, asked_count};
-use crate::messages::count_line;
+use crate::messages::{count_line, write_gave_up};
 use crate::occurring::tell_each;
 use crate::solution::find_solution;
 use natural::Natural;
 use std::alloc::Global;
-use xc_count::count;
+use std::cell::Cell;
+use xc_count::{Counting, LoneSearch, count_by_turns};
 use xc_input::{InputError, Problem, Read, Seed, Source, read_problem_by};
 use xc_list::{Sink, warnings, write_all};
 use xc_tools::{input_error, out_of_memory};
@@ -26,7 +28,7 @@ const BAD_WORDS: u8 = 1;
 /// The input has a fault.
 const BAD_INPUT: u8 = 2;
 /// A read or a write failed.
-const FAILED: u8 = 3;
+pub const FAILED: u8 = 3;
 /// There was no memory.
 const NO_MEMORY: u8 = 4;
 
@@ -79,12 +81,31 @@ fn bytes(megabytes: u64) -> usize
     megabytes.saturating_mul(1_000_000) as usize
 }
 
-/// Counts the covers of a problem.
-fn count_problem<E: Sink>(alloc: Global, problem: &Problem, bound: usize, err: &mut E) -> u8
+/// Counts the covers of a problem by a search that goes on alone.
+fn count_alone<E: Sink>(alloc: Global, problem: &Problem, search: LoneSearch, err: &mut E) -> u8
+    requires { search ≡ problem.now.puzzle }
     ensures { ReportsCount problem.now result (E.state err.old) (E.state err.new) }
 {
-    match count(alloc, problem, bound) {
+    match search.go_on_to_end(alloc) {
         Ok(covers) => tell_count(alloc, problem, &covers, err),
+        Err(_) => out_of_memory(err),
+    }
+}
+
+/// Counts the covers of a problem.
+fn count_problem<E: Sink>(alloc: Global, problem: &Problem, bound: usize, err: &mut E) -> u8
+    ensures { ReportsCount problem.now result (E.state err.old) (E.state err.new)
+        ⊎ ReportsAlone problem.now result (E.state err.old) (E.state err.new) }
+{
+    let gone_over = Cell::new(0);
+    match count_by_turns(alloc, problem, bound, &gone_over) {
+        Ok(Counting::Swept(covers) | Counting::Searched(covers)) => {
+            tell_count(alloc, problem, &covers, err)
+        }
+        Ok(Counting::GaveUp(search)) => match write_gave_up(err) {
+            Ok(()) => count_alone(alloc, problem, search, err),
+            Err(_) => FAILED,
+        },
         Err(_) => out_of_memory(err),
     }
 }
@@ -97,8 +118,9 @@ fn answer<O: Sink, E: Sink>(
     out: &mut O,
     err: &mut E,
 ) -> u8
-    ensures did { DidAnswer (meaning asked.now.question) result
-        (sinks O.state E.state out.old err.old) (sinks O.state E.state out.new err.new) problem.now }
+    ensures did { DidPerhapsAlone (λ from. DidAnswer (meaning asked.now.question) result
+        from (sinks O.state E.state out.new err.new) problem.now) result
+        (sinks O.state E.state out.old err.old) (sinks O.state E.state out.new err.new) }
 {
     let bound = bytes(asked.megabytes);
     match asked.question {

@@ -1,17 +1,21 @@
 //! The solution of a number is printed.
-ghost use Rattle.std.specs.Prelude.{◌≡◌, ◌⊎◌, ◌++◌, All, codes, flat_map};
+ghost use Rattle.std.specs.Prelude.{◌≡◌, ◌⊎◌, ◌++◌, All, codes, flat_map, option_map};
 ghost use Rattle.std.specs.Str.Parse.{digits_value};
+ghost use Rattle.xc_input.specs.Problem.{numbered_get};
+ghost use Rattle.xc_search.specs.Cover.{members};
 ghost use Rattle.xc_streams.specs.Texts.{WasTold, Writes};
 ghost use Rattle.xc_list.specs.Output.{choice_text};
 ghost use Rattle.xc_list.specs.Known.{IsKnownChoice};
 ghost use Rattle.xc_tools.specs.WholeRuns.{sinks, Prints};
+ghost use Rattle.xc_count_run.specs.Alone.{DidPerhapsAlone};
 ghost use Rattle.xc_count_run.specs.Solutions.{DidFind, fewer_text};
 
-use crate::messages::{fewer_line, line_of};
-use crate::running::refuse;
+use crate::messages::{fewer_line, line_of, write_gave_up};
+use crate::running::{FAILED, refuse};
 use natural::{Natural, parse};
 use std::alloc::Global;
-use xc_count::nth;
+use std::cell::Cell;
+use xc_count::{Finding, LoneSearch, nth_by_turns};
 use xc_input::Problem;
 use xc_list::{Sink, SinkFault, write_all, write_choices};
 use xc_search::Choice;
@@ -70,6 +74,47 @@ fn tell_solution<O: Sink, E: Sink>(
     }
 }
 
+/// Prints the solution of a number, or that there are fewer.
+fn tell_found<O: Sink, E: Sink>(
+    alloc: Global,
+    problem: &Problem,
+    number: &Natural,
+    found: &Option<Vec<Choice>>,
+    out: &mut O,
+    err: &mut E,
+) -> u8
+    requires { option_map (λ c. c.items) found.now ≡ numbered_get (members problem.now.puzzle) number.now }
+    ensures did { DidFind problem.now number.now result
+        (sinks O.state E.state out.old err.old) (sinks O.state E.state out.new err.new) }
+{
+    match found {
+        Some(choices) => match line_of(alloc, b"", number, b":\n") {
+            Ok(header) => tell_solution(header.as_slice(), choices.as_slice(), problem, out, err),
+            Err(_) => out_of_memory(err),
+        },
+        None => tell_fewer(alloc, number, err),
+    }
+}
+
+/// The same of the one that a search finds which goes on alone.
+fn find_alone<O: Sink, E: Sink>(
+    alloc: Global,
+    problem: &Problem,
+    number: &Natural,
+    search: LoneSearch,
+    out: &mut O,
+    err: &mut E,
+) -> u8
+    requires { search ≡ problem.now.puzzle }
+    ensures did { DidFind problem.now number.now result
+        (sinks O.state E.state out.old err.old) (sinks O.state E.state out.new err.new) }
+{
+    match search.go_on_to(alloc, number) {
+        Ok(found) => tell_found(alloc, problem, number, &found, out, err),
+        Err(_) => out_of_memory(err),
+    }
+}
+
 /// Prints the solution of a number.
 fn find_numbered<O: Sink, E: Sink>(
     alloc: Global,
@@ -79,15 +124,17 @@ fn find_numbered<O: Sink, E: Sink>(
     out: &mut O,
     err: &mut E,
 ) -> u8
-    ensures did { DidFind problem.now number.now result
+    ensures did { DidPerhapsAlone (λ from. DidFind problem.now number.now result
+        from (sinks O.state E.state out.new err.new)) result
         (sinks O.state E.state out.old err.old) (sinks O.state E.state out.new err.new) }
 {
-    match nth(alloc, problem, number, bound) {
-        Ok(Some(choices)) => match line_of(alloc, b"", number, b":\n") {
-            Ok(header) => tell_solution(header.as_slice(), choices.as_slice(), problem, out, err),
-            Err(_) => out_of_memory(err),
+    let gone_over = Cell::new(0);
+    match nth_by_turns(alloc, problem, number, bound, &gone_over) {
+        Ok(Finding::Found(found)) => tell_found(alloc, problem, number, &found, out, err),
+        Ok(Finding::LeftAlone(search)) => match write_gave_up(err) {
+            Ok(()) => find_alone(alloc, problem, number, search, out, err),
+            Err(_) => FAILED,
         },
-        Ok(None) => tell_fewer(alloc, number, err),
         Err(_) => out_of_memory(err),
     }
 }
@@ -101,7 +148,8 @@ pub fn find_solution<O: Sink, E: Sink>(
     out: &mut O,
     err: &mut E,
 ) -> u8
-    ensures did { DidFind problem.now (digits_value 10 digits.now) result
+    ensures did { DidPerhapsAlone (λ from. DidFind problem.now (digits_value 10 digits.now) result
+        from (sinks O.state E.state out.new err.new)) result
         (sinks O.state E.state out.old err.old) (sinks O.state E.state out.new err.new) }
 {
     match parse(alloc, digits) {
