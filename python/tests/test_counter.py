@@ -68,6 +68,27 @@ class Counts(InFolder):
         counted = make.queens.problem(8)._count(None, megabytes=0, gives_up=messages.append)
         self.assertEqual((counted.total, messages), (92, []))
 
+    def test_a_sweep_that_gives_up_is_reported_at_once(self):
+        messages = []
+        self.program("dlx-count", f"echo {counter.GAVE_UP} >&2; exec sleep 1000")
+        # The search ends once that was reported.
+        done = os.path.join(self.folder, "done")
+        self.program("dlx1", f"until test -e {done}; do sleep 0.1; done; echo Altogether 92 solutions. >&2")
+
+        def gives_up(message):
+            messages.append(message)
+            self.file("done", "")
+
+        counted = make.queens.problem(8)._count(100.0, gives_up=gives_up)
+        self.assertEqual((counted, messages), (counter.Count(92, "dlx1"), [counter.GAVE_UP]))
+
+    def test_a_number_behind_other_messages(self):
+        self.program("dlx-count", "echo Option 3 is ignored. >&2; echo Altogether 92 solutions. >&2")
+        self.program("dlx1", "exec sleep 1000")
+        self.assertEqual(make.queens.problem(8)._count(100.0), counter.Count(92, "dlx-count"))
+        for messages in (f"{counter.GAVE_UP}\nAltogether 92 solutions.", "Altogether 92 solutions.\n"):
+            self.assertEqual(programs.last_line(messages), (92, True))
+
     def test_a_search_that_is_faster_gives_the_number(self):
         self.program("dlx-count", "exec sleep 1000")
         begun = time.monotonic()
@@ -127,6 +148,15 @@ class Command(InFolder):
         finally:
             if limit is not None:
                 sys.set_int_max_str_digits(limit)
+
+    def test_a_sweep_that_gives_up(self):
+        # Ten couples draw lots. The states take more than a megabyte.
+        people = range(20)
+        lots = [(f"g{i}", f"r{j}") for i in people for j in people if i // 2 != j // 2]
+        path = self.file("lots.dlx", Problem([f"{side}{i}" for side in "gr" for i in people], options=lots).text)
+        status, out, error = run("count", path, "--megabytes", "1", "--seconds", "5")
+        self.assertEqual((status, out), (2, ""))
+        self.assertRegex(error, rf"^helgrothy: {counter.GAVE_UP}\nhelgrothy: .*; \d+ solutions? till then\n$")
 
     def test_none(self):
         self.assertEqual(run("count", given="a b\na\n"), (1, "0\n", ""))

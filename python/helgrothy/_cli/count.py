@@ -76,13 +76,15 @@ def show(problem: Problem[Any], arguments: argparse.Namespace) -> int:
 
 def counted_with_line(problem: Problem[Any], seconds: float | None, **memory: int) -> Count:
     """How many solutions a problem has, with a line on a terminal meanwhile."""
+    from .._run.counter import GAVE_UP
+
     program = f"dlx{problem.kind}"
     with Report([*(["dlx-count"] if has("dlx-count") else []), program], "count") as report:
 
         def give_up(messages: str) -> None:
             report(at_work=[program])
             reason = messages.splitlines()[-1] if messages else "dlx-count failed"
-            console.say(f"helgrothy: {reason} The search goes on.")
+            console.say(f"helgrothy: {reason}" if reason == GAVE_UP else f"helgrothy: {reason} The search goes on.")
 
         if not report.is_shown:
             return problem._count(seconds, gives_up=give_up, **memory)

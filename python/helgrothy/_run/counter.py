@@ -2,7 +2,8 @@
 
 Where much repeats dlx-count is faster than any search. Where little does, it searches by turns, and the solver alone is
 somewhat faster and knows how many solutions it has found. So both run at once, and the first that ends gives the
-number. On a single processor the solver has nine tenths of it.
+number. On a single processor the solver has nine tenths of it. Where the states take too much memory dlx-count is ended,
+since its search alone has no use beside the solver's.
 """
 
 from __future__ import annotations
@@ -16,6 +17,8 @@ from ..errors import OutOfTime, ProgramNotFound
 from .programs import Ending, Run, last_line
 
 PROGRAM = "dlx-count"
+# What it says where it counts no states any more.
+GAVE_UP = "The states take too much memory: the search goes on alone."
 # What dlx-count may take for its states, in megabytes.
 MOST_MEGABYTES = 512
 
@@ -49,9 +52,15 @@ def count(
     with ExitStack() as both:
         search = both.enter_context(Run(f"dlx{kind}", words, [text], seconds))
         counter = _begun(both, text, kind, megabytes)
+
+        def look(_: Run) -> None:
+            if counter is not None and GAVE_UP in counter.messages():
+                counter.stop()
+
         try:
             while not search.has_ended:
-                for chunk in search.chunks(until=counter):
+                for chunk in search.chunks(look, counter):
+                    look(search)
                     found = last_number(line + chunk) or found
                     line = (line + chunk).rpartition(b"\n")[2]
                     printed(chunk)

@@ -247,10 +247,15 @@ class Run:
             self._process.send_signal(signal.SIGCONT)
             self._is_paused = False
 
+    def stop(self) -> None:
+        """Ends it at once. What it said is kept."""
+        self._process.kill()
+
     def messages(self) -> str:
-        """What the program said on standard error."""
-        self._errors.seek(0)
-        return self._errors.read().decode("utf-8", "replace").strip()
+        """What the program said on standard error so far."""
+        errors = self._errors.fileno()
+        # The program writes where its file was read last, so this reads beside that.
+        return os.pread(errors, os.fstat(errors).st_size, 0).decode("utf-8", "replace").strip()
 
     def failure(self) -> ProgramFailed:
         """What is raised where the status isn't the one that was wanted."""
