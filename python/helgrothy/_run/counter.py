@@ -2,8 +2,8 @@
 
 Where much repeats dlx-count is faster than any search. Where little does, it searches by turns, and the solver alone is
 somewhat faster and knows how many solutions it has found. So both run at once, and the first that ends gives the
-number. On a single processor the solver has nine tenths of it. Where the states take too much memory dlx-count is ended,
-since its search alone has no use beside the solver's.
+number. On a single processor the solver has nine tenths of it. Where the states take too much memory dlx-count is
+ended, since its search alone has no use beside the solver's.
 """
 
 from __future__ import annotations
