@@ -1,4 +1,4 @@
--- What counting reports, with an output that isn't touched, and what is done behind the line that a search goes on alone.
+-- What counting reports, with an output that isn't touched, at once or behind the line that a search goes on alone.
 use Rattle.std.proofs.Common.{ℕ, ◌≡◌, ◌⊎◌, inl, inr, subst, sym}
 use Rattle.xc_input.specs.Named.{Named}
 use Rattle.xc_tools.specs.WholeRuns.{Sinks}
