@@ -473,7 +473,7 @@ class Loops(unittest.TestCase):
 
         for job, count in ((Job(QUEENS, 1, False), 1), (Job(b"", 1, False, digest_of(b"A\nA\nA\n")), 0)):
             kept: list = []
-            with mock.patch.object(Pace, "steps", lambda *_: 50), self.assertRaisesRegex(SearchFault, "of another problem"):
+            with mock.patch.object(Pace, "steps", lambda *_: 2), self.assertRaisesRegex(SearchFault, "of another problem"):
                 Loop(job, submit, lambda: 1, kept.append, None).search([WHOLE])
             self.assertEqual(len(kept), count)
             others = iter([QUEENS])
