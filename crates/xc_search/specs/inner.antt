@@ -3,3 +3,4 @@ pub mod Levels
 pub mod Spanning
 pub mod Few
 pub mod Filled
+pub mod FewBounded

@@ -1,8 +1,10 @@
 //! What is left of a problem, where it is little, counted by words of bits without a move.
+mod bounded;
 mod collecting;
 mod filling;
+mod wanted;
 
-ghost use Rattle.std.specs.Prelude.{ℕ, ◌≡◌, ◌<◌, ◌≤◌, ◌^◌, ◌-◌, length, take, IfSome};
+ghost use Rattle.std.specs.Prelude.{ℕ, ◌≡◌, ◌<◌, ◌≤◌, ◌^◌, ◌-◌, length, take, true, IfSome};
 ghost use Rattle.xc_input.specs.Problem.{item_count};
 ghost use Rattle.xc_moves.specs.Moves.{open_items};
 ghost use Rattle.xc_search.specs.Listing.{listing};
@@ -10,12 +12,14 @@ ghost use Rattle.xc_search.specs.inner.Filled.{HasColourRoom};
 ghost use Rattle.xc_search.specs.inner.Levels.{IsSearchable, IsOnce, residual_of};
 
 use crate::counts::count_primary;
+use crate::few::bounded::fill_bounded;
 use crate::few::collecting::{Items, collect_items, collect_options};
 use crate::few::filling::fill;
+use crate::few::wanted::{Survey, collect_watched, survey_items};
 use std::alloc::{AllocError, Global};
 use xc_input::Problem;
 use xc_moves::Dance;
-use xc_words::{MOST, Words, count_left};
+use xc_words::{BoundedWords, MOST, Words, count_bounded, count_left};
 
 /// The most nodes that a count may visit for the solutions that are still to be passed over. Without it a count below a
 /// search of all of them would have no bound.
@@ -25,6 +29,7 @@ const MOST_NODES: u64 = 1 << 18;
 #[derive(Drop)]
 pub struct Few {
     words: Words,
+    bounded: BoundedWords,
     /// The open items, by their bits.
     items: [u32; 64],
     /// The options that are left, by their bits.
@@ -40,6 +45,8 @@ pub struct Few {
     /// How many tries are still passed over, and how many were after the last count.
     wait: usize,
     pause: usize,
+    /// Below how many levels the last count was.
+    last: usize,
     /// How many nodes may still be visited.
     credit: u64,
     ghost some: { 0 < each },
@@ -54,6 +61,7 @@ impl Few {
         let coloured = vec![in alloc; 0; coloured_len(problem)]?;
         Ok(Few {
             words: Words::new(),
+            bounded: BoundedWords::new(),
             items: [0; 64],
             options: [0; 64],
             holders,
@@ -62,6 +70,7 @@ impl Few {
             each: most_held(problem),
             wait: 0,
             pause: 0,
+            last: 0,
             credit: u64::MAX,
         })
     }
@@ -89,14 +98,23 @@ impl Few {
         self.from = depth.saturating_add((beside / self.each).max(1));
     }
 
-    /// Notes that a count over so many options took so many nodes. Where these are few, moves would have taken as long:
-    /// then the next tries are passed over, four times as many as before and three, up to 255.
-    fn weigh(&mut self, nodes: u64, options: usize) {
-        self.pause = if nodes < options as u64 / 2 {
-            self.pause.min(63) * 4 + 3
+    /// Notes that a count below so many levels, over so many options, took so many nodes. Where these are few, moves would
+    /// have taken as long: then a level higher is tried, and where that was too much, the next tries are passed over,
+    /// four times as many as before and three, up to 255.
+    fn weigh(&mut self, depth: usize, nodes: u64, options: usize) {
+        if nodes >= options as u64 / 2 {
+            self.pause = 0;
         } else {
-            0
-        };
+            self.pause = if depth < self.last {
+                0
+            } else {
+                self.pause.min(63) * 4 + 3
+            };
+            if depth > 1 {
+                self.from = depth - 1;
+            }
+        }
+        self.last = depth;
         self.wait = self.pause;
     }
 
@@ -116,10 +134,7 @@ impl Few {
             n ≡ length (listing (residual_of problem.now.puzzle (D.state dance.now).trail))) }
         ensures within { IfSome result (λ n. n ≤ most) }
     {
-        if self.holders.len() <= problem.items() as usize {
-            return None;
-        }
-        if self.coloured.len() < coloured_len(problem) {
+        if !self.has_room(problem) {
             return None;
         }
         match collect_items(dance, &mut self.items, self.each * MOST) {
@@ -154,11 +169,11 @@ impl Few {
             n ≡ length (listing (residual_of problem.now.puzzle (D.state dance.now).trail))) }
         ensures within { IfSome result (λ n. n ≤ most) }
     {
-        let items = &self.items[..items];
-        let Some(options) = collect_options(dance, problem, items, &mut self.options) else {
+        let Some(options) = collect_options(dance, problem, &mut self.options) else {
             self.pass_by(depth, 0);
             return None;
         };
+        let items = &self.items[..items];
         let options = &self.options[..options];
         fill(
             problem,
@@ -169,7 +184,7 @@ impl Few {
             &mut self.words,
         );
         let many = options.len();
-        let most_nodes = ((most / 16).min(MOST_NODES) + 2000).min(self.credit);
+        let most_nodes = self.most_nodes(most);
         let mut budget = most_nodes;
         let found = count_left(
             &self.words,
@@ -184,13 +199,112 @@ impl Few {
         found
     }
 
+    /// How many solutions what is left has, if it is little, and they are no more than `most`, where items may be held
+    /// within bounds.
+    pub fn count_within<D: Dance>(
+        &mut self,
+        dance: &D,
+        problem: &Problem,
+        depth: usize,
+        most: u64,
+    ) -> Option<u64>
+        requires same { (D.state dance.now).puzzle ≡ problem.now.puzzle }
+        requires searchable { IsSearchable problem.now.puzzle (D.state dance.now).trail }
+        requires some { 0 < most }
+        ensures counted { IfSome result (λ n.
+            n ≡ length (listing (residual_of problem.now.puzzle (D.state dance.now).trail))) }
+        ensures within { IfSome result (λ n. n ≤ most) }
+    {
+        if !self.has_room(problem) {
+            return None;
+        }
+        match survey_items(dance, problem, self.each * MOST) {
+            Survey::Few => self.count_watched(dance, problem, depth, most),
+            Survey::Dead => Some(0),
+            Survey::TooMany(beside) => {
+                self.pass_by(depth, beside);
+                None
+            }
+        }
+    }
+
+    /// The same, where few items have to be held.
+    #[inline(always)]
+    fn count_watched<D: Dance>(
+        &mut self,
+        dance: &D,
+        problem: &Problem,
+        depth: usize,
+        most: u64,
+    ) -> Option<u64>
+        requires same { (D.state dance.now).puzzle ≡ problem.now.puzzle }
+        requires searchable { IsSearchable problem.now.puzzle (D.state dance.now).trail }
+        requires some { 0 < most }
+        requires room { item_count problem.now.puzzle < length self.old.holders.items }
+        requires colour_room { HasColourRoom problem.now (length self.old.coloured.items) }
+        ensures counted { IfSome result (λ n.
+            n ≡ length (listing (residual_of problem.now.puzzle (D.state dance.now).trail))) }
+        ensures within { IfSome result (λ n. n ≤ most) }
+    {
+        let Some(options) = collect_options(dance, problem, &mut self.options) else {
+            self.pass_by(depth, 0);
+            return None;
+        };
+        let Some(items) = collect_watched(dance, problem, options, &mut self.items) else {
+            self.pass_by(depth, 0);
+            return None;
+        };
+        let items = &self.items[..items];
+        let options = &self.options[..options];
+        fill_bounded(
+            dance,
+            problem,
+            items,
+            options,
+            self.holders.as_mut_slice(),
+            self.coloured.as_mut_slice(),
+            &mut self.bounded,
+        );
+        let many = options.len();
+        let most_nodes = self.most_nodes(most);
+        let mut budget = most_nodes;
+        let found = count_bounded(
+            &self.bounded,
+            full(many),
+            full(items.len()),
+            most,
+            &mut budget,
+        );
+        let nodes = most_nodes - budget;
+        dance.note_unmoved(nodes);
+        self.note_count(depth, many, nodes, found.is_some());
+        found
+    }
+
+    /// Whether there is room for the words of the problem's items and colours.
+    fn has_room(&self, problem: &Problem) -> bool
+        ensures items { result ≡ true → item_count problem.now.puzzle < length self.now.holders.items }
+        ensures colours { result ≡ true → HasColourRoom problem.now (length self.now.coloured.items) }
+    {
+        self.holders.len() > problem.items() as usize
+            && self.coloured.len() >= coloured_len(problem)
+    }
+
+    /// How many nodes a count may visit for so many solutions.
+    #[inline(always)]
+    fn most_nodes(&self, most: u64) -> u64
+        ensures { result ≤ self.now.credit }
+    {
+        ((most / 16).min(MOST_NODES) + 2000).min(self.credit)
+    }
+
     /// Notes that a count below so many levels, over so many options, took so many nodes, and whether it ended.
     #[inline(always)]
     fn note_count(&mut self, depth: usize, options: usize, nodes: u64, ended: bool)
         requires { nodes ≤ self.old.credit }
     {
         self.credit -= nodes;
-        self.weigh(nodes, options);
+        self.weigh(depth, nodes, options);
         if !ended {
             self.pass_by(depth, 0);
         } else if options <= 32 && depth > 1 {

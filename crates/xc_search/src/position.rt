@@ -143,10 +143,14 @@ impl<'a, D: Dance> Position<'a, D> {
         ensures counted { IfSome result (λ n. n ≡ length (listing (residual_of self.now.puzzle self.now.trail))) }
         ensures within { IfSome result (λ n. n ≤ most) }
     {
-        if !self.once || !self.dance.counts_unmoved() {
+        if !self.dance.counts_unmoved() {
             return None;
         }
-        few.count(&self.dance, self.problem, depth, most)
+        if self.once {
+            few.count(&self.dance, self.problem, depth, most)
+        } else {
+            few.count_within(&self.dance, self.problem, depth, most)
+        }
     }
 
     /// How many moves are on the trail.

@@ -46,7 +46,7 @@ pub fn collect_items<D: Dance>(dance: &D, into: &mut [u32; 64], room: usize) -> 
 }
 
 /// How many items are open from this one on, up to a thousand, beside those for which there is room after so many.
-fn beside<D: Dance>(dance: &D, from: u32, items: usize) -> usize
+pub fn beside<D: Dance>(dance: &D, from: u32, items: usize) -> usize
     requires { (from ≡ 0) ⊎ IsOpenPrimary (D.state dance.now).puzzle (D.state dance.now).trail from }
 {
     let mut at = from;
@@ -61,24 +61,22 @@ fn beside<D: Dance>(dance: &D, from: u32, items: usize) -> usize
     seen.saturating_sub(MOST)
 }
 
-/// The options that are left, if they are few.
+/// The options that are left, if they are few: each is met in the list of its first primary item.
 pub fn collect_options<D: Dance>(
     dance: &D,
     problem: &Problem,
-    items: &[u32],
     into: &mut [u32; 64],
 ) -> Option<usize>
     requires same { (D.state dance.now).puzzle ≡ problem.now.puzzle }
     requires valid { IsValid problem.now.puzzle }
     requires legal { AreLegal problem.now.puzzle (D.state dance.now).trail }
-    requires items { items.now ≡ open_items problem.now.puzzle (D.state dance.now).trail }
     ensures few { IfSome result (λ n. n ≤ 64) }
-    ensures collected { IfSome result (λ n.
-        take n into.new ≡ collected problem.now.puzzle (D.state dance.now).trail items.now) }
+    ensures collected { IfSome result (λ n. take n into.new ≡ collected problem.now.puzzle (D.state dance.now).trail
+        (open_items problem.now.puzzle (D.state dance.now).trail)) }
 {
     let mut options: usize = 0;
-    for i in items {
-        let i = *i;
+    let mut at = 0;
+    while let Some(i) = dance.open_after(at) {
         let mut place = dance.node_below(problem, i, i);
         while place != i {
             if dance.is_first_at(problem, i, place) {
@@ -91,6 +89,7 @@ pub fn collect_options<D: Dance>(
             }
             place = dance.node_below(problem, i, place);
         }
+        at = i;
     }
     Some(options)
 }

@@ -1,5 +1,5 @@
 //! The words of items and options.
-ghost use Rattle.std.specs.Prelude.{◌≡◌, ◌<◌, ◌≤◌, ◌==◌, ◌^◌, ◌⊎◌, ℕ, length, slice_index, All, true};
+ghost use Rattle.std.specs.Prelude.{◌≡◌, ◌<◌, ◌≤◌, ◌==◌, ◌&&◌, ◌||◌, ◌^◌, ◌⊎◌, ℕ, length, slice_index, All, true};
 ghost use Rattle.std.specs.Int.{bit_at};
 ghost use Rattle.xc_input.specs.Problem.{IsItem, IsOption, item_count, uses_of};
 ghost use Rattle.xc_search.specs.inner.Few.{AreUseWords};
@@ -36,24 +36,34 @@ pub fn fill(
     for i in 0..items.len() {
         let of = holders[items[i] as usize];
         words.holders[i] = of;
-        let mut rest = of;
-        while rest != 0 {
-            words.alone[rest.trailing_zeros() as usize] |= 1u64 << i;
-            rest &= rest - 1;
-        }
+        note_in_each(&mut words.alone, of, i);
     }
     know_words(&words.alone);
     know_words(&words.apart);
 }
 
+/// Notes an item in the words of those options that hold it.
+#[inline(always)]
+pub fn note_in_each(words: &mut [u64; 64], of: u64, i: usize)
+    requires { i < 64 }
+    ensures { (x k : ℕ) → x < 64 → (bit_at (slice_index words.new x) k == 1)
+        ≡ ((bit_at (slice_index words.old x) k == 1) || (k == i && bit_at of x == 1)) }
+{
+    let mut rest = of;
+    while rest != 0 {
+        words[rest.trailing_zeros() as usize] |= 1u64 << i;
+        rest &= rest - 1;
+    }
+}
+
 /// Does nothing. Of a struct's arrays it isn't known that each element fits, of a slice it is.
 #[inline(always)]
-fn know_words(words: &[u64])
+pub fn know_words(words: &[u64])
     ensures { (x : ℕ) → slice_index words.now x < 2 ^ 64 }
 {}
 
 /// Notes for each of these items, and each that these options hold, which of the options hold it.
-fn note_holders(problem: &Problem, items: &[u32], options: &[u32], holders: &mut [u64])
+pub fn note_holders(problem: &Problem, items: &[u32], options: &[u32], holders: &mut [u64])
     requires items { All (IsItem problem.now.puzzle) items.now }
     requires options { All (IsOption problem.now.puzzle) options.now }
     requires few_options { length options.now ≤ 64 }
@@ -78,7 +88,7 @@ fn note_holders(problem: &Problem, items: &[u32], options: &[u32], holders: &mut
 }
 
 /// Notes for each item with a colour that these options give it, which of the options do.
-fn note_colours(problem: &Problem, options: &[u32], coloured: &mut [u64])
+pub fn note_colours(problem: &Problem, options: &[u32], coloured: &mut [u64])
     requires options { All (IsOption problem.now.puzzle) options.now }
     requires few_options { length options.now ≤ 64 }
     requires room { HasColourRoom problem.now (length coloured.old) }
@@ -138,7 +148,7 @@ fn all_apart(uses: &[Use], holders: &[u64], coloured: &[u64], colours: u32) -> u
 
 /// The options that hold the use's item and don't agree on it.
 #[inline(always)]
-fn differing(u: Use, holders: &[u64], coloured: &[u64], colours: u32) -> u64
+pub fn differing(u: Use, holders: &[u64], coloured: &[u64], colours: u32) -> u64
     requires item { u.item < length holders.now }
     requires colour { (u.colour ≡ 0) ⊎ (colour_place colours u.item u.colour < length coloured.now) }
     ensures { (y : ℕ) → (bit_at result y == 1) ≡ differs_at colours holders.now coloured.now u y }
