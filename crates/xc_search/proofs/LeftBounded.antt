@@ -6,6 +6,7 @@ use Rattle.std.specs.Prelude.{slice_get, sum_by, AllPairs}
 use Rattle.std.specs.Int.{bit_at}
 use Rattle.std.specs.List.{range_with_len}
 use Rattle.std.proofs.lemmas.Bool.{and_parts, cases_lt}
+use Rattle.std.proofs.lemmas.Bool.Decides.{nat_tests}
 use Rattle.std.proofs.lemmas.Option.{slice_get_within}
 use Rattle.std.proofs.lemmas.List.Sums.{sum_by-cons}
 use Rattle.std.proofs.lemmas.Nat.{and_le_r}
@@ -23,13 +24,22 @@ use Rattle.xc_search.specs.declared.choice.Choice.{Choice}
 use Rattle.xc_search.specs.Listing.{Wanted, Residual, listing}
 use Rattle.xc_search.specs.Cover.{options_of}
 use Rattle.xc_search.proofs.ListingLemmas.{IsProper, two_rise}
-use Rattle.xc_search.proofs.Completeness.{Covers, Agree, IsMemberOf, Differ, is_held, passing, two_pass}
+use Rattle.xc_search.proofs.Completeness.{Covers, Agree, IsMet, IsMemberOf, Differ, is_held, passing, two_pass}
 use Rattle.xc_search.proofs.Completeness.{members_solve, listed_for, all_differ, is_listed, listed_in, in_listed}
 use Rattle.xc_search.proofs.Matched.{no_more, EachTwo-filter}
 use Rattle.xc_search.proofs.Picked.{has}
 use Rattle.xc_search.proofs.Numbering.{bit_of, bit_at_place, stands_at, range-in, range_distinct, sum_renumbered}
 use Rattle.xc_search.proofs.FairSets.{fair_list, fair_many, in_fair, fair_in, fair_differ, set_of, set_fits}
 use Rattle.xc_search.proofs.FairSets.{set_on, on_set}
+
+-- the item has a place in is
+abbrev pub HasBit : List ℕ → Wanted → Type 0
+HasBit is v = (i : ℕ) × (slice_get is i ≡ Some v.item)
+
+-- no more than n options may be taken: all hold an item with a bit that may be held n times at most
+abbrev pub IsCapped : Residual → List ℕ → ℕ → Type 0
+IsCapped r is n = (u : Wanted) × IsIn r.items u × HasBit is u
+    × (length (holding u.item r.options) ≡ length r.options) × (u.high ≤ n)
 
 -- The words are those of what is left: bit i of an item is its place in is, that of an option its place in os. An item
 -- without a bit keeps its bounds whatever is taken. Two options are apart if they don't agree on an item above n, or
@@ -43,8 +53,8 @@ pub record AreBoundedWordsOf (n : ℕ) (r : Residual) (is os : List ℕ) (w : Bo
   pub wanted : (i j : ℕ) → slice_get is i ≡ Some j → (v : Wanted) × IsIn r.items v × (v.item ≡ j)
   pub bounds : (i : ℕ) (v : Wanted) → IsIn r.items v → slice_get is i ≡ Some v.item
       → (slice_index w.low i ≡ v.low) × (slice_index w.high i ≡ min v.high 64)
-  pub bound : (v : Wanted) → IsIn r.items v → ((i : ℕ) × (slice_get is i ≡ Some v.item))
-      ⊎ ((v.low ≡ 0) × (length (holding v.item r.options) ≤ v.high))
+  pub bound : (v : Wanted) → IsIn r.items v → HasBit is v
+      ⊎ ((v.low ≡ 0) × ((length (holding v.item r.options) ≤ v.high) ⊎ IsCapped r is v.high))
   pub holders : (i j x : ℕ) (o : Numbered) → slice_get is i ≡ Some j → IsIn r.options o
       → slice_get os x ≡ Some o.number → has (slice_index w.holders i) x ≡ holds o j
   pub beside : (x y : ℕ) (o q : Numbered) → IsIn r.options o → IsIn r.options q → slice_get os x ≡ Some o.number
@@ -88,6 +98,16 @@ place (x ∷ xs) (suc i) l = place xs i (omega (arith, l))
 length_sum : {X : Type 0} (xs : List X) → length xs ≡ sum_by (λ x. 1) xs
 length_sum [] = refl
 length_sum (x ∷ xs) = omega (arith, length_sum xs, sum_by-cons (λ x. 1) x xs)
+
+-- where each option holds item j, no item is held by more of those chosen
+no_more_held : (chosen : ℕ → Bool) (i j : ℕ) (os : List Numbered) → length (holding j os) ≡ length os
+    → passing (is_held chosen i) os ≤ passing (is_held chosen j) os
+no_more_held chosen i j [] e = omega arith
+no_more_held chosen i j (o ∷ os) e = by_bool (holds o j)
+    (λ h.
+    let whole = rw h at e in
+    let rest = no_more_held chosen i j os (omega (arith, whole)) in grind (arith, nat_tests))
+    (λ h. let short = rw h at e in absurd (omega (arith, short, length-filter-le (λ (x : Numbered). holds x j) os)))
 
 -- the bits of a full word
 pub full_bit : (k i : ℕ) → bit_at (2 ^ k - 1) i ≡ 1 → i < k
@@ -167,21 +187,31 @@ module _ (n : ℕ) (r : Residual) (is os : List ℕ) (w : BoundedWords) (p : IsP
   item_on : (i j : ℕ) → slice_get is i ≡ Some j → bit_at (2 ^ length is - 1) i ≡ 1
   item_on i j at = bit_at_ones (length is) i (slice_get_within is i j at)
 
-  -- a fair set covers
+  -- a fair set holds an item with a bit within its bounds
+  bit_met : (t : ℕ) → t < 2 ^ 64 → AreInside t → IsFair w (2 ^ length is - 1) t → (v : Wanted) → IsIn r.items v
+      → HasBit is v → IsMet (chosen t) r.options v
+  bit_met t f inside fair v h i =
+      let low = ws.bounds i.0 v h i.1 in
+      let few = ws.few_items in
+      let below = slice_get_within is i.0 v.item i.1 in
+      let within = fair.within i.0 (omega (arith, below, few)) (item_on i.0 v.item i.1) in
+      let same = times t i.0 v.item f inside i.1 in
+      (omega (arith, within.0, same, low.0), omega (arith, within.1, same, low.1))
+
+  -- and so covers
   covers_of : (t : ℕ) → t < 2 ^ 64 → AreInside t → IsFair w (2 ^ length is - 1) t → Covers n r (chosen t)
   covers_of t f inside fair = record {
     met = λ v h. elim (ws.bound v h) [
-      | inl i ↦
-          let low = ws.bounds i.0 v h i.1 in
-          let few = ws.few_items in
-          let below = slice_get_within is i.0 v.item i.1 in
-          let within = fair.within i.0 (omega (arith, below, few)) (item_on i.0 v.item i.1) in
-          let same = times t i.0 v.item f inside i.1 in
-          (omega (arith, within.0, same, low.0), omega (arith, within.1, same, low.1))
-      | inr free ↦
-          let least = length-filter-le (λ (o : Numbered). chosen t o.number) (holding v.item r.options) in
-          let same = ap length (filter_both (λ (o : Numbered). chosen t o.number) (λ o. holds o v.item) r.options) in
-          (omega (arith, free.0), omega (arith, least, same, free.1))
+      | inl i ↦ bit_met t f inside fair v h i
+      | inr free ↦ (omega (arith, free.0), elim free.1 [
+        | inl most ↦
+            let least = length-filter-le (λ (o : Numbered). chosen t o.number) (holding v.item r.options) in
+            let same = ap length (filter_both (λ (o : Numbered). chosen t o.number) (λ o. holds o v.item) r.options) in
+            omega (arith, least, same, most)
+        | inr u ↦
+            let met = bit_met t f inside fair u.0 u.1 u.2 in
+            omega (arith, no_more_held (chosen t) v.item u.0.item r.options u.3, met.1, u.4)
+      ])
     ];
     agreed = λ o q h k a b d.
         let x = bit_of os o.number in
