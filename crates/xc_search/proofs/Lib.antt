@@ -25,3 +25,4 @@ pub mod ColourLemmas
 pub mod FewLemmas
 pub mod FairSets
 pub mod LeftBounded
+pub mod LeftClash
