@@ -26,3 +26,5 @@ pub mod FewLemmas
 pub mod FairSets
 pub mod LeftBounded
 pub mod LeftClash
+pub mod LeftBoundedWords
+pub mod FewBoundedLemmas
