@@ -203,15 +203,18 @@ module _ (n : ℕ) (r : Residual) (is os : List ℕ) (w : BoundedWords) (p : IsP
   covers_of t f inside fair = record {
     met = λ v h. elim (ws.bound v h) [
       | inl i ↦ bit_met t f inside fair v h i
-      | inr free ↦ (omega (arith, free.0), elim free.1 [
-        | inl most ↦
-            let least = length-filter-le (λ (o : Numbered). chosen t o.number) (holding v.item r.options) in
-            let same = ap length (filter_both (λ (o : Numbered). chosen t o.number) (λ o. holds o v.item) r.options) in
-            omega (arith, least, same, most)
-        | inr u ↦
-            let met = bit_met t f inside fair u.0 u.1 u.2 in
-            omega (arith, no_more_held (chosen t) v.item u.0.item r.options u.3, met.1, u.4)
-      ])
+      | inr free ↦ (
+        omega (arith, free.0),
+        elim free.1 [
+          | inl most ↦
+              let least = length-filter-le (λ (o : Numbered). chosen t o.number) (holding v.item r.options) in
+              let same = ap length (filter_both (λ (o : Numbered). chosen t o.number) (λ o. holds o v.item) r.options) in
+              omega (arith, least, same, most)
+          | inr u ↦
+              let met = bit_met t f inside fair u.0 u.1 u.2 in
+              omega (arith, no_more_held (chosen t) v.item u.0.item r.options u.3, met.1, u.4)
+        ],
+      )
     ];
     agreed = λ o q h k a b d.
         let x = bit_of os o.number in

@@ -31,33 +31,18 @@ use Rattle.xc_search.proofs.LeftBounded.{AreBoundedWordsOf, HasBit, IsCapped, fu
 module _ {p : Puzzle} {t : List Move} {is os : List ℕ} {w : BoundedWords} (s : IsSearchable p t)
     (watched : AreWatched p t (length os) is) (whole : os ≡ collected p t (open_items p t))
     (words : AreBoundedUseWords p t is os w) where
-
   -- ======== The options, by their bits.
 
   numbered : (o : Numbered) → IsIn (left p t) o → IsIn os o.number
   numbered o h = subst (λ ns. IsIn ns o.number) (sym whole) (known_collected p t s o h)
 
-  -- the option at a place, with its uses by its number
-  record IsAt (k : ℕ) : Type 0 where
-    option : Numbered
-    known : IsIn (left p t) option
-    number : option.number ≡ k
-    uses : uses_of p k ≡ option.uses
-
-  option_at : (x k : ℕ) → slice_get os x ≡ Some k → IsAt k
-  option_at x k e =
-      let o = collected_known p t s k (subst (λ ns. IsIn ns k) whole (in-slice_get os x k e)) in
-      record {
-        option = o.0;
-        known = o.1;
-        number = o.2;
-        uses = ap (uses_of p) (sym o.2) ∙ (option_left p t s.valid o.0 o.1).uses;
-      }
+  option_at : (x k : ℕ) → slice_get os x ≡ Some k → (o : Numbered) × IsIn (left p t) o × (o.number ≡ k)
+  option_at x k e = collected_known p t s k (subst (λ ns. IsIn ns k) whole (in-slice_get os x k e))
 
   uses_at : (o : Numbered) → IsIn (left p t) o → uses_of p o.number ≡ o.uses
   uses_at o h = (option_left p t s.valid o h).uses
 
-  -- no more are left than have bits
+  -- each that is left has a bit
   few_left : length (left p t) ≤ length os
   few_left = no_more (λ (o : Numbered) k. o.number ≡ k) (left p t) os (λ o h. (o.number, numbered o h, refl))
       (EachTwo-weaker (λ (o q : Numbered). o.number < q.number)
@@ -75,11 +60,6 @@ module _ {p : Puzzle} {t : List Move} {is os : List ℕ} {w : BoundedWords} (s :
   open_at : (i j : ℕ) → slice_get is i ≡ Some j → IsOpenPrimary p t j
   open_at i j e = each_at (IsOpenPrimary p t) is i j (recursion_from_All _ _ watched.opened) e
 
-  low_at_bit : (i j : ℕ) → slice_get is i ≡ Some j → slice_index w.low i ≡ low_left p t j
-  low_at_bit i j e =
-      let few = each_at (λ i. low_left p t i ≤ 64) is i j (recursion_from_All _ _ watched.few) e in
-      words.low i j e ∙ (omega (arith, few))
-
   -- the list of an open item are the options left that hold it
   held_by_list : (i : ℕ) → IsOpenPrimary p t i → length (listed p t i) ≡ length (holding i (left p t))
   held_by_list i h = ap length (listed_open p t s.legal i h.1)
@@ -90,8 +70,7 @@ module _ {p : Puzzle} {t : List Move} {is os : List ℕ} {w : BoundedWords} (s :
       let c : IsCappedAt p t (length os) m = subst (λ o. IfSome o (IsCappedAt p t (length os))) e watched.capped in
       let j = c.0 in
       let list = held_by_list j c.1 in
-      let least = length-filter-le (λ (o : Numbered). holds o j) (left p t) in
-      (
+      let least = length-filter-le (λ (o : Numbered). holds o j) (left p t) in (
         wanted_at p t j,
         map-in (wanted_at p t) (open_items p t) j (open_in p t j c.1),
         elim (watched.rest j c.1) [
@@ -114,19 +93,23 @@ module _ {p : Puzzle} {t : List Move} {is os : List ℕ} {w : BoundedWords} (s :
       let list = held_by_list v.item at.0 in
       elim (watched.rest v.item at.0) [
         | inl k ↦ inl (slice_get-in is v.item (in-contains is v.item k))
-        | inr go ↦ inr (omega (arith, go.0, low), elim go.1 [
-          | inl few ↦ inl (omega (arith, few, list, high))
-          | inr m ↦
-              let u = capped_by m.0 m.1 in
-              inr (u.0, u.1, u.2, u.3, omega (arith, u.4, m.3, high))
-        ])
+        | inr go ↦ inr (
+          omega (arith, go.0, low),
+          elim go.1 [
+            | inl few ↦ inl (omega (arith, few, list, high))
+            | inr m ↦
+                let u = capped_by m.0 m.1 in
+                inr (u.0, u.1, u.2, u.3, omega (arith, u.4, m.3, high))
+          ],
+        )
       ]
 
   bounds_left : (i : ℕ) (v : Wanted) → IsIn (wanted_after p t) v → slice_get is i ≡ Some v.item
       → (slice_index w.low i ≡ v.low) × (slice_index w.high i ≡ min v.high 64)
   bounds_left i v h e =
-      let at = (in_wanted p t v h).1 in (
-        low_at_bit i v.item e ∙ ap (λ (x : Wanted). x.low) at,
+      let at = (in_wanted p t v h).1 in
+      let few = each_at (λ j. low_left p t j ≤ 64) is i v.item (recursion_from_All _ _ watched.few) e in (
+        omega (arith, words.low i v.item e, few, ap (λ (x : Wanted). x.low) at),
         words.high i v.item e ∙ ap (λ (x : Wanted). min x.high 64) at,
       )
 
@@ -137,7 +120,7 @@ module _ {p : Puzzle} {t : List Move} {is os : List ℕ} {w : BoundedWords} (s :
     distinct = subst (λ ns. AllPairs (λ x y. x ≢ y) ns) (sym whole)
         (AllPairs-from_each_two _ _ (collected_apart p t s));
     numbered = λ o h. slice_get-in os o.number (numbered o h);
-    known = λ x k e. let o = option_at x k e in (o.option, o.known, o.number);
+    known = option_at;
     wanted = λ i j e.
         (wanted_at p t j, map-in (wanted_at p t) (open_items p t) j (open_in p t j (open_at i j e)), refl);
     bounds = bounds_left;
@@ -160,7 +143,7 @@ module _ {p : Puzzle} {t : List Move} {is os : List ℕ} {w : BoundedWords} (s :
   option_bit x b =
       let k = place os x (full_bit (length os) x b) in
       let o = option_at x k.0 k.1 in
-      record { option = o.option; known = o.known; at = k.1 ∙ ap (λ z. Some z) (sym o.number) }
+      record { option = o.0; known = o.1; at = k.1 ∙ ap (λ z. Some z) (sym o.2) }
 
   item_bit : (i : ℕ) → bit_at (2 ^ length is - 1) i ≡ 1 → (j : ℕ) × (slice_get is i ≡ Some j)
   item_bit i b = place is i (full_bit (length is) i b)
