@@ -220,9 +220,26 @@ up_to k i h = elim (cases_order k i) [
       ∙ sym (ap (λ t. t && h) (le-ltb k (i + 1) (omega (arith, more))))
 ]
 
-pub turned_all : (rest i k y : ℕ) (h : Bool) → rest ≡ 0
-    → ((nat_lt k i && h) || ((k == i) && (h && not (bit_at rest y == 1)))) ≡ (nat_lt k (i + 1) && h)
-turned_all rest i k y h none =
+-- an item more, that the options hold which b tells of
+pub noted_more : (k i : ℕ) (b : Bool) (f : ℕ → Bool) → b ≡ f i
+    → ((nat_lt k i && f k) || ((k == i) && b)) ≡ (nat_lt k (i + 1) && f k)
+noted_more k i b f is =
+    let same : ((k == i) && b) ≡ ((k == i) && f k) = elim (cases_eq k i) [
+      | inl e ↦ ap (λ t. (k == i) && t) (is ∙ ap f (sym e))
+      | inr ne ↦ ap (λ t. t && b) (ne_eqb k i ne) ∙ sym (ap (λ t. t && f k) (ne_eqb k i ne))
+    ] in
+    ap (λ t. (nat_lt k i && f k) || t) same ∙ up_to k i (f k)
+
+-- before the first of a word's options, and after the last
+
+pub none_turned : (s q h : Bool) → s ≡ (s || (q && (h && not h)))
+none_turned true q h = refl
+none_turned false true true = refl
+none_turned false true false = refl
+none_turned false false h = refl
+
+pub turned_all : (rest y : ℕ) (s q h : Bool) → rest ≡ 0
+    → (s || (q && (h && not (bit_at rest y == 1)))) ≡ (s || (q && h))
+turned_all rest y s q h none =
     let gone = ap (λ r. bit_at r y == 1) none ∙ ap (λ b. b == 1) (bit_at-zero y) in
-    ap (λ b. (nat_lt k i && h) || ((k == i) && (h && not b))) gone
-    ∙ ap (λ b. (nat_lt k i && h) || ((k == i) && b)) (and-true h) ∙ up_to k i h
+    ap (λ b. s || (q && (h && not b))) gone ∙ ap (λ b. s || (q && b)) (and-true h)

@@ -46,7 +46,8 @@ pub fn fill(
 #[inline(always)]
 pub fn note_in_each(words: &mut [u64; 64], of: u64, i: usize)
     requires { i < 64 }
-    ensures { (x k : ℕ) → x < 64 → (bit_at (slice_index words.new x) k == 1)
+    ensures size { length words.new ≡ 64 }
+    ensures noted { (x k : ℕ) → x < 64 → (bit_at (slice_index words.new x) k == 1)
         ≡ ((bit_at (slice_index words.old x) k == 1) || (k == i && bit_at of x == 1)) }
 {
     let mut rest = of;

@@ -1,15 +1,12 @@
-use Rattle.std.proofs.Common.{◌≡◌, length, length-set, get_or, ◌∙◌, ap, refl, arith, w64, ◌==◌, ◌&&◌, is_some}
-use Rattle.std.proofs.Common.{◌<◌, ◌-◌, ◌^◌, set}
+use Rattle.std.proofs.Common.{◌≡◌, length-set, get_or, ◌∙◌, ap, refl, arith, ◌==◌, ◌&&◌, ◌||◌, is_some}
 use Rattle.std.proofs.lemmas.List.Elements.{All-get_or}
-use Rattle.std.specs.Int.{bit_at, trailing_zeros}
-use Rattle.std.proofs.lemmas.Bool.{eq-eqb, eqb-true, lt-ltb}
+use Rattle.std.specs.Int.{bit_at}
+use Rattle.std.proofs.lemmas.Bool.{lt-ltb}
 use Rattle.std.proofs.lemmas.Option.{slice_get_within, get_or_from_slice_get}
-use Rattle.std.proofs.lemmas.Nat.{and_le_r}
-use Rattle.std.proofs.lemmas.Nat.Bits.{bit_at-trailing_zeros}
 use Rattle.xc_input.specs.Problem.{uses_of, colour_in}
 use Rattle.xc_search.specs.inner.Few.{share}
 use Rattle.xc_search.specs.inner.Filled.{held_at, TellsHolders, shares_at}
-use Rattle.xc_search.proofs.FillLemmas.{lowest_gone, others_kept, from_rest, turned_on, turned_all, written}
+use Rattle.xc_search.proofs.FillLemmas.{noted_more, written}
 use Rattle.xc_search.proofs.ColourLemmas.{share_told, known_colours, uses_known, uses_room, room_kept}
 use Rattle.xc_search.proofs.few.filling.fill.Goals as goal
 
@@ -49,32 +46,6 @@ all_apart-requires-clause-room c =
     (room_kept c.args.problem.now _ _ c.note_colours.auto.coloured c.requires.colour_room) c.option.ensures.known
     c.colours-colours.ensures.value
 
-pub loop-rest-smaller : goal.loop-rest-smaller
-loop-rest-smaller c = omega (arith, c.loop-rest-test.true, and_le_r c.loop-rest.rest (c.loop-rest.rest - 1))
-
-pub loop-rest-preserved : goal.loop-rest-preserved
-loop-rest-preserved c =
-    let some : 0 < c.loop-rest.rest = omega (arith, c.loop-rest-test.true) in
-    let fits : c.loop-rest.rest < 2 ^ 64 = omega (arith, c.loop-rest.auto.rest-fits) in
-    let t = bit_at-trailing_zeros w64 c.loop-rest.rest some fits in
-    let x = trailing_zeros w64 c.loop-rest.rest in
-    let one = eq-eqb _ 1 t.1 in
-    let os = c.args.options.now in
-    let p = c.args.problem.now.puzzle in
-    let size : length c.loop-rest.words.alone ≡ 64 = c.loop-rest.invariant.size in
-    record {
-      size = length-set c.loop-rest.words.alone x _ ∙ size;
-      apart = c.loop-rest.invariant.apart;
-      holders = c.loop-rest.invariant.holders;
-      rest = λ y e. c.loop-rest.invariant.rest y (from_rest _ y e);
-      alone = λ k y below. turned_on c.loop-rest.words.alone c.loop-rest.rest _ x c.loop-i.i k y _ _
-          (omega (arith, c.requires.few_items)) (omega (arith, t.0, size)) one (lowest_gone c.loop-rest.rest some fits)
-          (others_kept c.loop-rest.rest y some fits)
-          (λ e q. ap (λ z. held_at p os (get_or c.args.items.now z 0) y) (eqb-true k c.loop-i.i q)
-          ∙ ap (held_at p os (get_or c.args.items.now c.loop-i.i 0)) e ∙ c.loop-rest.invariant.rest x one)
-          (c.loop-rest.invariant.alone k y below);
-    }
-
 pub loop-i-preserved : goal.loop-i-preserved
 loop-i-preserved c =
     let os = c.args.options.now in
@@ -84,18 +55,17 @@ loop-i-preserved c =
     let i = c.loop-i.i in
     let hs = c.note_holders.new.holders in
     let w = get_or hs (get_or is i 0) 0 in
-    let now : c.loop-rest.words.holders ≡ set ws i w = c.loop-rest.invariant.holders in
     let told : TellsHolders p os (get_or is i 0) w =
     All-get_or (λ j. TellsHolders p os j (get_or hs j 0)) is i 0 c.loop-i-test.true c.note_holders.ensures.items in
     record {
-      sizes = (ap length now ∙ length-set ws i w ∙ c.loop-i.invariant.sizes.0, c.loop-rest.invariant.size);
-      apart = c.loop-rest.invariant.apart ∙ c.loop-i.invariant.apart;
-      holders = λ k y h. ap (λ v. bit_at (get_or v k 0) y == 1) now
-          ∙ written ws i w (λ z v. (bit_at v y == 1) ≡ held_at p os (get_or is z 0) y)
+      sizes = (length-set ws i w ∙ c.loop-i.invariant.sizes.0, c.note_in_each.ensures.size);
+      apart = c.loop-i.invariant.apart;
+      holders = λ k y h. written ws i w (λ z v. (bit_at v y == 1) ≡ held_at p os (get_or is z 0) y)
           (omega (arith, c.loop-i.invariant.sizes.0, c.requires.few_items, c.loop-i-test.true)) (told y)
           (λ z l. c.loop-i.invariant.holders z y l) k h;
-      alone = λ k y below. c.loop-rest.invariant.alone k y below
-          ∙ turned_all c.loop-rest.rest i k y (held_at p os (get_or is k 0) y) (omega (arith, c.loop-rest-test.false));
+      alone = λ k y below. c.note_in_each.ensures.noted y k (omega (arith, below, c.requires.few_options))
+          ∙ ap (λ t. t || ((k == i) && (bit_at w y == 1))) (c.loop-i.invariant.alone k y below)
+          ∙ noted_more k i (bit_at w y == 1) (λ z. held_at p os (get_or is z 0) y) (told y);
     }
 
 pub returns : goal.returns

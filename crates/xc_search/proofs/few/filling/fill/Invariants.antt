@@ -1,4 +1,4 @@
-use Rattle.std.proofs.Common.{ℕ, ◌≡◌, ◌<◌, ◌==◌, ◌&&◌, ◌||◌, true, not, length, get_or, nat_lt}
+use Rattle.std.proofs.Common.{ℕ, ◌≡◌, ◌<◌, ◌==◌, ◌&&◌, length, get_or, nat_lt}
 use Rattle.std.specs.Int.{bit_at}
 use Rattle.xc_input.specs.Problem.{uses_of}
 use Rattle.xc_search.specs.inner.Few.{share}
@@ -22,18 +22,3 @@ invariant-loop-i l = record {
   alone : (k y : ℕ) → y < length l.options → (bit_at (get_or l.words.alone y 0) k == 1)
       ≡ (nat_lt k l.i && held_at l.problem.puzzle l.options (get_or l.items k 0) y);
 }
-
-abbrev pub invariant-loop-rest : goal.invariant-loop-rest
-invariant-loop-rest l = record {
-  size : length l.words.alone ≡ 64;
-  apart : l.words.apart ≡ l.initial.words.apart;
-  holders : l.words.holders ≡ l.initial.words.holders;
-  rest : (y : ℕ) → (bit_at l.rest y == 1) ≡ true
-      → held_at l.problem.puzzle l.options (get_or l.items l.i 0) y ≡ true;
-  alone : (k y : ℕ) → y < length l.options → (bit_at (get_or l.words.alone y 0) k == 1)
-      ≡ ((nat_lt k l.i && held_at l.problem.puzzle l.options (get_or l.items k 0) y)
-      || ((k == l.i) && (held_at l.problem.puzzle l.options (get_or l.items k 0) y && not (bit_at l.rest y == 1))));
-}
-
-abbrev pub decreases-loop-rest : goal.decreases-loop-rest
-decreases-loop-rest l = l.rest
