@@ -5,7 +5,7 @@ use Rattle.std.proofs.Common.{false, nat_lt}
 use Rattle.std.proofs.Common.{bit_and, w64, Option, Some, None, get_or-set_same, get_or-set_other, take_all, zero, suc}
 use Rattle.std.proofs.Common.{eqb, if◌then◌else◌}
 use Rattle.std.specs.Int.{bit_at, bit_not}
-use Rattle.std.specs.List.{AllByRecursion}
+use Rattle.std.specs.List.{AllByRecursion, list_any}
 use Rattle.std.proofs.lemmas.Bool.{cases_eq, cases_lt, cases_order, eq-eqb, ne_eqb, eqb-true, lt-ltb, le-ltb}
 use Rattle.std.proofs.lemmas.Bool.{or_left, or_right, or_cases, eqb-false}
 use Rattle.std.proofs.Math.Bool.{or-false, and-true}
@@ -20,8 +20,10 @@ use Rattle.xc_input.specs.Named.{Named, IsKnownUse}
 use Rattle.xc_input.specs.declared.problem.Use.{Use}
 use Rattle.xc_input.proofs.ListLemmas.{by_bool}
 use Rattle.xc_moves.specs.Moves.{agrees, is_other_colour}
+use Rattle.xc_moves.specs.declared.dance.Move.{Move}
 use Rattle.xc_moves.proofs.PlaceLemmas.{at_option}
 use Rattle.xc_search.specs.inner.Few.{share}
+use Rattle.xc_search.specs.inner.FewBounded.{binds, clash, clashes_at}
 use Rattle.xc_search.specs.inner.Filled.{held_at, gives, TellsHolders, TellsColour, colour_place, HasColourRoom}
 use Rattle.xc_search.specs.inner.Filled.{differs_at, shares_at}
 use Rattle.xc_search.proofs.ListingLemmas.{AreApart, apart_from_pairs}
@@ -269,12 +271,14 @@ differs_by zero (Some d) g tells = refl
 differs_by (suc c) (Some d) g tells =
     rw (tells (omega arith)) (by_bool (suc c == d) (λ e. grind arith) (λ e. grind arith))
 
-shares_same : (n : ℕ) (hs cs : List ℕ) (us vs : List Use) (y : ℕ) → AreApart vs
+-- of those uses that f picks
+shares_same : (f : Use → Bool) (n : ℕ) (hs cs : List ℕ) (us vs : List Use) (y : ℕ) → AreApart vs
     → ((j : ℕ) → is_some (colour_in us j) ≡ true → (bit_at (get_or hs j 0) y == 1) ≡ is_some (colour_in vs j))
     → ((j c : ℕ) → 0 < c → gives us j c ≡ true → (bit_at (get_or cs (colour_place n j c) 0) y == 1) ≡ gives vs j c)
-    → shares_at n hs cs us y ≡ share us vs
-shares_same n hs cs [] vs y apart tells given = refl
-shares_same n hs cs (u ∷ us) vs y apart tells given =
+    → list_any (λ u. f u && differs_at n hs cs u y) us
+    ≡ list_any (λ u. f u && not (agrees u.colour (colour_in vs u.item))) us
+shares_same f n hs cs [] vs y apart tells given = refl
+shares_same f n hs cs (u ∷ us) vs y apart tells given =
     let here = eq-eqb u.item u.item refl in
     let held = tells u.item (some_by (u.item == u.item) u.colour (colour_in us u.item) _ refl
     ∙ or_left (u.item == u.item) (is_some (colour_in us u.item)) here) in
@@ -283,11 +287,29 @@ shares_same n hs cs (u ∷ us) vs y apart tells given =
     || not (bit_at (get_or cs (colour_place n u.item u.colour) 0) y == 1))) held
     ∙ differs_by u.colour (colour_in vs u.item) _ (λ some. given u.item u.colour some (or_left _ _ own)
     ∙ gives_own vs apart u.item u.colour) in
-    let tail = shares_same n hs cs us vs y apart
+    let tail = shares_same f n hs cs us vs y apart
     (λ j h. tells j (some_by (u.item == j) u.colour (colour_in us j) _ refl
     ∙ or_right (u.item == j) (is_some (colour_in us j)) h))
     (λ j c some h. given j c some (or_right (is_given u j c) _ h)) in
-    ap (λ t. t || shares_at n hs cs us y) head ∙ ap (λ t. not (agrees u.colour (colour_in vs u.item)) || t) tail
+    ap (λ t. (f u && t) || list_any (λ v. f v && differs_at n hs cs v y) us) head
+    ∙ ap (λ t. (f u && not (agrees u.colour (colour_in vs u.item))) || t) tail
+
+told_of : (f : Use → Bool) (p : Puzzle) (n : ℕ) (os hs cs : List ℕ) (us : List Use) (x y : ℕ) → IsValid p
+    → numbered_get p.options (get_or os x 0) ≡ Some us → ((j c : ℕ) → gives us j c ≡ true → c ≤ n)
+    → ((z j : ℕ) → held_at p os j z ≡ true → TellsHolders p os j (get_or hs j 0))
+    → ((z j c : ℕ) → 0 < c → c ≤ n → gives (uses_of p (get_or os z 0)) j c ≡ true
+    → TellsColour p os j c (get_or cs (colour_place n j c) 0))
+    → list_any (λ u. f u && differs_at n hs cs u y) us ≡ list_any (λ u. f u
+    && not (agrees u.colour (colour_in (uses_of p (get_or os y 0)) u.item))) (uses_of p (get_or os x 0))
+told_of f p n os hs cs us x y valid is most tells given =
+    let uses = uses_are p (get_or os x 0) us is in
+    let vs = uses_of p (get_or os y 0) in
+    let apart = at_option (IsSoundOption p) AreApart p tt (λ vs s. apart_from_pairs vs s.distinct) valid.options
+    (get_or os y 0) in
+    shares_same f n hs cs us vs y apart
+    (λ j h. tells x j (ap (λ v. is_some (colour_in v j)) uses ∙ h) y)
+    (λ j c some h. given x j c some (most j c h) (ap (λ v. gives v j c) uses ∙ h) y)
+    ∙ ap (λ v. list_any (λ u. f u && not (agrees u.colour (colour_in vs u.item))) v) (sym uses)
 
 pub share_told : (p : Puzzle) (n : ℕ) (os hs cs : List ℕ) (us : List Use) (x y : ℕ) → IsValid p
     → numbered_get p.options (get_or os x 0) ≡ Some us → ((j c : ℕ) → gives us j c ≡ true → c ≤ n)
@@ -296,10 +318,20 @@ pub share_told : (p : Puzzle) (n : ℕ) (os hs cs : List ℕ) (us : List Use) (x
     → TellsColour p os j c (get_or cs (colour_place n j c) 0))
     → shares_at n hs cs us y ≡ share (uses_of p (get_or os x 0)) (uses_of p (get_or os y 0))
 share_told p n os hs cs us x y valid is most tells given =
-    let uses = uses_are p (get_or os x 0) us is in
-    let apart = at_option (IsSoundOption p) AreApart p tt (λ vs s. apart_from_pairs vs s.distinct) valid.options
-    (get_or os y 0) in
-    shares_same n hs cs us (uses_of p (get_or os y 0)) y apart
-    (λ j h. tells x j (ap (λ v. is_some (colour_in v j)) uses ∙ h) y)
-    (λ j c some h. given x j c some (most j c h) (ap (λ v. gives v j c) uses ∙ h) y)
-    ∙ ap (λ v. share v (uses_of p (get_or os y 0))) (sym uses)
+    told_of (λ u. true) p n os hs cs us x y valid is most tells given
+
+-- ---- which of two options clash
+
+pub clashes_more : (p : Puzzle) (t : List Move) (n : ℕ) (hs cs : List ℕ) (us : List Use) (k y : ℕ) (d : Use)
+    → k < length us → clashes_at p t n hs cs (take (k + 1) us) y ≡ (clashes_at p t n hs cs (take k us) y
+    || (binds p t (get_or us k d) && differs_at n hs cs (get_or us k d) y))
+clashes_more p t n hs cs us k y d within = list_any_more (λ u. binds p t u && differs_at n hs cs u y) us k d within
+
+pub clash_told : (p : Puzzle) (t : List Move) (n : ℕ) (os hs cs : List ℕ) (us : List Use) (x y : ℕ) → IsValid p
+    → numbered_get p.options (get_or os x 0) ≡ Some us → ((j c : ℕ) → gives us j c ≡ true → c ≤ n)
+    → ((z j : ℕ) → held_at p os j z ≡ true → TellsHolders p os j (get_or hs j 0))
+    → ((z j c : ℕ) → 0 < c → c ≤ n → gives (uses_of p (get_or os z 0)) j c ≡ true
+    → TellsColour p os j c (get_or cs (colour_place n j c) 0))
+    → clashes_at p t n hs cs us y ≡ clash p t (uses_of p (get_or os x 0)) (uses_of p (get_or os y 0))
+clash_told p t n os hs cs us x y valid is most tells given =
+    told_of (binds p t) p n os hs cs us x y valid is most tells given

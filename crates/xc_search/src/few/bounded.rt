@@ -1,12 +1,12 @@
 //! The words of items that may be held within bounds.
-ghost use Rattle.std.specs.Prelude.{◌≡◌, ◌==◌, ◌<◌, ◌≤◌, ◌⊎◌, ℕ, length, All};
+ghost use Rattle.std.specs.Prelude.{◌≡◌, ◌==◌, ◌<◌, ◌≤◌, ◌&&◌, ◌⊎◌, ℕ, length, min, not, All};
 ghost use Rattle.std.specs.Int.{bit_at};
-ghost use Rattle.xc_input.specs.Problem.{IsOption, item_count};
+ghost use Rattle.xc_input.specs.Problem.{IsOption, item_count, primary_count};
 ghost use Rattle.xc_moves.specs.Moves.{IsOpenPrimary};
 ghost use Rattle.xc_search.specs.inner.Filled.{colour_place, HasColourRoom};
-ghost use Rattle.xc_search.specs.inner.FewBounded.{AreBoundedUseWords, clashes_at};
+ghost use Rattle.xc_search.specs.inner.FewBounded.{AreBoundedUseWords, binds, clashes_at};
 
-use crate::few::filling::{differing, know_words, note_colours, note_holders, note_in_each};
+use crate::few::filling::{differing, note_colours, note_holders, note_in_each};
 use crate::few::wanted::bounds_left;
 use xc_input::{Problem, Use};
 use xc_moves::Dance;
@@ -50,12 +50,29 @@ pub fn fill_bounded<D: Dance>(
         let of = holders[items[i] as usize];
         let bounds = bounds_left(dance, problem, items[i]);
         words.holders[i] = of;
-        words.low[i] = bounds.low.min(MOST as u32) as u8;
-        words.high[i] = bounds.high.min(MOST as u32) as u8;
-        if bounds.high != 1 {
-            note_in_each(&mut words.many, of, i);
-        }
+        words.low[i] = up_to_most(bounds.low);
+        words.high[i] = up_to_most(bounds.high);
+        note_in_each(&mut words.many, of_several(of, bounds.high), i);
     }
+}
+
+/// The number, or how many options words have at most, if that is less.
+#[inline(always)]
+fn up_to_most(n: u32) -> u8
+    ensures { result ≡ min n 64 }
+{
+    n.min(MOST as u32) as u8
+}
+
+/// Those of an item's options that may be taken beside others of it: none if it may be held only once more.
+#[inline(always)]
+fn of_several(of: u64, high: u32) -> u64
+    ensures { (y : ℕ) → (bit_at result y == 1) ≡ (bit_at of y == 1 && not (high == 1)) }
+{
+    if high == 1 {
+        return 0;
+    }
+    of
 }
 
 /// The options that can't be taken beside one with these uses, of so many colours: those that hold an item of it that
@@ -78,9 +95,20 @@ fn all_clashing<D: Dance>(
     let primary = problem.primary();
     let mut apart = 0u64;
     for u in uses {
-        if u.item > primary || dance.bound(u.item) == 1 {
+        if is_binding(dance, primary, *u) {
             apart |= differing(*u, holders, coloured, colours);
         }
     }
     apart
+}
+
+/// Whether an option keeps others apart by the use, of a problem with so many primary items: it is of an item that may
+/// be held only once more, or of a secondary one.
+#[inline(always)]
+fn is_binding<D: Dance>(dance: &D, primary: u32, u: Use) -> bool
+    requires some { 1 ≤ u.item }
+    requires primary { primary ≡ primary_count (D.state dance.now).puzzle }
+    ensures { result ≡ binds (D.state dance.now).puzzle (D.state dance.now).trail u }
+{
+    u.item > primary || dance.bound(u.item) == 1
 }
