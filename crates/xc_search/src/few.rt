@@ -173,6 +173,7 @@ impl Few {
             self.pass_by(depth, 0);
             return None;
         };
+        let most_nodes = self.most_nodes(most);
         let items = &self.items[..items];
         let options = &self.options[..options];
         fill(
@@ -184,7 +185,6 @@ impl Few {
             &mut self.words,
         );
         let many = options.len();
-        let most_nodes = self.most_nodes(most);
         let mut budget = most_nodes;
         let found = count_left(
             &self.words,
@@ -254,6 +254,7 @@ impl Few {
             self.pass_by(depth, 0);
             return None;
         };
+        let most_nodes = self.most_nodes(most);
         let items = &self.items[..items];
         let options = &self.options[..options];
         fill_bounded(
@@ -266,7 +267,6 @@ impl Few {
             &mut self.bounded,
         );
         let many = options.len();
-        let most_nodes = self.most_nodes(most);
         let mut budget = most_nodes;
         let found = count_bounded(
             &self.bounded,
