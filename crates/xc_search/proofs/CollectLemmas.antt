@@ -1,21 +1,19 @@
 -- The open items, and the options that are left, as they are collected.
 use Rattle.std.proofs.Common.{ℕ, ◌≡◌, ◌<◌, ◌≤◌, ◌+◌, ◌*◌, ◌-◌, ◌≢◌, ◌⊎◌, inl, inr, Bool, true, false, List, [], ◌∷◌}
 use Rattle.std.proofs.Common.{length, take, filter, map, Some, None, refl, sym, ap, ◌∙◌, subst, arith, zero, suc, ltb}
-use Rattle.std.proofs.Common.{◌++◌, set, get_or}
-use Rattle.std.specs.Prelude.{slice_get, flat_map, unwrap_or, ◌==◌}
-use Rattle.std.specs.List.{AllByRecursion, range_with_len}
+use Rattle.std.proofs.Common.{◌++◌, set}
+use Rattle.std.specs.Prelude.{unwrap_or, ◌==◌}
+use Rattle.std.specs.List.{AllByRecursion}
 use Rattle.std.proofs.lemmas.List.{take_more_set, append-nil, append_assoc, length-set}
 use Rattle.std.proofs.lemmas.Grind.{flat_map-append}
-use Rattle.std.proofs.lemmas.Option.{slice_get-get_or}
 use Rattle.xc_input.specs.Problem.{Puzzle, Numbered, IsValid, IsItem, IsPrimary, uses_of}
 use Rattle.xc_input.specs.Problem.{primary_count, option_count}
-use Rattle.xc_input.proofs.ListLemmas.{by_option, each_weaker, each_both, each-filter, each_passes}
-use Rattle.xc_input.proofs.ListLemmas.{each_at}
+use Rattle.xc_input.proofs.ListLemmas.{by_option, each_weaker}
 use Rattle.xc_moves.specs.declared.dance.Move.{Move}
 use Rattle.xc_moves.specs.Commits.{IsListedAt, IsUseAt, first_primary, option_at}
 use Rattle.xc_moves.specs.Places.{link_place, first_above}
 use Rattle.xc_moves.specs.Moves.{open_items, next_above, IsOpenPrimary, listed, listed_numbers, is_open}
-use Rattle.xc_moves.proofs.PlaceLemmas.{take_more-get, behind_items}
+use Rattle.xc_moves.proofs.PlaceLemmas.{behind_items}
 use Rattle.xc_moves.proofs.PlaceAnswers.{listed_use, next_contained}
 use Rattle.xc_moves.proofs.MoveLemmas.{next_above-split, next_above-none, next_above-open, next_above-gt, above_all}
 use Rattle.xc_moves.proofs.MoveLemmas.{rises_listed, holders, IsHolder}
@@ -63,25 +61,6 @@ pub items_end : (p : Puzzle) (t : List Move) (at n total : ℕ) (into : List ℕ
 items_end p t at n total into up e =
     let none = next_above-none at (open_items p t) e in
     sym (append-nil (take n into)) ∙ ap (λ l. take n into ++ l) (sym none) ∙ up.items
-
-in_range : (p : Puzzle) (a n : ℕ) → 1 ≤ a → a + n ≤ primary_count p + 1
-    → AllByRecursion (IsPrimary p) (range_with_len a n)
-in_range p a zero low most = tt
-in_range p a (suc n) low most =
-    ((low, omega (arith, most)), in_range p (a + 1) n (omega (arith, low)) (omega (arith, most)))
-
--- each of them is open
-open_each : (p : Puzzle) (t : List Move) → AllByRecursion (IsOpenPrimary p t) (open_items p t)
-open_each p t = each_both (IsPrimary p) (λ i. is_open i t ≡ true) (IsOpenPrimary p t) (open_items p t) (λ i a b. (a, b))
-    (each-filter (IsPrimary p) (λ i. is_open i t) (range_with_len 1 (primary_count p))
-    (in_range p 1 (primary_count p) (omega arith) (omega arith)))
-    (each_passes (λ i. is_open i t) (range_with_len 1 (primary_count p)))
-
-pub open_at : (p q : Puzzle) (t : List Move) (is : List ℕ) (k : ℕ) → q ≡ p → is ≡ open_items p t → k < length is
-    → IsOpenPrimary q t (get_or is k 0)
-open_at p q t is k same e lt = subst (λ r. IsOpenPrimary r t (get_or is k 0)) (sym same)
-    (each_at (IsOpenPrimary p t) is k _
-    (subst (λ is. AllByRecursion (IsOpenPrimary p t) is) (sym e) (open_each p t)) (slice_get-get_or is k 0 lt))
 
 pub is_item : (p : Puzzle) (t : List Move) (i : ℕ) → IsOpenPrimary p t i → IsItem p i
 is_item p t i h = (h.0.0, omega (arith, h.0.1))
@@ -222,10 +201,9 @@ more_on p t i {gone} {n} {m} {y} {into} {out} next a o count list same own lt is
     (taken_more p t i next a o own lt is option))
 
 -- at the item's own node all were met
-pub taken_all : (p : Puzzle) (t : List Move) (is : List ℕ) (k i : ℕ) {n : ℕ} {into : List ℕ} {place : ℕ} → IsValid p
-    → IsItem p i → slice_get is k ≡ Some i → AreTakenTo p t i (collected p t (take k is)) n into place → place ≡ i
-    → AreTaken p t (collected p t (take (k + 1) is)) n into
-taken_all p t is k i {n} {into} {place} valid item e a own =
+pub taken_all : (p : Puzzle) (t : List Move) (done : List ℕ) (i : ℕ) {n : ℕ} {into : List ℕ} {place : ℕ} → IsItem p i
+    → AreTakenTo p t i (collected p t done) n into place → place ≡ i → AreTaken p t (collected p t (done ++ i ∷ [])) n into
+taken_all p t done i {n} {into} {place} item a own =
     let none : next_above a.last (listed_numbers p t i) ≡ None = by_option (next_above a.last (listed_numbers p t i))
     (λ none. none)
     (λ x f.
@@ -238,13 +216,12 @@ taken_all p t is k i {n} {into} {place} valid item e a own =
       item.1,
     ))) in
     let rest = next_above-none a.last (listed_numbers p t i) none in
-    let one : List ℕ → List ℕ = λ is. flat_map (λ i. map (λ o. o.number) (owned p i (listed p t i))) is in
     record {
       few = a.few;
       full = a.full;
       taken = sym (append-nil (take n into)) ∙ ap (λ l. take n into ++ filter (is_own p i) l) (sym rest) ∙ a.taken
-          ∙ ap (λ l. collected p t (take k is) ++ l) (sym (own_numbers p t i) ∙ sym (append-nil _))
-          ∙ sym (flat_map-append _ (take k is) (i ∷ [])) ∙ ap one (sym (take_more-get is k i e));
+          ∙ ap (λ l. collected p t done ++ l) (sym (own_numbers p t i) ∙ sym (append-nil _))
+          ∙ sym (flat_map-append _ done (i ∷ []));
     }
 
 -- what is at the next place is further on
@@ -265,3 +242,54 @@ option_nearer p t i {place = place} next a o is =
     let then : unwrap_or (option_at p i next) (option_count p + 1) ≡ y =
     ap (λ n. unwrap_or n (option_count p + 1)) (is ∙ e) in
     omega (arith, most, here, then, next_above-gt o.x y (listed_numbers p t i) e))
+
+-- ======== The options of one open item after the other.
+
+-- the first n of these are the options of the open items up to item at
+pub record AreTakenUpTo (p : Puzzle) (t : List Move) (at n : ℕ) (into : List ℕ) : Type 0 where
+  pub at_open : (at ≡ 0) ⊎ IsOpenPrimary p t at
+  pub done : List ℕ
+  pub items : done ++ filter (λ j. ltb at j) (open_items p t) ≡ open_items p t
+  pub taken : AreTaken p t (collected p t done) n into
+
+-- and those of the open item i up to the one before the place in its list
+pub record AreTakenWithin (p : Puzzle) (t : List Move) (i n : ℕ) (into : List ℕ) (place : ℕ) : Type 0 where
+  pub done : List ℕ
+  pub items : done ++ i ∷ filter (λ j. ltb i j) (open_items p t) ≡ open_items p t
+  pub to : AreTakenTo p t i (collected p t done) n into place
+
+pub options_first : (p : Puzzle) (t : List Move) (into : List ℕ) → length into ≡ 64 → AreTakenUpTo p t 0 0 into
+options_first p t into full = record {
+  at_open = inl refl;
+  done = [];
+  items = above_all 0 (open_items p t) (open_rises p t);
+  taken = taken_none p t into full;
+}
+
+-- at the first option of the next open item
+pub options_within : (p : Puzzle) (t : List Move) (at i n : ℕ) (into : List ℕ) (place : ℕ)
+    → AreTakenUpTo p t at n into → next_above at (open_items p t) ≡ Some i
+    → place ≡ link_place p i (first_above 0 0 (listed_numbers p t i))
+    → option_at p i place ≡ next_above 0 (listed_numbers p t i) → AreTakenWithin p t i n into place
+options_within p t at i n into place up e is option = record {
+  done = up.done;
+  items = ap (λ l. up.done ++ l) (sym (next_above-split 0 at i (open_items p t) (open_rises p t) e)) ∙ up.items;
+  to = taken_first p t i (collected p t up.done) n into place up.taken is option;
+}
+
+-- at the end of its list
+pub options_on : (p : Puzzle) (t : List Move) (i n : ℕ) (into : List ℕ) (place : ℕ) → IsOpenPrimary p t i
+    → AreTakenWithin p t i n into place → place ≡ i → AreTakenUpTo p t i n into
+options_on p t i n into place opened a own = record {
+  at_open = inr opened;
+  done = a.done ++ i ∷ [];
+  items = append_assoc a.done (i ∷ []) (filter (λ j. ltb i j) (open_items p t)) ∙ a.items;
+  taken = taken_all p t a.done i (is_item p t i opened) a.to own;
+}
+
+-- no item is left
+pub options_end : (p : Puzzle) (t : List Move) (at n : ℕ) (into : List ℕ) → AreTakenUpTo p t at n into
+    → next_above at (open_items p t) ≡ None → take n into ≡ collected p t (open_items p t)
+options_end p t at n into up e =
+    up.taken.taken ∙ ap (collected p t) (sym (append-nil up.done)
+    ∙ ap (λ l. up.done ++ l) (sym (next_above-none at (open_items p t) e)) ∙ up.items)
