@@ -28,3 +28,4 @@ pub mod LeftBounded
 pub mod LeftClash
 pub mod LeftBoundedWords
 pub mod FewBoundedLemmas
+pub mod WatchedLemmas

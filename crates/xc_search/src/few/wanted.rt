@@ -105,7 +105,7 @@ pub fn collect_watched<D: Dance>(
 fn is_let_go(len: usize, bounds: Bounds, options: usize, most: Option<u32>) -> bool
     ensures { result ≡ true → LetsGo len bounds.low bounds.high options most }
 {
-    if bounds.low > 0 {
+    if bounds.low != 0 {
         return false;
     }
     if len <= bounds.high as usize {
