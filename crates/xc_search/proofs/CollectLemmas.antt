@@ -1,18 +1,17 @@
 -- The open items, and the options that are left, as they are collected.
 use Rattle.std.proofs.Common.{ℕ, ◌≡◌, ◌<◌, ◌≤◌, ◌+◌, ◌*◌, ◌-◌, ◌≢◌, ◌⊎◌, inl, inr, Bool, true, false, List, [], ◌∷◌}
-use Rattle.std.proofs.Common.{length, take, filter, map, Some, None, refl, sym, ap, ◌∙◌, subst, arith, zero, suc, ltb}
+use Rattle.std.proofs.Common.{length, take, filter, map, Some, None, refl, sym, ap, ◌∙◌, subst, arith, ltb}
 use Rattle.std.proofs.Common.{◌++◌, set}
 use Rattle.std.specs.Prelude.{unwrap_or, ◌==◌}
 use Rattle.std.specs.List.{AllByRecursion}
 use Rattle.std.proofs.lemmas.List.{take_more_set, append-nil, append_assoc, length-set}
 use Rattle.std.proofs.lemmas.Grind.{flat_map-append}
-use Rattle.xc_input.specs.Problem.{Puzzle, Numbered, IsValid, IsItem, IsPrimary, uses_of}
-use Rattle.xc_input.specs.Problem.{primary_count, option_count}
+use Rattle.xc_input.specs.Problem.{Puzzle, Numbered, IsValid, IsItem, uses_of, option_count}
 use Rattle.xc_input.proofs.ListLemmas.{by_option, each_weaker}
 use Rattle.xc_moves.specs.declared.dance.Move.{Move}
 use Rattle.xc_moves.specs.Commits.{IsListedAt, IsUseAt, first_primary, option_at}
 use Rattle.xc_moves.specs.Places.{link_place, first_above}
-use Rattle.xc_moves.specs.Moves.{open_items, next_above, IsOpenPrimary, listed, listed_numbers, is_open}
+use Rattle.xc_moves.specs.Moves.{open_items, next_above, IsOpenPrimary, listed, listed_numbers}
 use Rattle.xc_moves.proofs.PlaceLemmas.{behind_items}
 use Rattle.xc_moves.proofs.PlaceAnswers.{listed_use, next_contained}
 use Rattle.xc_moves.proofs.MoveLemmas.{next_above-split, next_above-none, next_above-open, next_above-gt, above_all}

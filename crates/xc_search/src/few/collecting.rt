@@ -71,6 +71,7 @@ pub fn collect_options<D: Dance>(
     requires valid { IsValid problem.now.puzzle }
     requires legal { AreLegal problem.now.puzzle (D.state dance.now).trail }
     ensures few { IfSome result (λ n. n ≤ 64) }
+    ensures within { IfSome result (λ n. n ≤ length into.new) }
     ensures collected { IfSome result (λ n. take n into.new ≡ collected problem.now.puzzle (D.state dance.now).trail
         (open_items problem.now.puzzle (D.state dance.now).trail)) }
 {

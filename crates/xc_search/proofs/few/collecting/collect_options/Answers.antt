@@ -1,4 +1,4 @@
-use Rattle.std.proofs.Common.{◌≢◌, ◌≡◌, arith, sym, subst, ◌∙◌, refl, inl}
+use Rattle.std.proofs.Common.{◌≢◌, arith, sym, subst, ◌∙◌, refl, inl}
 use Rattle.xc_input.specs.Problem.{IsValid, IsItem}
 use Rattle.xc_moves.specs.Moves.{IsOpenPrimary}
 use Rattle.xc_moves.proofs.MoveLemmas.{next_above-open}
@@ -112,3 +112,7 @@ returns-clause-collected g c =
     let s = g.D.Dance.state c.args.dance.now in
     rw c.requires.same at (options_end s.puzzle s.trail c.loop-i.at c.loop-i.options c.loop-i.into c.loop-i.invariant
     (sym c.in_default.ensures))
+
+pub returns-clause-within : goal.returns-clause-within
+returns-clause-within g c =
+    let up = c.loop-i.invariant.taken in omega (arith, up.few, up.full)
