@@ -1,5 +1,5 @@
 -- The open items whose bounds have to be watched, as they are collected.
-use Rattle.std.proofs.Common.{ℕ, ◌≡◌, ◌<◌, ◌≤◌, ◌+◌, ◌∷◌, ◌⊎◌, inl, inr, [], List, Option, Some, None, refl, sym, ap}
+use Rattle.std.proofs.Common.{ℕ, ◌≡◌, ◌<◌, ◌≤◌, ◌+◌, ◌∷◌, ◌⊎◌, inl, inr, [], List, Option, Some, None, refl, sym}
 use Rattle.std.proofs.Common.{length, take, filter, subst, arith, set, ltb, ltb-true, ltb-false, ◌∙◌, ◌++◌}
 use Rattle.std.specs.Prelude.{All, Contains, IfSome}
 use Rattle.std.proofs.lemmas.List.{take_more_set, length-set}

@@ -1,4 +1,4 @@
-use Rattle.std.proofs.Common.{ap, ◌∙◌, take}
+use Rattle.std.proofs.Common.{ap, sym, ◌∙◌, take}
 use Rattle.xc_search.specs.inner.Few.{collected}
 use Rattle.xc_search.proofs.FewLemmas.{items_known, options_known, own_known, few_counted}
 use Rattle.xc_search.proofs.few.Few.count_items.Goals as goal
@@ -13,7 +13,7 @@ fill-requires-clause-options g c =
     let p = c.args.problem.now.puzzle in
     let t = (g.D.Dance.state c.args.dance.now).trail in
     options_known p t (take c.in-Some.options c.collect_options.new.into) c.requires.searchable
-    (c.in-Some.ensures.collected ∙ ap (collected p t) c.requires.opened)
+    c.in-Some.ensures.collected
 
 pub count_left-found-requires-clause-own : goal.count_left-found-requires-clause-own
 count_left-found-requires-clause-own g c =
@@ -23,10 +23,11 @@ count_left-found-requires-clause-own g c =
 
 pub returns-clause-counted : goal.returns-clause-counted
 returns-clause-counted g c =
-    few_counted c.args.problem.now.puzzle (g.D.Dance.state c.args.dance.now).trail
-    (take c.args.items c.args.self.now.items) (take c.in-Some.options c.collect_options.new.into) c.fill.new.words
-    c.full.result c.full-2.result c.requires.searchable c.requires.once (record {
+    let p = c.args.problem.now.puzzle in
+    let t = (g.D.Dance.state c.args.dance.now).trail in
+    few_counted p t (take c.args.items c.args.self.now.items) (take c.in-Some.options c.collect_options.new.into)
+    c.fill.new.words c.full.result c.full-2.result c.requires.searchable c.requires.once (record {
       items = c.requires.opened;
-      options = c.in-Some.ensures.collected;
+      options = c.in-Some.ensures.collected ∙ ap (collected p t) (sym c.requires.opened);
       words = c.fill.ensures;
     }) c.full.ensures c.full-2.ensures c.count_left-found.result c.count_left-found.ensures.counted
