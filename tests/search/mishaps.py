@@ -284,9 +284,12 @@ def problem_changes(trial):
         trial.write(trial.text)
     status = trial.end(process, may_be_killed=True)[0]
     if status != 0 and not is_put_back and trial.has_begun():
-        status, printed, told = trial.end(trial.start(trial.words()))
-        # Reading passes over remarks and options without primary items: without such a last line nothing has changed.
-        if digest_of(changed) == digest_of(trial.text):
+        # Reading passes over remarks and options without primary items: without such a last line the problem is the same.
+        # An option that is passed over has a message, so the messages may be fewer.
+        is_same = digest_of(changed) == digest_of(trial.text)
+        whole = trial.whole_of(changed) if is_same else None
+        status, printed, told = trial.end(trial.start(trial.words()), whole=whole)
+        if is_same:
             if status != 0:
                 raise Wrong("the same problem doesn't go on")
         elif status != CANT or printed or b"another problem" not in told:

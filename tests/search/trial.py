@@ -52,9 +52,7 @@ class Trial:
         self.write(self.text)
         self.folder = f"{self.path}.search"
         self.program = shutil.which(f"dlx{self.kind}")
-        words = ["m1"] if self.listed else []
-        done = subprocess.run([self.program, *words], input=self.text, capture_output=True)
-        self.whole = done.stdout, done.stderr
+        self.whole = self.whole_of(self.text)
         self.bin = os.path.join(self.top, "bin")
         told = subprocess.run(["dlx-span", str(self.kind), "m0", "0", "-", "-"], input=self.text, capture_output=True)
         most = max(int(told.stdout.split()[-5]) // SPANS, 1)
@@ -92,6 +90,11 @@ class Trial:
             solutions = int(re.search(rb"Altogether (\d+)", told.stderr).group(1))
             if solutions <= 30_000 and (solutions > 50 or rng.random() < 0.02):
                 return kind, text
+
+    def whole_of(self, text):
+        """What the program in one prints of a problem, and the messages."""
+        done = subprocess.run([self.program, *(["m1"] if self.listed else [])], input=text, capture_output=True)
+        return done.stdout, done.stderr
 
     def stand_in(self, script):
         """A script in the place of dlx-span."""
@@ -145,8 +148,11 @@ class Trial:
         self.running.append(process)
         return process
 
-    def end(self, process, may_be_killed=False):
-        """Waits for a command: its status, standard output and standard error, which are judged."""
+    def end(self, process, may_be_killed=False, whole=None):
+        """Waits for a command: its status, standard output and standard error, which are judged.
+
+        whole: what it prints in the end, and its messages, where that isn't the `whole` of this try.
+        """
         try:
             told = process.communicate(timeout=LONG)[1]
         except subprocess.TimeoutExpired:
@@ -154,18 +160,18 @@ class Trial:
         process.out.seek(0)
         printed = process.out.read()
         self.say(f"status {process.returncode}, {len(printed)} bytes, {told.decode(errors='replace').strip()[-300:]!r}")
-        self.judge(process.returncode, printed, told, may_be_killed)
+        self.judge(process.returncode, printed, told, may_be_killed, whole or self.whole)
         return process.returncode, printed, told
 
-    def judge(self, status, printed, told, may_be_killed):
+    def judge(self, status, printed, told, may_be_killed, whole):
         lines = [line for line in told.splitlines(True) if not is_progress(line)]
         # Python itself may be interrupted before the command begins.
         is_pythons = may_be_killed and b"KeyboardInterrupt" in told and b"/helgrothy/" not in told
         if b"Traceback" in told and not is_pythons:
             raise Wrong(f"a traceback: {told.decode(errors='replace')}")
-        if status == 0 and (printed, b"".join(lines)) != self.whole:
-            raise Wrong(f"status 0, and {len(printed)} bytes for {len(self.whole[0])}, {b''.join(lines)!r}")
-        if status != 0 and not self.whole[0].startswith(printed):
+        if status == 0 and (printed, b"".join(lines)) != whole:
+            raise Wrong(f"status 0, and {len(printed)} bytes for {len(whole[0])}, {b''.join(lines)!r}")
+        if status != 0 and not whole[0].startswith(printed):
             raise Wrong(f"status {status}, and what was printed is no beginning")
         if status != 0 and not (may_be_killed and status in STOPPED) and not lines:
             raise Wrong(f"status {status} without a message")
