@@ -22,7 +22,7 @@ from helgrothy.__main__ import main
 from helgrothy._run import guard, programs
 from helgrothy._spans import about, cuts
 from helgrothy._spans import folder as folders
-from helgrothy._spans import held, join, loop, record, rows, show, span, text, workers
+from helgrothy._spans import held, join, loop, record, rows, show, span, text, threads, workers
 from helgrothy._spans.commands import NOT_DONE
 from helgrothy._spans.folder import Folder
 from helgrothy._spans.loop import Job, Kept, Loop
@@ -513,21 +513,33 @@ class FewWorkers(unittest.TestCase):
 
     def setUp(self) -> None:
         self.problem = make.queens.problem(8)
-        self.given = 0
 
     def threads(self, most):
         """So many threads are to be had at once."""
-        right, lock = threading.Thread.start, threading.Lock()
+        right, lock, given = threads.Thread.start, threading.Lock(), []
 
         def start(thread):
             with lock:
-                if sum(one.name.startswith("worker") for one in threading.enumerate()) >= most:
+                if sum(one.is_alive() for one in given) >= most:
                     raise RuntimeError("can't start new thread")
-                self.given += 1
-                thread.name = f"worker {self.given}"
+                given.append(thread)
                 right(thread)
 
-        return mock.patch.object(threading.Thread, "start", start)
+        return mock.patch.object(threads.Thread, "start", start)
+
+    def dying_threads(self, most):
+        """So many threads are at work at once, and each further one dies before its first line."""
+        right, given = threads.start_new_thread, []
+
+        def start(run, words):
+            is_dying = sum(thread.is_alive() for thread in given) >= most
+            # One that begins may take a while to do so.
+            threads._PATIENCE = 0 if is_dying else 600
+            if not is_dying:
+                given.append(run.__self__)
+                right(run, words)
+
+        return mock.patch.multiple(threads, start_new_thread=start, _PATIENCE=0)
 
     def processes(self, most, error):
         """So many programs run at once."""
@@ -555,6 +567,33 @@ class FewWorkers(unittest.TestCase):
         with self.threads(0), self.assertRaisesRegex(SearchFault, "the system gives no more threads"):
             self.problem.count(jobs=4)
 
+    def test_threads_that_never_begin(self):
+        """As where memory is lacking: the system gives them, and nothing comes of it."""
+        for most in (1, 2):
+            with self.dying_threads(most):
+                self.assertEqual(self.problem.count(jobs=4), 92)
+        with self.dying_threads(0), self.assertRaisesRegex(SearchFault, "the system gives no more threads"):
+            self.problem.count(jobs=4)
+
+    def test_a_thread_that_begins_too_late_does_nothing(self):
+        late, acts, begun = [], [], []
+        with mock.patch.multiple(threads, start_new_thread=lambda run, words: late.append(run), _PATIENCE=0):
+            with self.assertRaisesRegex(SearchFault, "the system gives no more threads"):
+                threads.begin(lambda: acts.append("done"), begun)
+        (run,) = late
+        run()
+        self.assertEqual((acts, begun), ([], []))
+
+    def test_ends_of_threads(self):
+        lock, begun = threading.Lock(), []
+        with lock:
+            threads.begin(lock.acquire, begun)
+            (thread,) = begun
+            thread.join(0.01)
+            self.assertTrue(thread.is_alive())
+        thread.join()
+        self.assertFalse(thread.is_alive())
+
     def test_processes(self):
         for error in (BlockingIOError(11, "Resource temporarily unavailable"), OSError(24, "Too many open files"), MemoryError()):
             for most in (1, 2):
@@ -579,7 +618,7 @@ class FewWorkers(unittest.TestCase):
             self.assertEqual(own._working, 2)
 
     def test_stopped_as_a_worker_begins(self):
-        right, begun = threading.Thread.start, []
+        right, begun = threads.Thread.start, []
 
         def start(thread):
             right(thread)
@@ -589,7 +628,7 @@ class FewWorkers(unittest.TestCase):
 
         own, came = workers.Own(2), queue.SimpleQueue()
         task = span.Task(1, False, QUEENS, "-", "-", 0, 0)
-        with mock.patch.object(threading.Thread, "start", start):
+        with mock.patch.object(threads.Thread, "start", start):
             own.submit(task, came.put)
             with self.assertRaises(KeyboardInterrupt):
                 own.submit(task, came.put)

@@ -5,7 +5,6 @@ from __future__ import annotations
 import queue
 import signal
 import subprocess
-import threading
 from collections.abc import Callable, Iterable
 from contextlib import suppress
 from functools import partial
@@ -16,7 +15,7 @@ from .._run.guard import let_go, start
 from .._run.programs import find, last_line
 from ..errors import ProgramFailed
 from .rows import Until
-from .threads import begin
+from .threads import Thread, begin
 
 PROGRAM = "dlx-join"
 _CHUNK = 1 << 18
@@ -47,7 +46,7 @@ class Join:
         self._process = start(
             [find(PROGRAM), "m1" if listed else "m0"], stdin=subprocess.PIPE, stdout=out, stderr=subprocess.PIPE
         )
-        self._threads: list[threading.Thread] = []
+        self._threads: list[Thread] = []
         try:
             for act in (self._feed, self._print) if out == subprocess.PIPE else (self._feed,):
                 begin(partial(self._try, act), self._threads)
@@ -88,8 +87,7 @@ class Join:
         self._process.kill()
         self._process.wait()
         for thread in self._threads:
-            if thread.is_alive():
-                thread.join()
+            thread.join()
         for pipe in (self._process.stdin, self._process.stdout, self._process.stderr):
             if pipe is not None:
                 with suppress(OSError):

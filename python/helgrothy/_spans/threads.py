@@ -3,17 +3,60 @@
 from __future__ import annotations
 
 import threading
+from _thread import start_new_thread
 from collections.abc import Callable
 
 from ..errors import SearchFault
 
+# A thread that hasn't begun after so many seconds never does.
+_PATIENCE = 10.0
 
-def begin(act: Callable[[], None], threads: list[threading.Thread]) -> None:
+
+class Thread:
+    """A thread that does this, and ends with the process.
+
+    Where memory is lacking a thread may die before its first line. `threading.Thread.start` of Python 3.11 waits for it
+    forever; this one gives up. Locks tell how far a thread is, since to release one takes no memory.
+    """
+
+    def __init__(self, act: Callable[[], None]) -> None:
+        self._act = act
+        # Whoever takes this first decides whether the thread acts: the thread, or `start`, which has waited in vain.
+        self._claim = threading.Lock()
+        # Held until it has begun.
+        self._begun = threading.Lock()
+        # Held from then until it has ended.
+        self._at_work = threading.Lock()
+
+    def start(self) -> None:
+        """Begins it. Raises `RuntimeError` or `MemoryError` where the system gives none, and then it never acts."""
+        self._begun.acquire()
+        start_new_thread(self._run, ())
+        if not self._begun.acquire(timeout=_PATIENCE) and self._claim.acquire(blocking=False):
+            raise RuntimeError("the new thread doesn't begin")
+
+    def join(self, timeout: float | None = None) -> None:
+        """Waits for the end of one that has begun, at most so many seconds."""
+        if self._at_work.acquire(timeout=-1 if timeout is None else timeout):
+            self._at_work.release()
+
+    def is_alive(self) -> bool:
+        """Whether it has begun and hasn't ended."""
+        return self._at_work.locked()
+
+    def _run(self) -> None:
+        with self._at_work:
+            if self._claim.acquire(blocking=False):
+                self._begun.release()
+                self._act()
+
+
+def begin(act: Callable[[], None], threads: list[Thread]) -> None:
     """A thread more that does this, and ends with the process. Raises `SearchFault` where the system gives none.
 
     It is among the threads before it starts: ^C may come at any time, and who ends all of them has to know each.
     """
-    thread = threading.Thread(target=act, daemon=True)
+    thread = Thread(act)
     threads.append(thread)
     try:
         thread.start()

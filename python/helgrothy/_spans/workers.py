@@ -23,7 +23,7 @@ from ..errors import SearchFault
 from .loop import Outcome, Submit, submitting
 from .pace import LONGEST, LONGEST_HERE
 from .span import Stop, Task, run
-from .threads import begin
+from .threads import Thread, begin
 
 if TYPE_CHECKING:
     from concurrent.futures import Executor
@@ -94,7 +94,7 @@ class Own(Workers):
         super().__init__(self._hand, min(jobs, _most_by_files()))
         self._stop = Stop()
         self._tasks: queue.SimpleQueue[tuple[Task, Callable[[Outcome], object]] | None] = queue.SimpleQueue()
-        self._threads: list[threading.Thread] = []
+        self._threads: list[Thread] = []
         self._lock = threading.Lock()
         # The threads that are at work, and how many there may be.
         self._working = 0
@@ -157,8 +157,7 @@ class Own(Workers):
         for _ in self._threads:
             self._tasks.put(None)
         for thread in self._threads:
-            if thread.is_alive():
-                thread.join()
+            thread.join()
 
 
 def _nothing() -> None:
