@@ -164,7 +164,7 @@ class Trial:
         return process.returncode, printed, told
 
     def judge(self, status, printed, told, may_be_killed, whole):
-        lines = [line for line in told.splitlines(True) if not is_progress(line)]
+        lines = [line for line in told.splitlines(True) if not is_progress(line) and not is_of_a_dead_thread(line)]
         # Python itself may be interrupted before the command begins.
         is_pythons = may_be_killed and b"KeyboardInterrupt" in told and b"/helgrothy/" not in told
         if b"Traceback" in told and not is_pythons:
@@ -244,3 +244,8 @@ class Trial:
 def is_progress(line):
     """A line of how far a search is, or goes on."""
     return bool(re.match(rb"[0-9.]+ %   [0-9,]+ solutions   |goes on at ", line))
+
+
+def is_of_a_dead_thread(line):
+    """A line in which Python itself reports a thread that died for lack of memory before its first line."""
+    return bool(re.match(rb"Exception ignored in thread started by|MemoryError: ?$", line))
