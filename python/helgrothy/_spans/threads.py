@@ -2,13 +2,16 @@
 
 from __future__ import annotations
 
+import mmap
 import threading
 from _thread import start_new_thread
 from collections.abc import Callable
 
 from ..errors import SearchFault
 
-# A thread that hasn't begun after so many seconds never does.
+# A thread needs so many bytes to begin, beside its stack.
+_ROOM = 1 << 22
+# One that hasn't begun after so many seconds never does.
 _PATIENCE = 10.0
 
 
@@ -16,7 +19,7 @@ class Thread:
     """A thread that does this, and ends with the process.
 
     Where memory is lacking a thread may die before its first line. `threading.Thread.start` of Python 3.11 waits for it
-    forever; this one gives up. Locks tell how far a thread is, since to release one takes no memory.
+    forever; this one gives up. Locks show how far a thread is, since to release one takes no memory.
     """
 
     def __init__(self, act: Callable[[], None]) -> None:
@@ -29,9 +32,14 @@ class Thread:
         self._at_work = threading.Lock()
 
     def start(self) -> None:
-        """Begins it. Raises `RuntimeError` or `MemoryError` where the system gives none, and then it never acts."""
+        """Begins it. Raises `RuntimeError`, `MemoryError` or `OSError` where the system gives none.
+
+        Then it never acts, even if it begins later.
+        """
         self._begun.acquire()
-        start_new_thread(self._run, ())
+        # What the thread needs is kept free for it until it has its stack, so that hardly one dies.
+        with mmap.mmap(-1, _ROOM):
+            start_new_thread(self._run, ())
         if not self._begun.acquire(timeout=_PATIENCE) and self._claim.acquire(blocking=False):
             raise RuntimeError("the new thread doesn't begin")
 
@@ -60,6 +68,6 @@ def begin(act: Callable[[], None], threads: list[Thread]) -> None:
     threads.append(thread)
     try:
         thread.start()
-    except (RuntimeError, MemoryError):
+    except (RuntimeError, MemoryError, OSError):
         threads.remove(thread)
         raise SearchFault("the system gives no more threads") from None
