@@ -46,6 +46,7 @@ test: bin ## the merge gate: proofs, mutants, tests, programs
 	@python3 tests/count/planned.py
 	@python3 tests/count/bounds.py
 	@sh tests/guide.sh docs/GUIDE.md
+	@scripts/usage
 	@sh tests/python.sh
 test-mutants: ## plant the mutants of the crates
 	@python3 tests/wrong_bodies.py
