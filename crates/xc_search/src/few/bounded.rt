@@ -1,10 +1,11 @@
 //! The words of items that may be held within bounds.
-ghost use Rattle.std.specs.Prelude.{◌≡◌, ◌==◌, ◌<◌, ◌≤◌, ◌&&◌, ◌⊎◌, ℕ, length, min, not, All};
+ghost use Rattle.std.specs.Prelude.{◌≡◌, ◌==◌, ◌<◌, ◌≤◌, ◌&&◌, ◌||◌, ◌⊎◌, ℕ, length, min, nat_lt, not};
+ghost use Rattle.std.specs.Prelude.{All};
 ghost use Rattle.std.specs.Int.{bit_at};
 ghost use Rattle.xc_input.specs.Problem.{IsOption, item_count, primary_count};
 ghost use Rattle.xc_moves.specs.Moves.{IsOpenPrimary};
 ghost use Rattle.xc_search.specs.inner.Filled.{colour_place, HasColourRoom};
-ghost use Rattle.xc_search.specs.inner.FewBounded.{AreBoundedUseWords, binds, clashes_at};
+ghost use Rattle.xc_search.specs.inner.FewBounded.{AreBoundedUseWords, clashes_at, high_left};
 
 use crate::few::filling::{differing, note_colours, note_holders, note_in_each};
 use crate::few::wanted::bounds_left;
@@ -95,20 +96,21 @@ fn all_clashing<D: Dance>(
     let primary = problem.primary();
     let mut apart = 0u64;
     for u in uses {
-        if is_binding(dance, primary, *u) {
+        if is_binding(dance, primary, u.item) {
             apart |= differing(*u, holders, coloured, colours);
         }
     }
     apart
 }
 
-/// Whether an option keeps others apart by the use, of a problem with so many primary items: it is of an item that may
-/// be held only once more, or of a secondary one.
+/// Whether options are kept apart by the item, of a problem with so many primary items: it may be held only once more,
+/// or is secondary.
 #[inline(always)]
-fn is_binding<D: Dance>(dance: &D, primary: u32, u: Use) -> bool
-    requires some { 1 ≤ u.item }
+fn is_binding<D: Dance>(dance: &D, primary: u32, i: u32) -> bool
+    requires some { 1 ≤ i }
     requires primary { primary ≡ primary_count (D.state dance.now).puzzle }
-    ensures { result ≡ binds (D.state dance.now).puzzle (D.state dance.now).trail u }
+    ensures { result ≡ (nat_lt (primary_count (D.state dance.now).puzzle) i
+        || high_left (D.state dance.now).puzzle (D.state dance.now).trail i == 1) }
 {
-    u.item > primary || dance.bound(u.item) == 1
+    i > primary || dance.bound(i) == 1
 }
