@@ -33,6 +33,7 @@ run: dlx1 ## build dlx1 and solve examples/seven.dlx
 	bin/dlx1 m1 < examples/seven.dlx
 test: bin ## the merge gate: proofs, mutants, tests, programs
 	@python3 tests/wrong_bodies.py --check
+	@scripts/imports
 	@sh tests/gate.sh
 	@sh tests/statuses.sh
 	@python3 tests/runs.py

@@ -6,7 +6,8 @@ use std::alloc::AllocError;
 use std::io::IsTerminal;
 use std::process::ExitCode;
 use xc_count_run::count_covers_by;
-use xc_tools::{Direct, Incoming, Outgoing, exit_code, random_seed, words};
+use xc_streams::{Direct, Incoming, Outgoing, random_seed, words};
+use xc_tools::exit_code;
 
 fn main(rt: HostRuntime) -> ExitCode {
     exit_code(&rt, run(&rt))

@@ -4,9 +4,8 @@
 use std::alloc::AllocError;
 use std::io::IsTerminal;
 use std::process::ExitCode;
-use xc_tools::{
-    Direct, Outgoing, asked_join, closed_stream, exit_code, join_spans, span_files, words,
-};
+use xc_streams::{Direct, Outgoing, closed_stream, span_files, words};
+use xc_tools::{asked_join, exit_code, join_spans};
 
 fn main(rt: HostRuntime) -> ExitCode {
     exit_code(&rt, run(&rt))

@@ -4,7 +4,8 @@
 use std::alloc::AllocError;
 use std::io::IsTerminal;
 use std::process::ExitCode;
-use xc_tools::{Direct, Incoming, Outgoing, exit_code, random_seed, solve_span_by, words};
+use xc_streams::{Direct, Incoming, Outgoing, random_seed, words};
+use xc_tools::{exit_code, solve_span_by};
 
 fn main(rt: HostRuntime) -> ExitCode {
     exit_code(&rt, run(&rt))

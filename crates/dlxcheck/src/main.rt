@@ -4,10 +4,8 @@
 use std::alloc::AllocError;
 use std::io::IsTerminal;
 use std::process::ExitCode;
-use xc_tools::{
-    Direct, Incoming, Outgoing, asked_kind, closed_stream, exit_code, judge_by, named_file,
-    random_seed, words,
-};
+use xc_streams::{Direct, Incoming, Outgoing, closed_stream, named_file, random_seed, words};
+use xc_tools::{asked_kind, exit_code, judge_by};
 
 fn main(rt: HostRuntime) -> ExitCode {
     exit_code(&rt, run(&rt))

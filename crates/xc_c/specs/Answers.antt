@@ -5,7 +5,7 @@ use Rattle.natural.specs.Numerals.{numeral}
 use Rattle.xc_input.specs.declared.kind.Kind.{Kind}
 use Rattle.xc_input.specs.declared.fault.FaultKind.{FaultKind}
 use Rattle.xc_input.specs.Problem.{numbered_get}
-use Rattle.xc_input.specs.Lines.{lines_of}
+use Rattle.xc_text.specs.Lines.{lines_of}
 use Rattle.xc_input.specs.FirstFault.{content, first_fault}
 use Rattle.xc_input.specs.Named.{Named}
 use Rattle.xc_input.specs.Text.{StandsFor}

@@ -1,7 +1,7 @@
 //! The seed by which a call hashes names and colours.
 ghost use Rattle.std.specs.Prelude.{◌≡◌, ◌≢◌, ◌*◌, ◌%◌, ◌^◌, ◌/◌, bit_or};
 
-use xc_input::Seed;
+use xc_text::Seed;
 
 /// An odd number of mixed bits in each half.
 const MIXED: u128 = 0x9e37_79b9_7f4a_7c15_d1b5_4a32_d192_ed03;

@@ -1,9 +1,9 @@
 //! Problems out of texts in memory.
 ghost use Rattle.std.specs.Prelude.{◌≡◌, ◌≢◌, ◌<◌, [], ◌∷◌, false, None, IfOk, IfErr, OnErr, OnOk, length, min};
 ghost use Rattle.std.specs.Prelude.{nat_lt, if◌then◌else◌};
-ghost use Rattle.xc_input.specs.Words.{has};
+ghost use Rattle.xc_text.specs.Words.{has};
 ghost use Rattle.xc_input.specs.Readings.{IsErrorFor};
-ghost use Rattle.xc_input.specs.Lines.{lines_of};
+ghost use Rattle.xc_text.specs.Lines.{lines_of};
 ghost use Rattle.xc_input.specs.FirstFault.{content, first_fault};
 ghost use Rattle.xc_input.specs.Text.{StandsFor};
 ghost use Rattle.xc_moves.specs.Dancing.{moves_made};
@@ -17,10 +17,13 @@ use crate::numbers::{DONE, LIMIT, NO_ROOM};
 use bstr::ByteSlice;
 use std::alloc::Global;
 use xc_count::count;
-use xc_dance::{Links, Memory};
-use xc_input::{FaultKind, InputError, Kind, Problem, Read, Reader, Seed};
-use xc_list::{End, Tray, Words, run};
+use xc_dance::Links;
+use xc_input::{FaultKind, InputError, Kind, Problem, Read, Reader};
+use xc_list::{End, Words, run};
+use xc_moves::Memory;
 use xc_search::Search;
+use xc_streams::Tray;
+use xc_text::Seed;
 
 /// The first line of a text, and what is left after it.
 // `xc_check/src/checker/listing_lines.rt` has the same, since it isn't public.

@@ -22,19 +22,19 @@ use Rattle.std.proofs.lemmas.List.Sums.{count_by-le-length}
 use Rattle.std.specs.Option.{option_map, option_or}
 use Rattle.std.proofs.lemmas.Slice.Eq.{slice_eq-Decides}
 use Rattle.std.specs.Cmp.Lexicographic.{pointwise}
-use Rattle.xc_input.specs.Words.{has}
-use Rattle.xc_input.specs.Lines.{lines_of}
-use Rattle.xc_input.specs.Tokens.{is_space}
+use Rattle.xc_text.specs.Words.{has, is_space}
+use Rattle.xc_text.specs.Lines.{lines_of}
 use Rattle.xc_input.specs.declared.problem.Use.{Use}
 use Rattle.xc_input.specs.Problem.{uses_of, IsOption, Puzzle, option_count, IsValid, IsItem, IsSecondary, IsSoundUse}
 use Rattle.xc_input.specs.Problem.{bounds_at, colour_in, primary_count}
 use Rattle.xc_input.specs.Named.{Named, IsKnownUse, IsSound}
 use Rattle.xc_input.specs.declared.problem.Bounds.{Bounds}
-use Rattle.xc_input.proofs.FaultLemmas.{cut-is, has-all, has-at, no-place, map-snoc, position-map, not_false}
-use Rattle.xc_input.proofs.LineLemmas.{lines_of-ended}
-use Rattle.xc_input.proofs.ListLemmas.{IsIn, in-contains, slice_get-in, each_in, in-append, contains-in, in-slice_get}
-use Rattle.xc_input.proofs.ListLemmas.{EachTwo, EachTwo-append, each_two_from_AllPairs, AllPairs-from_each_two}
-use Rattle.xc_input.proofs.ListLemmas.{list_all-each, and_left}
+use Rattle.xc_text.proofs.ByteLemmas.{cut-is, has-all, has-at}
+use Rattle.xc_input.proofs.FaultLemmas.{no-place, map-snoc, position-map, not_false}
+use Rattle.xc_text.proofs.LineLemmas.{lines_of-ended}
+use Rattle.xc_text.proofs.ListLemmas.{IsIn, in-contains, slice_get-in, each_in, in-append, contains-in, in-slice_get}
+use Rattle.xc_text.proofs.ListLemmas.{EachTwo, EachTwo-append, each_two_from_AllPairs, AllPairs-from_each_two}
+use Rattle.xc_text.proofs.ListLemmas.{list_all-each, and_left}
 use Rattle.xc_input.proofs.TokenLemmas.{slice_get-map-some}
 use Rattle.xc_input.specs.Cover.{IsCover, times_held}
 use Rattle.xc_check.specs.ListingLines.{words_in, is_word, is_ending, body_of_words, header_number, body_of}

@@ -24,12 +24,13 @@ use Rattle.xc_input.specs.Problem.{option_count, IsOption}
 use Rattle.xc_input.specs.declared.problem.Use.{Use}
 use Rattle.xc_input.specs.UsePlaces.{place_in}
 use Rattle.xc_input.specs.Named.{Named, IsName, IsKnownUse, IsSound}
-use Rattle.xc_input.specs.Words.{has, before, after}
-use Rattle.xc_input.proofs.ListLemmas.{IsIn, contains-in, each_from, EachTwo, EachTwo-swapped, in-map, append-in_right}
-use Rattle.xc_input.proofs.ListLemmas.{each_in, filter-in, each_weaker, each_of_all, EachTwo-at, each_two_from_AllPairs}
-use Rattle.xc_input.proofs.ListLemmas.{in-slice_get, in-contains, AllPairs-from_each_two, EachTwo-of, EachTwo-weaker}
+use Rattle.xc_text.specs.Words.{has, before, after}
+use Rattle.xc_text.proofs.ListLemmas.{IsIn, contains-in, each_from, EachTwo, EachTwo-swapped, in-map, append-in_right}
+use Rattle.xc_text.proofs.ListLemmas.{each_in, filter-in, each_weaker, each_of_all, EachTwo-at, each_two_from_AllPairs}
+use Rattle.xc_text.proofs.ListLemmas.{in-slice_get, in-contains, AllPairs-from_each_two, EachTwo-of, EachTwo-weaker}
 use Rattle.xc_input.proofs.LineLemmas.{at_number, known_option}
-use Rattle.xc_input.proofs.FaultLemmas.{cut-at, no-cut, COLON}
+use Rattle.xc_text.proofs.ByteLemmas.{cut-at, no-cut}
+use Rattle.xc_input.proofs.FaultLemmas.{COLON}
 use Rattle.xc_input.specs.Cover.{times_held, IsCover}
 use Rattle.xc_check.specs.UseTexts.{bytes_at, rotated_at, from_item, use_word}
 use Rattle.xc_check.specs.inner.Classes.{class_of, least_of, IsUseOfWord, HaveWords, same_uses, class_at, alike}

@@ -19,8 +19,8 @@ use Rattle.xc_input.specs.declared.problem.Use.{Use}
 use Rattle.xc_input.specs.Problem.{Puzzle, colour_in, uses_of, item_count, IsSoundUse, IsSecondary, bounds_at}
 use Rattle.xc_input.specs.Named.{IsSound, Named, IsKnownUse}
 use Rattle.xc_input.specs.declared.problem.Bounds.{Bounds}
-use Rattle.xc_input.proofs.ListLemmas.{EachTwo, each_weaker, by_option, each_of_all, list_all-each, map-in, filter-in}
-use Rattle.xc_input.proofs.ListLemmas.{each-append, not_some, each_in, each_from}
+use Rattle.xc_text.proofs.ListLemmas.{EachTwo, each_weaker, by_option, each_of_all, list_all-each, map-in, filter-in}
+use Rattle.xc_text.proofs.ListLemmas.{each-append, not_some, each_in, each_from}
 use Rattle.xc_input.specs.Cover.{times_held}
 use Rattle.xc_check.specs.inner.Classes.{raised, lowered, item_places, added, colours_after, Classes, AreClasses}
 use Rattle.xc_check.specs.inner.Classes.{IsOfClass, class_at, same_uses, alike, option_numbers, class_size, uses_at}

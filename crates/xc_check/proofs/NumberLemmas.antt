@@ -4,7 +4,7 @@ use Rattle.std.proofs.Common.{drop, get_or, cond, nat_lt, refl, arith, le_trans,
 use Rattle.std.proofs.lemmas.List.{drop_more}
 use Rattle.std.specs.Char.{is_ascii_digit}
 use Rattle.std.specs.List.{list_all}
-use Rattle.xc_input.proofs.TokenLemmas.{value_from}
+use Rattle.xc_text.proofs.NumberLemmas.{value_from}
 use Rattle.xc_check.specs.LongNumbers.{long_number}
 
 -- the number of digits behind those of a value, where it fits

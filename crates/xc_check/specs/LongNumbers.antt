@@ -2,7 +2,7 @@
 use Rattle.std.specs.Prelude.{ℕ, ◌^◌, ◌&&◌, nat_lt, List, [], Option, Some, None, if◌then◌else◌}
 use Rattle.std.specs.Char.{is_ascii_digit}
 use Rattle.std.specs.List.{list_all}
-use Rattle.xc_input.specs.Words.{number}
+use Rattle.xc_text.specs.Words.{number}
 
 -- the number that one or more digits stand for, where it fits
 abbrev pub long_number : List ℕ → Option ℕ

@@ -6,7 +6,7 @@
 ghost use Rattle.std.specs.Prelude.{◌≡◌, ◌<◌, ◌≤◌, ℕ, List, [], length, is_some, true, Some, All};
 ghost use Rattle.std.specs.Prelude.{OnOk, IfOk, IfErr, IfSome};
 ghost use Rattle.xc_input.specs.Named.{IsSound};
-ghost use Rattle.xc_input.specs.Lines.{lines_of};
+ghost use Rattle.xc_text.specs.Lines.{lines_of};
 ghost use Rattle.xc_check.specs.ListingLines.{words_in};
 ghost use Rattle.xc_check.specs.inner.Listings.{read, Header, Body, IsClassOfLine};
 ghost use Rattle.xc_check.specs.inner.Classes.{IsClassOfBody};

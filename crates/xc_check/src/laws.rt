@@ -1,6 +1,6 @@
 //! When verdicts and faults of listings are equal.
 ghost use Rattle.std.specs.Prelude.{◌≡◌, ◌↔◌, true};
-ghost use Rattle.xc_input.specs.Laws.{IsEqualClone};
+ghost use Rattle.xc_text.specs.Equality.{IsEqualClone};
 
 use crate::verdict::{ListingFault, Verdict};
 

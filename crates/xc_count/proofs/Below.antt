@@ -14,8 +14,8 @@ use Rattle.xc_input.specs.Problem.{IsSoundUse}
 use Rattle.xc_input.specs.Problem.{bounds_at, low_at, high_at, colour_in}
 use Rattle.xc_search.specs.Listing.{Wanted, whole, listing}
 use Rattle.xc_search.specs.Cover.{members}
-use Rattle.xc_input.proofs.ListLemmas.{by_bool, by_option, keep_all, filter_same, IsIn, each_from, each_in, filter-in}
-use Rattle.xc_input.proofs.ListLemmas.{map-in, list_all-each, not_some}
+use Rattle.xc_text.proofs.ListLemmas.{by_bool, by_option, keep_all, filter_same, IsIn, each_from, each_in, filter-in}
+use Rattle.xc_text.proofs.ListLemmas.{map-in, list_all-each, not_some}
 use Rattle.xc_search.proofs.Completeness.{bounded}
 use Rattle.xc_search.proofs.ListingLemmas.{proper_whole, use_passes, with_bounds, uses_known, listing_at, holds_use}
 use Rattle.xc_count.proofs.LeftBy.{AreOnce, agree_both, free_of, plain_at, same_test, sound_uses}

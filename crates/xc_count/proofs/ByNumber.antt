@@ -12,8 +12,8 @@ use Rattle.std.proofs.lemmas.Option.{slice_get-map}
 use Rattle.xc_input.specs.declared.problem.Bounds.{Bounds}
 use Rattle.xc_input.specs.Problem.{Puzzle, Numbered, numbered_get, numbered_options, holding, holds, option_count}
 use Rattle.xc_input.specs.Problem.{primary_count, uses_of, IsPrimary, IsValid}
-use Rattle.xc_input.proofs.ListLemmas.{by_bool, by_option, length-filter-le, IsIn, each_from, each_in, filter-in}
-use Rattle.xc_input.proofs.ListLemmas.{in-contains, in-filter, in-map}
+use Rattle.xc_text.proofs.ListLemmas.{by_bool, by_option, length-filter-le, IsIn, each_from, each_in, filter-in}
+use Rattle.xc_text.proofs.ListLemmas.{in-contains, in-filter, in-map}
 use Rattle.xc_moves.proofs.PlaceLemmas.{get_dropped}
 use Rattle.xc_search.specs.declared.choice.Choice.{Choice}
 use Rattle.xc_search.specs.Listing.{Residual, Wanted, branch_count, branch_item, branches_of, first_least}

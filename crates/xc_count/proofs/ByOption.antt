@@ -16,10 +16,10 @@ use Rattle.xc_input.specs.declared.problem.Bounds.{Bounds}
 use Rattle.xc_input.specs.Problem.{Puzzle, IsOption, IsSecondary, primary_count, high_at, bounds_at}
 use Rattle.xc_input.specs.Problem.{uses_of}
 use Rattle.xc_input.specs.Problem.{colour_in}
-use Rattle.xc_input.proofs.ListLemmas.{by_bool, by_option, and_left, and_right, not_some, EachTwo, EachTwo-append}
-use Rattle.xc_input.proofs.ListLemmas.{EachTwo-map, EachTwo-weaker, IsIn, append-in_left, append-in_right, in-contains}
-use Rattle.xc_input.proofs.ListLemmas.{contains-in, in-append, list_all-each, in-map, map-in, each_in, each_from}
-use Rattle.xc_input.proofs.ListLemmas.{AllPairs-from_each_two, each_two_from_AllPairs, in-filter, filter-in}
+use Rattle.xc_text.proofs.ListLemmas.{by_bool, by_option, and_left, and_right, not_some, EachTwo, EachTwo-append}
+use Rattle.xc_text.proofs.ListLemmas.{EachTwo-map, EachTwo-weaker, IsIn, append-in_left, append-in_right, in-contains}
+use Rattle.xc_text.proofs.ListLemmas.{contains-in, in-append, list_all-each, in-map, map-in, each_in, each_from}
+use Rattle.xc_text.proofs.ListLemmas.{AllPairs-from_each_two, each_two_from_AllPairs, in-filter, filter-in}
 use Rattle.std.proofs.Math.Bool.{or-true}
 use Rattle.xc_input.specs.Cover.{times_held}
 use Rattle.xc_search.specs.Cover.{SameSet}

@@ -8,7 +8,7 @@ use Rattle.std.specs.List.{list_all}
 use Rattle.xc_input.specs.declared.problem.Use.{Use}
 use Rattle.xc_input.specs.declared.problem.Bounds.{Bounds}
 use Rattle.xc_input.specs.Problem.{Puzzle, primary_count, low_at, high_at, bounds_at, uses_of, colour_in}
-use Rattle.xc_input.proofs.ListLemmas.{by_bool, by_option, IsIn}
+use Rattle.xc_text.proofs.ListLemmas.{by_bool, by_option, IsIn}
 use Rattle.xc_count.specs.inner.ByOption.{Marks, may_hold, may_take, taking, all_met, ways, holders_among, ComeToSame}
 use Rattle.xc_count.specs.inner.ByOption.{IsLost}
 use Rattle.xc_count.proofs.ByOption.{met_at, at_met, bound_primary, bounds_there, count_by-cons}

@@ -4,7 +4,7 @@ use Rattle.std.proofs.Common.{ap, sym, ◌∙◌}
 use Rattle.std.proofs.lemmas.List.{drop_all}
 use Rattle.std.specs.Prelude.{fold}
 use Rattle.std.specs.Hash.{le_bytes}
-use Rattle.xc_input.specs.Hashing.{hashed}
+use Rattle.xc_text.specs.Hashing.{hashed}
 use Rattle.xc_count.specs.inner.Layers.{key_words}
 
 -- two marks more

@@ -13,7 +13,7 @@ use Rattle.xc_input.specs.Problem.{Puzzle, Numbered, numbered_options, primary_c
 use Rattle.xc_input.specs.Problem.{IsPrimary}
 use Rattle.xc_search.specs.Listing.{Wanted, Residual, Branch, whole, branch_count, branches_of, pick, listing}
 use Rattle.xc_search.specs.Cover.{options_of}
-use Rattle.xc_input.proofs.ListLemmas.{by_bool, filter-map, filter_both, IsIn, in-filter, filter-in, each_from}
+use Rattle.xc_text.proofs.ListLemmas.{by_bool, filter-map, filter_both, IsIn, in-filter, filter-in, each_from}
 use Rattle.xc_moves.proofs.MoveLemmas.{options_rise}
 use Rattle.xc_search.proofs.Completeness.{Solves, members_solve, is_listed, listed_in, in_listed}
 use Rattle.xc_search.proofs.ListingLemmas.{takes, nones, behind, uses_known, same_number}

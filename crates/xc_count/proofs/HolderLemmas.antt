@@ -11,8 +11,8 @@ use Rattle.std.proofs.lemmas.List.FromFn.{length-enumerate_from}
 use Rattle.xc_input.specs.declared.problem.Use.{Use}
 use Rattle.xc_input.specs.Problem.{Puzzle, Numbered, numbered_get, numbered_options, holding, holds, option_count}
 use Rattle.xc_input.specs.Problem.{colour_in, IsItem, IsOption, uses_of}
-use Rattle.xc_input.proofs.ListLemmas.{by_bool, by_option, EachTwo, in-map, in-filter, in-contains, contains-in}
-use Rattle.xc_input.proofs.ListLemmas.{each_from}
+use Rattle.xc_text.proofs.ListLemmas.{by_bool, by_option, EachTwo, in-map, in-filter, in-contains, contains-in}
+use Rattle.xc_text.proofs.ListLemmas.{each_from}
 use Rattle.xc_input.proofs.OptionLemmas.{numbered_from}
 use Rattle.xc_input.proofs.TokenLemmas.{numbered_get-at}
 use Rattle.xc_search.proofs.ListingLemmas.{numbered_at, uses_known}

@@ -5,7 +5,7 @@ use Rattle.std.proofs.Common.{le-ltb}
 use Rattle.std.proofs.Math.ListN.{get_or}
 use Rattle.std.specs.Prelude.{slice_get, nat_lt}
 use Rattle.xc_input.specs.declared.problem.Use.{Use}
-use Rattle.xc_input.proofs.ListLemmas.{by_bool}
+use Rattle.xc_text.proofs.ListLemmas.{by_bool}
 use Rattle.xc_moves.proofs.PlaceLemmas.{get_dropped}
 use Rattle.xc_count.specs.inner.Held.{Held, holding_uses}
 use Rattle.xc_count.specs.inner.Keys.{mark_says, held_in, rank_of}

@@ -2,8 +2,8 @@
 use Rattle.std.proofs.Common.{ℕ, ◌≡◌, ◌≤◌, ◌<◌, Bool, true, false, not, ◌&&◌, eqb, List, [], ◌∷◌}
 use Rattle.std.proofs.Common.{map, filter, Some, None, refl, sym, ap, ◌∙◌, arith, subst}
 use Rattle.std.proofs.Common.{eqb-true, eq-eqb, ltb-true, lt-ltb, ap₂}
-use Rattle.xc_input.proofs.ListLemmas.{and_left, and_right, by_bool, by_option, filter_same, filter_both, IsIn}
-use Rattle.xc_input.proofs.ListLemmas.{in-filter, filter-in, each_in, each_from, list_all-each}
+use Rattle.xc_text.proofs.ListLemmas.{and_left, and_right, by_bool, by_option, filter_same, filter_both, IsIn}
+use Rattle.xc_text.proofs.ListLemmas.{in-filter, filter-in, each_in, each_from, list_all-each}
 use Rattle.xc_search.specs.inner.Levels.{item_left}
 use Rattle.std.specs.Prelude.{is_none, nat_lt}
 use Rattle.std.specs.List.{AllByRecursion}

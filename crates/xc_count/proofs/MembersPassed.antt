@@ -5,7 +5,7 @@ use Rattle.std.proofs.Math.Seq.{drop-nil, drop-append_seam}
 use Rattle.std.proofs.Math.ListN.{drop_of_length-le}
 use Rattle.std.proofs.lemmas.List.{length-drop}
 use Rattle.std.specs.Prelude.{min}
-use Rattle.xc_input.proofs.ListLemmas.{by_option}
+use Rattle.xc_text.proofs.ListLemmas.{by_option}
 use Rattle.xc_search.specs.declared.choice.Choice.{Choice}
 use Rattle.xc_input.specs.Problem.{numbered_get}
 use Rattle.xc_search.specs.declared.went.Halt.{Halt}

@@ -5,8 +5,8 @@ use Rattle.std.proofs.lemmas.List.Elements.{All-from_recursion, recursion_from_A
 use Rattle.xc_input.specs.Problem.{Puzzle, IsValid}
 use Rattle.xc_input.specs.Cover.{IsCover}
 use Rattle.xc_search.specs.Cover.{SameSet, options_of, members}
-use Rattle.xc_input.proofs.ListLemmas.{each-map, EachTwo-map, EachTwo-weaker, AllPairs-from_each_two}
-use Rattle.xc_input.proofs.ListLemmas.{each_two_from_AllPairs, in-contains, contains-in, map-in, in-slice_get, each_in}
+use Rattle.xc_text.proofs.ListLemmas.{each-map, EachTwo-map, EachTwo-weaker, AllPairs-from_each_two}
+use Rattle.xc_text.proofs.ListLemmas.{each_two_from_AllPairs, in-contains, contains-in, map-in, in-slice_get, each_in}
 use Rattle.xc_moves.proofs.MoveLemmas.{options_rise}
 use Rattle.xc_search.specs.Listing.{whole}
 use Rattle.xc_search.proofs.Completeness.{each_member_covers, each_cover_is_listed, is_listed, member_of_set}

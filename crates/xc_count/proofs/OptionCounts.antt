@@ -11,7 +11,7 @@ use Rattle.std.proofs.lemmas.List.{append-nil, get_or_default, take_all}
 use Rattle.std.proofs.lemmas.List.Sums.{sum_by-cons}
 use Rattle.xc_input.specs.declared.problem.Use.{Use}
 use Rattle.xc_input.specs.Problem.{Puzzle, Numbered, option_count}
-use Rattle.xc_input.proofs.ListLemmas.{by_bool, EachTwo, AllPairs-from_each_two, each_two_from_AllPairs, IsIn, each_in}
+use Rattle.xc_text.proofs.ListLemmas.{by_bool, EachTwo, AllPairs-from_each_two, each_two_from_AllPairs, IsIn, each_in}
 use Rattle.xc_input.proofs.OptionLemmas.{numbered_from}
 use Rattle.xc_search.specs.declared.choice.Choice.{Choice}
 use Rattle.xc_input.specs.Cover.{IsCover}

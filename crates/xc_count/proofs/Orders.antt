@@ -7,8 +7,8 @@ use Rattle.std.proofs.lemmas.List.Elements.{All-append, All-from_recursion, Cont
 use Rattle.std.proofs.lemmas.List.Elements.{Contains-append_right, Contains-append_cases}
 use Rattle.xc_input.specs.declared.problem.Use.{Use}
 use Rattle.xc_input.specs.Problem.{Puzzle, colour_in, uses_of}
-use Rattle.xc_input.proofs.ListLemmas.{by_bool, EachTwo, EachTwo-append, AllPairs-from_each_two, each_two_from_AllPairs}
-use Rattle.xc_input.proofs.ListLemmas.{in-contains, contains-in}
+use Rattle.xc_text.proofs.ListLemmas.{by_bool, EachTwo, EachTwo-append, AllPairs-from_each_two, each_two_from_AllPairs}
+use Rattle.xc_text.proofs.ListLemmas.{in-contains, contains-in}
 use Rattle.xc_count.specs.inner.ByOption.{AreOnce, AtMost}
 use Rattle.xc_count.proofs.Forgetting.{holders_cons}
 use Rattle.xc_count.proofs.HolderLemmas.{none_again}

@@ -11,7 +11,7 @@ use Rattle.std.proofs.lemmas.List.Elements.{recursion_from_All}
 use Rattle.std.proofs.lemmas.List.Sums.{sum_by-cons, sum_by_more, sum_by-drop_more}
 use Rattle.xc_input.specs.declared.problem.Use.{Use}
 use Rattle.xc_input.specs.Problem.{Puzzle, IsValid}
-use Rattle.xc_input.proofs.ListLemmas.{by_bool, by_option}
+use Rattle.xc_text.proofs.ListLemmas.{by_bool, by_option}
 use Rattle.xc_input.proofs.OptionLemmas.{numbered_from}
 use Rattle.xc_count.specs.declared.layer.State.{State}
 use Rattle.xc_count.specs.declared.plan.Plan.{Plan}

@@ -12,8 +12,8 @@ use Rattle.std.proofs.lemmas.List.{get_or-take, length-append, take_all}
 use Rattle.std.proofs.lemmas.List.Elements.{recursion_from_All}
 use Rattle.xc_input.specs.declared.problem.Use.{Use}
 use Rattle.xc_input.specs.Problem.{Puzzle, IsPrimary, IsItem, IsValid, colour_in, uses_of}
-use Rattle.xc_input.proofs.ListLemmas.{and_left, and_right, by_bool, IsIn, in-contains, contains-in, in-take, each_in}
-use Rattle.xc_input.proofs.ListLemmas.{list_all-each}
+use Rattle.xc_text.proofs.ListLemmas.{and_left, and_right, by_bool, IsIn, in-contains, contains-in, in-take, each_in}
+use Rattle.xc_text.proofs.ListLemmas.{list_all-each}
 use Rattle.xc_count.specs.declared.plan.Plan.{Plan}
 use Rattle.xc_count.specs.declared.plan.Step.{Step}
 use Rattle.xc_search.specs.Listing.{Residual, listing}

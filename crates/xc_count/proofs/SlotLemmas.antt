@@ -9,10 +9,10 @@ use Rattle.std.proofs.lemmas.List.{length-append, length-map, map-append}
 use Rattle.std.proofs.lemmas.List.Sums.{sum_by_push, sum_by-set}
 use Rattle.std.proofs.lemmas.Option.{slice_get-map, slice_get_within, get_or_from_slice_get}
 use Rattle.natural.specs.Numerals.{limbs_above}
-use Rattle.xc_input.proofs.ListLemmas.{by_option, get_left, get_seam, not_some}
+use Rattle.xc_text.proofs.ListLemmas.{by_option, get_left, get_seam, not_some}
 use Rattle.xc_count.specs.declared.layer.Slot.{Slot}
 use Rattle.xc_count.specs.declared.layer.State.{State}
-use Rattle.xc_input.specs.declared.seed.Seed.{Seed}
+use Rattle.xc_text.specs.declared.seed.Seed.{Seed}
 use Rattle.xc_count.specs.inner.Layers.{AreFound, AreHashed, Finds, state_bytes, charged, has_place, hash_by, is_full}
 use Rattle.xc_count.specs.inner.Layers.{leads, slot_after, told}
 

@@ -7,7 +7,7 @@ use Rattle.std.proofs.lemmas.List.{take_all}
 use Rattle.std.proofs.lemmas.List.Sums.{sum_by-append, sum_by-cons}
 use Rattle.xc_input.specs.Problem.{Puzzle, Numbered, numbered_options, primary_count, holds, holding, IsValid}
 use Rattle.xc_search.specs.Listing.{Wanted, Branch, whole, branch_count, pick}
-use Rattle.xc_input.proofs.ListLemmas.{by_bool, filter_both, IsIn, in-filter, each_in, each_from}
+use Rattle.xc_text.proofs.ListLemmas.{by_bool, filter_both, IsIn, in-filter, each_in, each_from}
 use Rattle.xc_search.proofs.ListingLemmas.{proper_whole, takes, nones}
 use Rattle.xc_search.specs.inner.Levels.{take_branch}
 use Rattle.xc_search.proofs.AnyItem.{count, count_by_item}

@@ -4,7 +4,7 @@ use Rattle.std.proofs.Math.ListN.{get_or}
 use Rattle.std.specs.Prelude.{Contains, option_map}
 use Rattle.std.proofs.lemmas.Option.{slice_get-get_or}
 use Rattle.xc_input.specs.Problem.{Puzzle, IsItem, IsValid, numbered_get, uses_of}
-use Rattle.xc_input.proofs.ListLemmas.{contains-in, in-slice_get}
+use Rattle.xc_text.proofs.ListLemmas.{contains-in, in-slice_get}
 use Rattle.xc_search.specs.declared.choice.Choice.{Choice}
 use Rattle.xc_search.specs.Listing.{listing}
 use Rattle.xc_count.specs.declared.plan.Plan.{Plan}

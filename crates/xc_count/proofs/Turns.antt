@@ -3,7 +3,7 @@ use Rattle.std.proofs.Common.{ℕ, ◌≡◌, ◌+◌, ◌-◌, ◌<◌, ◌++�
 use Rattle.std.proofs.Common.{◌∙◌, arith, subst, inl, inr, length-append, ◌⊎◌}
 use Rattle.std.specs.Prelude.{IfSome}
 use Rattle.xc_input.specs.Problem.{Puzzle}
-use Rattle.xc_input.proofs.ListLemmas.{by_option}
+use Rattle.xc_text.proofs.ListLemmas.{by_option}
 use Rattle.xc_search.specs.declared.went.Halt.{Halt}
 use Rattle.xc_search.specs.declared.went.Halt.TheVariants.{Member, End, Steps}
 use Rattle.xc_search.specs.declared.went.Went.{Went}

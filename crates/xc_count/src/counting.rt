@@ -16,8 +16,8 @@ use crate::sweeping::sweep;
 use natural::Natural;
 use std::alloc::Global;
 use std::cell::Cell;
-use xc_dance::Memory;
 use xc_input::Problem;
+use xc_moves::Memory;
 
 /// Whether each primary item is to be held exactly once.
 pub fn is_once(problem: &Problem) -> bool

@@ -18,8 +18,8 @@ use crate::rival::{FIRST_WORK, Rival};
 use natural::Natural;
 use std::alloc::Global;
 use std::cell::Cell;
-use xc_dance::Memory;
 use xc_input::Problem;
+use xc_moves::Memory;
 use xc_search::Choice;
 
 /// The solution of a number by going down the branches of the listing, unless the search beside it ends first.

@@ -12,7 +12,8 @@ use crate::errors::CountError;
 use natural::Natural;
 use std::alloc::Global;
 use std::hash::{BuildHasher, Hasher};
-use xc_input::{Problem, Seed};
+use xc_input::Problem;
+use xc_text::Seed;
 
 /// A state: its key, and how many ways there are to it.
 #[derive(Drop)]

@@ -8,8 +8,8 @@ use crate::rival::Rival;
 use natural::Natural;
 use std::alloc::Global;
 use std::marker::Model;
-use xc_dance::Memory;
 use xc_input::Problem;
+use xc_moves::Memory;
 use xc_search::Choice;
 
 /// A search that goes on alone from where it was when the states beside it took too much memory. That may take longer

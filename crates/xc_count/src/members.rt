@@ -12,8 +12,9 @@ ghost use Rattle.xc_search.specs.Outlook.{shown_after};
 use crate::metered::Metered;
 use std::alloc::Global;
 use std::cell::Cell;
-use xc_dance::{Links, Memory};
+use xc_dance::Links;
 use xc_input::Problem;
+use xc_moves::Memory;
 use xc_search::{Halt, Span};
 
 /// A search before the first member. All its memory is taken here. `gone_over` is for it alone.

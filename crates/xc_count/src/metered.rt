@@ -2,8 +2,9 @@
 ghost use Rattle.std.specs.Prelude.{◌≡◌};
 
 use std::cell::Cell;
-use xc_dance::{Count, Dance, Full, Links, Move};
+use xc_dance::Links;
 use xc_input::Problem;
+use xc_moves::{Count, Dance, Full, Move};
 
 /// Of how many options that are committed one is looked at.
 pub const SAMPLE: u64 = 29;

@@ -15,8 +15,8 @@ use crate::times::Times;
 use natural::Natural;
 use std::alloc::{AllocError, Global};
 use std::cell::Cell;
-use xc_dance::Memory;
 use xc_input::Problem;
+use xc_moves::Memory;
 use xc_search::Choice;
 
 /// So many options that were never taken.

@@ -12,8 +12,8 @@ use crate::metered::Metered;
 use natural::Natural;
 use std::alloc::Global;
 use std::cell::Cell;
-use xc_dance::Memory;
 use xc_input::Problem;
+use xc_moves::Memory;
 use xc_search::{Choice, Span};
 
 /// How many solutions are passed at once.

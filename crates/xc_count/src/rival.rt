@@ -16,8 +16,8 @@ use natural::Natural;
 use std::alloc::Global;
 use std::cell::Cell;
 use std::marker::Model;
-use xc_dance::Memory;
 use xc_input::Problem;
+use xc_moves::Memory;
 use xc_search::{Choice, Halt, Span};
 
 // Work is told in about nanoseconds.

@@ -2,7 +2,7 @@
 use Rattle.std.specs.Prelude.{◌≡◌, ◌⊎◌, ℕ, List, MatchOption, codes, length, flat_map}
 use Rattle.std.specs.Str.Parse.{digits_value}
 use Rattle.xc_input.specs.Named.{Named}
-use Rattle.xc_input.specs.Pieces.{SourceState}
+use Rattle.xc_text.specs.Sources.{SourceState}
 use Rattle.xc_search.specs.Cover.{members}
 use Rattle.xc_list.specs.Messages.{warning_text}
 use Rattle.xc_streams.specs.Texts.{Seen}

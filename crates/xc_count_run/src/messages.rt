@@ -8,7 +8,7 @@ ghost use Rattle.xc_count_run.specs.Solutions.{fewer_text};
 
 use natural::Natural;
 use std::alloc::{AllocError, Global};
-use xc_list::{Sink, SinkFault, write_all};
+use xc_streams::{Sink, SinkFault, write_all};
 
 /// What follows the number of solutions.
 fn tail<'a>(is_one: bool) -> &'a [u8]

@@ -17,9 +17,12 @@ use natural::Natural;
 use std::alloc::Global;
 use std::cell::Cell;
 use xc_count::{Counting, LoneSearch, count_by_turns};
-use xc_input::{InputError, Problem, Read, Seed, Source, read_problem_by};
-use xc_list::{Sink, warnings, write_all};
-use xc_tools::{input_error, out_of_memory};
+use xc_input::{InputError, Problem, Read, read_problem_by};
+use xc_list::warnings;
+use xc_streams::status::out_of_memory;
+use xc_streams::{Sink, write_all};
+use xc_text::{Seed, Source};
+use xc_tools::input_error;
 
 /// The number was printed.
 const COMPLETE: u8 = 0;

@@ -17,9 +17,10 @@ use std::alloc::Global;
 use std::cell::Cell;
 use xc_count::{Finding, LoneSearch, nth_by_turns};
 use xc_input::Problem;
-use xc_list::{Sink, SinkFault, write_all, write_choices};
+use xc_list::write_choices;
 use xc_search::Choice;
-use xc_tools::{flushed, out_of_memory, write_failed};
+use xc_streams::status::{flushed, out_of_memory, write_failed};
+use xc_streams::{Sink, SinkFault, write_all};
 
 /// The solution was printed.
 const COMPLETE: u8 = 0;

@@ -11,7 +11,7 @@ use Rattle.std.proofs.lemmas.List.{get_or-set_same, get_or-set_other, set-set, l
 use Rattle.std.proofs.Math.Path.{fun_ext}
 use Rattle.std.proofs.Math.Seq.{map-set_same}
 use Rattle.xc_input.specs.Problem.{Puzzle, uses_of, Numbered, item_count}
-use Rattle.xc_input.proofs.ListLemmas.{each-filter}
+use Rattle.xc_text.proofs.ListLemmas.{each-filter}
 use Rattle.xc_moves.specs.Places.{Node, first_above, is_in, own, layout, link_place}
 use Rattle.xc_dance.specs.Fields.{last_below, first_of, last_of}
 use Rattle.xc_dance.specs.inner.Tables.{slot_of, line_of, up_of, down_of, Line, Nodes, link_at, fixed_up, fixed_down}

@@ -17,7 +17,7 @@ use Rattle.std.proofs.lemmas.List.FromFn.{length-map-range_with_len, get_or-map-
 use Rattle.xc_input.specs.declared.problem.Use.{Use}
 use Rattle.xc_input.specs.Problem.{Puzzle, Numbered, option_count, holding, uses_of, item_count}
 use Rattle.xc_input.proofs.OptionLemmas.{numbered_from}
-use Rattle.xc_input.proofs.ListLemmas.{filter_both, each-map, each_weaker, each_of_all, keep_all}
+use Rattle.xc_text.proofs.ListLemmas.{filter_both, each-map, each_weaker, each_of_all, keep_all}
 use Rattle.xc_moves.specs.declared.dance.Move.{Move}
 use Rattle.xc_moves.specs.declared.dance.Move.TheVariants.{Cover, Purify, Tweak}
 use Rattle.xc_moves.specs.Moves.{listed, is_open, is_among, without, other_colours, listed_numbers}

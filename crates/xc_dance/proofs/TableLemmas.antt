@@ -19,7 +19,7 @@ use Rattle.xc_input.specs.Problem.{IsWithinLimits, IsValid, IsSoundOption, high_
 use Rattle.xc_input.specs.inner.Stored.{pieces, AreStarts}
 use Rattle.xc_input.specs.UsePlaces.{place_in}
 use Rattle.xc_input.proofs.TokenLemmas.{pieces-snoc}
-use Rattle.xc_input.proofs.ListLemmas.{get_left, each_at}
+use Rattle.xc_text.proofs.ListLemmas.{get_left, each_at}
 use Rattle.xc_moves.specs.Places.{Node, unused, own, spacer, used, layout, spacer_place, link_place, first_above}
 use Rattle.xc_dance.specs.Fields.{ring_of, ring_head, left_neighbour, right_of, last_below}
 use Rattle.xc_moves.specs.inner.Uses.{start_at, HoldsItem}

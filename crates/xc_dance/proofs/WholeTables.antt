@@ -17,7 +17,7 @@ use Rattle.std.proofs.Math.Path.{fun_ext}
 use Rattle.xc_input.specs.declared.problem.Use.{Use}
 use Rattle.xc_input.specs.Problem.{Puzzle, item_count, option_count, primary_count, Numbered, holding, colour_in}
 use Rattle.xc_input.specs.Problem.{IsWithinLimits, uses_of}
-use Rattle.xc_input.proofs.ListLemmas.{each_weaker}
+use Rattle.xc_text.proofs.ListLemmas.{each_weaker}
 use Rattle.xc_dance.specs.inner.Tables.{filled, blanks, rows_of, laid_to, with_node, Laying, top_in, ulink_in, dlink_in}
 use Rattle.xc_dance.specs.inner.Tables.{color_in, fixed_up, fixed_down, llink_at, rlink_at, linked_to, bound_to, Line}
 use Rattle.xc_dance.specs.inner.Tables.{blank, entered, IsFit, DifferByItem, Placed, IsLaid, Nodes, nodes_from, line_of}

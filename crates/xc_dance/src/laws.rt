@@ -1,6 +1,6 @@
 //! What the tables promise of moves and their undoing, as calls whose contracts say it.
 ghost use Rattle.std.specs.Prelude.{◌≡◌, ◌+◌, ◌<◌, ◌↔◌, length, IfOk, IsOk, OnErr};
-ghost use Rattle.xc_input.specs.Laws.{DecidesEquality, IsEqualClone};
+ghost use Rattle.xc_text.specs.Equality.{DecidesEquality, IsEqualClone};
 ghost use Rattle.xc_dance.specs.Cost.{cost_of};
 ghost use Rattle.xc_moves.specs.Moves.{IsLegal};
 ghost use Rattle.xc_dance.specs.Same.{IsSame};

@@ -1,6 +1,6 @@
 -- Where bytes stand in a token, and checks in their order: the first that finds a fault.
 use Prim.Native.Char.{code}
-use Rattle.std.proofs.Common.{ℕ, filter, zero, ◌≡◌, suc, ◌+◌, ◌<◌, ◌≤◌, List, [], ◌∷◌, ◌++◌, None, Some, Bool, length}
+use Rattle.std.proofs.Common.{ℕ, filter, ◌≡◌, ◌+◌, ◌<◌, ◌≤◌, List, [], ◌∷◌, ◌++◌, None, Some, Bool, length}
 use Rattle.std.proofs.Common.{get_or, take, drop, refl, sym, ap, ◌∙◌, arith, map, nat_eq, position, not, nat_lt}
 use Rattle.std.proofs.Common.{append_assoc, if◌then◌else◌, true, false, append-nil, Option, is_none, is_some, subst}
 use Rattle.std.proofs.Common.{Result, Ok, Err, Vec, Global, vec_len, ◌||◌, nat_le, inl, inr, ◌⊎◌, IfOk}
@@ -14,8 +14,8 @@ use Rattle.std.specs.Result.{IsErrAnd}
 use Rattle.std.proofs.lemmas.Grind.{common_steps}
 use Rattle.std.specs.Char.{is_ascii_digit}
 use Rattle.std.proofs.Math.Bool.{and-false}
-use Rattle.xc_input.specs.Words.{has, before, after, place, are_digits, number}
-use Rattle.xc_input.specs.Tokens.{is_space, is_bar, is_skipped, parts, split_bars, tokens}
+use Rattle.xc_text.specs.Words.{has, before, place, are_digits, number, is_space}
+use Rattle.xc_input.specs.Tokens.{is_bar, is_skipped, parts, split_bars, tokens}
 use Rattle.xc_input.specs.inner.CutTokens.{drop_white, word, StandsBefore, low_text, high_text}
 use Rattle.xc_input.specs.contracts.fault.FaultKind.{the_type}
 use Rattle.xc_input.specs.declared.fault.FaultKind.{FaultKind}
@@ -40,8 +40,9 @@ use Rattle.xc_input.specs.FaultyTokens.{IsAtFault, IsFaulty, Tells}
 use Rattle.xc_input.specs.FirstFault.{content, content_checks, line_checks, line_number}
 use Rattle.xc_input.specs.Laws.{TokensAgree}
 use Rattle.xc_input.specs.declared.written.ItemLine.{ItemLine}
-use Rattle.xc_input.proofs.ListLemmas.{by_bool}
+use Rattle.xc_text.proofs.ListLemmas.{by_bool}
 use denote.Enum.Bare.{sameb}
+use Rattle.xc_text.proofs.ByteLemmas.{cut-is, no-cut, cut-at}
 -- by the name that other modules have for it
 pub use Rattle.std.proofs.lemmas.List.{map_push as map-snoc}
 -- by the names that other crates have for them
@@ -59,20 +60,6 @@ abbrev pub BAR : ℕ
 BAR = code "|"
 
 -- ======== Where a byte stands in a list.
-
--- a byte that isn't found
-pub has-all : (b : ℕ) (xs : List ℕ) → ((k : ℕ) → k < length xs → nat_eq (get_or xs k 0) b ≡ false) → (has b xs ≡ false)
-    × (before b xs ≡ xs)
-has-all b [] h = (refl, refl)
-has-all b (x ∷ xs) h = grind (arith, nat_tests, has-all b xs (λ k p. h (suc k) (omega arith)), h 0 (omega arith))
-
--- a byte that is found first at i
-pub has-at : (b : ℕ) (xs : List ℕ) (i : ℕ) → i < length xs → ((k : ℕ) → k < i → nat_eq (get_or xs k 0) b ≡ false)
-    → nat_eq (get_or xs i 0) b ≡ true → (has b xs ≡ true) × (take i xs ≡ before b xs) × (drop (suc i) xs ≡ after b xs)
-has-at b [] i p h e = absurd (omega arith)
-has-at b (x ∷ xs) zero p h e = rw e (refl, refl, refl)
-has-at b (x ∷ xs) (suc i) p h e =
-    grind (arith, nat_tests, has-at b xs i (omega arith) (λ k q. h (suc k) (omega arith)) e, h 0 (omega arith))
 
 place-map : {A B : Type 0} (p : B → Bool) (f : A → B) (xs : List A)
     → position_or_len p (map f xs) ≡ position_or_len (λ x. p (f x)) xs
@@ -374,21 +361,6 @@ name-good name e = grind (arith, fails, solid)
 
 pub good-name : (name : List ℕ) → IsName name → first (name_checks name) ≡ None
 good-name name g = grind (arith, nat_tests)
-
--- CUTTING AT A BYTE
-pub cut-is : (b : ℕ) (xs : List ℕ) → has b xs ≡ true → (xs ≡ before b xs ++ b ∷ after b xs)
-    × (has b (before b xs) ≡ false)
-cut-is b [] e = absurd (cc)
-cut-is b (x ∷ xs) e = grind (arith, nat_tests, cut-is b xs)
-
-pub no-cut : (b : ℕ) (xs : List ℕ) → has b xs ≡ false → before b xs ≡ xs
-no-cut b [] e = refl
-no-cut b (x ∷ xs) e = grind (arith, no-cut b xs)
-
-pub cut-at : (b : ℕ) (p q : List ℕ) → has b p ≡ false → (before b (p ++ b ∷ q) ≡ p) × (after b (p ++ b ∷ q) ≡ q)
-    × (has b (p ++ b ∷ q) ≡ true)
-cut-at b [] q e = grind (arith, nat_tests)
-cut-at b (x ∷ p) q e = grind (arith, cut-at b p q)
 
 -- NUMBERS
 digits-no-colon : (xs : List ℕ) → list_all is_ascii_digit xs ≡ true → has COLON xs ≡ false

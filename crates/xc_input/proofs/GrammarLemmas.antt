@@ -21,7 +21,7 @@ use Rattle.xc_input.specs.declared.fault.FaultKind.TheVariants.{NulByte, TwoBars
 use Rattle.xc_input.specs.declared.fault.FaultKind.TheVariants.{BadByteInName, UnknownItem, RepeatedInOption}
 use Rattle.xc_input.specs.declared.fault.FaultKind.TheVariants.{ColourOnPrimary, BadColour, ColourNotHere}
 use Rattle.xc_input.specs.Limits.{most_items, most_uses}
-use Rattle.xc_input.specs.Words.{has, before, place}
+use Rattle.xc_text.specs.Words.{has, before, place}
 use Rattle.xc_input.specs.Tokens.{tokens, parts, is_bar, is_skipped}
 use Rattle.xc_input.specs.Sheets.{Written, Entry, number_uses}
 use Rattle.xc_input.specs.Faults.{first, is_plain, checks_of_each, name_of, item_names, part_checks, Context}
@@ -37,12 +37,12 @@ use Rattle.xc_input.specs.inner.Stages.{staged_part_checks as row_part_checks, s
 use Rattle.xc_input.specs.inner.Stages.{staged_content_checks as stage_content}
 use Rattle.xc_input.specs.Problem.{use_count, Puzzle}
 use Rattle.xc_input.specs.declared.problem.Bounds.{Bounds}
-use Rattle.xc_input.specs.declared.seed.Seed.{Seed}
+use Rattle.xc_text.specs.declared.seed.Seed.{Seed}
 use Rattle.xc_input.specs.Named.{Named}
-use Rattle.xc_input.proofs.ListLemmas.{by_bool, each-append, each_front, EachTwo, each_weaker, each-of}
-use Rattle.xc_input.proofs.ListLemmas.{AllPairs-from_each_two, each_two_from_AllPairs}
-use Rattle.xc_input.proofs.FaultLemmas.{some-is, fails, none-append, clear-each, solid, cut-is, no-cut, cut-at}
-use Rattle.xc_input.proofs.FaultLemmas.{item-clear, COLON, known}
+use Rattle.xc_text.proofs.ListLemmas.{by_bool, each-append, each_front, EachTwo, each_weaker, each-of}
+use Rattle.xc_text.proofs.ListLemmas.{AllPairs-from_each_two, each_two_from_AllPairs}
+use Rattle.xc_input.proofs.FaultLemmas.{some-is, fails, none-append, clear-each, solid, item-clear, COLON, known}
+use Rattle.xc_text.proofs.ByteLemmas.{cut-is, no-cut, cut-at}
 use Rattle.xc_input.proofs.OptionLemmas.{before-cons, after-cons, no-bar, none-after, past-name, with_uses-append}
 use Rattle.xc_input.proofs.OptionLemmas.{number-later}
 

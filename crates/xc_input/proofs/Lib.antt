@@ -4,4 +4,3 @@ pub mod FaultLemmas
 pub mod GrammarLemmas
 pub mod OptionLemmas
 pub mod WrittenTexts
-pub mod ListLemmas

@@ -16,7 +16,7 @@ use Rattle.std.proofs.lemmas.Grind.{get_or-set_at, common_steps}
 use Rattle.std.proofs.lemmas.List.Folds.{list_any-append}
 use Rattle.std.proofs.lemmas.List.Elements.{All-push}
 use Rattle.xc_input.specs.declared.kind.Kind.{Kind}
-use Rattle.xc_input.specs.Words.{has, place, before, after}
+use Rattle.xc_text.specs.Words.{has, place, before, after}
 use Rattle.xc_input.specs.Tokens.{is_bar, tokens}
 use Rattle.xc_input.specs.Sheets.{Entry, Written, with_colour, colour_number, number_uses}
 use Rattle.xc_input.specs.Text.{IsEntry}
@@ -39,10 +39,10 @@ use Rattle.xc_input.specs.Limits.{most_items, most_uses}
 use Rattle.xc_input.specs.declared.stage.ProblemBuilder.{ProblemBuilder}
 use Rattle.xc_input.specs.declared.stage.Tables.{Tables}
 use Rattle.xc_input.specs.declared.written.ItemLine.{ItemLine}
-use Rattle.xc_input.specs.declared.seed.Seed.{Seed}
+use Rattle.xc_text.specs.declared.seed.Seed.{Seed}
 use Rattle.xc_input.specs.inner.Stored.{key_names, pieces}
 use Rattle.xc_input.proofs.FaultLemmas.{BAR, no-place, first-back, map-snoc, good-name, COLON}
-use Rattle.xc_input.proofs.ListLemmas.{by_option, map-map}
+use Rattle.xc_text.proofs.ListLemmas.{by_option, map-map}
 use Rattle.xc_input.proofs.TokenLemmas.{stored, option-more, all-uses}
 use Rattle.indexmap.specs.IndexSet.{IndexSet, hasher_of}
 

@@ -25,20 +25,20 @@ use Rattle.xc_input.specs.Text.{StandsFor, IsEntry, IsUse, IsOptionLine, AreItem
 use Rattle.xc_input.specs.Laws.{AreMetInOrder}
 use Rattle.xc_input.specs.declared.problem.Use.{Use}
 use Rattle.xc_input.specs.inner.Stages.{with_uses}
-use Rattle.xc_input.specs.Tokens.{is_space, tokens, parts, split_bars, is_bar, is_skipped}
-use Rattle.xc_input.specs.Words.{has, place}
+use Rattle.xc_text.specs.Words.{is_space, has, place}
+use Rattle.xc_input.specs.Tokens.{tokens, parts, split_bars, is_bar, is_skipped}
 use Rattle.xc_input.specs.declared.kind.Kind.TheVariants.{Bounds as ByBounds}
 use Rattle.xc_input.specs.declared.problem.Bounds.{Bounds}
 use Rattle.xc_input.specs.Limits.{greatest_bound}
 use Rattle.xc_input.specs.Faults.{Context, has_primary}
-use Rattle.xc_input.specs.Lines.{lines_of}
+use Rattle.xc_text.specs.Lines.{lines_of}
 use Rattle.xc_input.specs.FirstFault.{line_number}
-use Rattle.xc_input.specs.inner.Feeding.{AreWhole, ended}
+use Rattle.xc_text.specs.inner.LineFeeds.{AreWhole, ended}
 use Rattle.xc_input.proofs.OptionLemmas.{Knows, met, kept}
 use Rattle.xc_input.proofs.TokenLemmas.{number-decimal, are_digits-decimal, lacks-decimal, distinct-place}
-use Rattle.xc_input.proofs.LineLemmas.{lines_of-all}
-use Rattle.xc_input.proofs.ListLemmas.{each-append, each-map, each_weaker, AllPairs-from_each_two}
-use Rattle.xc_input.proofs.ListLemmas.{each_two_from_AllPairs, EachTwo-map}
+use Rattle.xc_text.proofs.LineLemmas.{lines_of-all}
+use Rattle.xc_text.proofs.ListLemmas.{each-append, each-map, each_weaker, AllPairs-from_each_two}
+use Rattle.xc_text.proofs.ListLemmas.{each_two_from_AllPairs, EachTwo-map}
 
 -- ======== The colours of each problem that lines stand for are numbered as its uses meet them.
 

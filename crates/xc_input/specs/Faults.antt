@@ -11,7 +11,7 @@ use Rattle.xc_input.specs.declared.fault.FaultKind.TheVariants.{TwoBars, BadBoun
 use Rattle.xc_input.specs.declared.fault.FaultKind.TheVariants.{UnknownItem, RepeatedInOption, ColourOnPrimary}
 use Rattle.xc_input.specs.declared.fault.FaultKind.TheVariants.{BadColour, ColourNotHere, TooManyItems}
 use Rattle.xc_input.specs.Limits.{most_items, longest_name, longest_colour}
-use Rattle.xc_input.specs.Words.{has, before, after, place, are_digits, number}
+use Rattle.xc_text.specs.Words.{has, before, after, place, are_digits, number}
 use Rattle.xc_input.specs.Tokens.{is_bar}
 use Rattle.xc_input.specs.Sheets.{Written}
 

@@ -3,7 +3,7 @@ use Rattle.std.specs.Prelude.{◌≡◌, ℕ, List, [], ◌∷◌, ◌++◌, Boo
 use Rattle.xc_input.specs.declared.kind.Kind.{Kind}
 use Rattle.xc_input.specs.declared.fault.FaultKind.{FaultKind}
 use Rattle.xc_input.specs.declared.at_fault.FaultyToken.{FaultyToken}
-use Rattle.xc_input.specs.Words.{has}
+use Rattle.xc_text.specs.Words.{has}
 use Rattle.xc_input.specs.Tokens.{tokens, parts, is_skipped}
 use Rattle.xc_input.specs.Faults.{first, checks_of_each, part_checks, context_of, token_checks}
 

@@ -1,5 +1,5 @@
 -- The first fault of a text.
-use Rattle.std.specs.Prelude.{ℕ, ◌+◌, ◌-◌, ◌^◌, min, length, List, [], ◌∷◌, ◌++◌, Bool, ◌&&◌, Option, None, Some}
+use Rattle.std.specs.Prelude.{ℕ, ◌+◌, ◌-◌, ◌^◌, min, length, List, [], ◌∷◌, ◌++◌, Bool, ◌&&◌, Option, None, Some, ◌≡◌}
 use Rattle.std.specs.Prelude.{nat_le, nat_lt, not, filter, map, sum_by, if◌then◌else◌}
 use Rattle.std.specs.List.{list_any, list_all}
 use Rattle.std.specs.Option.{option_or}
@@ -7,9 +7,10 @@ use Rattle.xc_input.specs.declared.kind.Kind.{Kind}
 use Rattle.xc_input.specs.declared.fault.FaultKind.{FaultKind}
 use Rattle.xc_input.specs.declared.fault.FaultKind.TheVariants.{NoItems, NulByte, TooManyUses}
 use Rattle.xc_input.specs.Limits.{most_uses}
-use Rattle.xc_input.specs.Words.{has}
+use Rattle.xc_text.specs.Words.{has}
 use Rattle.xc_input.specs.Tokens.{tokens, parts, is_skipped}
 use Rattle.xc_input.specs.Faults.{first, checks_of_each, part_checks, Context, context_of, item_of, token_checks}
+use Rattle.xc_text.specs.Lines.{lines_of}
 
 -- the number of a line, which stays at its last value
 abbrev pub line_number : ℕ → ℕ
@@ -52,3 +53,7 @@ line_fault kind lines = first (checks_of_each (line_checks kind) [] lines)
 abbrev pub first_fault : Kind → List (List ℕ) → Option (ℕ × FaultKind)
 first_fault kind lines = option_or (line_fault kind lines)
     (if list_all is_skipped lines then Some (line_number (length lines + 1), NoItems) else None)
+
+-- the first fault of a text, in this line
+abbrev pub IsFirstFault : Kind → List ℕ → ℕ → FaultKind → Type 0
+IsFirstFault kind bytes line fault = first_fault kind (lines_of bytes) ≡ Some (line, fault)

@@ -1,13 +1,12 @@
 -- Each list of lines has a first fault or, by each seed, stands for one problem, and a token at fault has the fault of
 -- its line. What stands for one stands for it as each kind that allows more.
-use Rattle.std.specs.Prelude.{◌≡◌, ◌↔◌, ◌+◌, ℕ, List, [], ◌∷◌, ◌++◌, None, Some, length, slice_get}
-use Rattle.std.specs.Prelude.{Bool, IsTrue, flat_map}
+use Rattle.std.specs.Prelude.{◌≡◌, ◌↔◌, ◌+◌, ℕ, List, [], ◌∷◌, ◌++◌, None, Some, length, slice_get, flat_map}
 use Rattle.xc_input.specs.declared.kind.Kind.{Kind}
 use Rattle.xc_input.specs.declared.kind.Kind.TheVariants.{Bounds}
 use Rattle.xc_input.specs.Sheets.{Written, colours_of, number_uses}
 use Rattle.xc_input.specs.declared.problem.Item.{Item}
 use Rattle.xc_input.specs.ItemBounds.{bounds_of}
-use Rattle.xc_input.specs.Lines.{lines_of}
+use Rattle.xc_text.specs.Lines.{lines_of}
 use Rattle.xc_input.specs.Named.{Named, IsSound}
 use Rattle.xc_input.specs.declared.at_fault.FaultyToken.{FaultyToken}
 use Rattle.xc_input.specs.FaultyTokens.{IsFaultyToken}
@@ -44,14 +43,6 @@ AreMetInOrder a = (us : List Written) × (a.colours ≡ colours_of us)
 abbrev pub HaveTexts : Type 0
 HaveTexts = (a : Named) → (IsSound a × AreMetInOrder a)
     ↔ ((text : List ℕ) × (ignored : List ℕ) × StandsFor Bounds (lines_of text) a ignored)
-
--- the answers of `==` say which two values are equal
-abbrev pub DecidesEquality : {A : Type 0} → (A → A → Bool) → Type 0
-DecidesEquality {A} eq = (a b : A) → IsTrue (eq a b) ↔ (a ≡ b)
-
--- what `clone` may return for a value is the value
-abbrev pub IsEqualClone : {A : Type 0} → (A → A → Type 0) → Type 0
-IsEqualClone {A} is_clone = (a b : A) → is_clone a b → b ≡ a
 
 -- two items are the same: the room that their names have beyond their bytes doesn't matter
 abbrev pub IsSameItem : Item → Item → Type 0

@@ -2,11 +2,10 @@
 -- anything.
 use Rattle.std.specs.Prelude.{ℕ, ◌≤◌, ◌≡◌, ◌≢◌, false, List, All, AllPairs, length}
 use Rattle.xc_input.specs.declared.problem.Use.{Use}
-use Rattle.xc_input.specs.declared.seed.Seed.{Seed}
+use Rattle.xc_text.specs.declared.seed.Seed.{Seed}
 use Rattle.xc_input.specs.Problem.{Puzzle, IsItem, item_count, IsValid, IsWithinLimits}
 use Rattle.std.specs.List.{list_any}
-use Rattle.xc_input.specs.Tokens.{is_space}
-use Rattle.xc_input.specs.Words.{has}
+use Rattle.xc_text.specs.Words.{is_space, has}
 use Rattle.xc_input.specs.Limits.{longest_name, longest_colour, most_uses}
 use Prim.Native.Char.{code}
 

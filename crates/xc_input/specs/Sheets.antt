@@ -1,7 +1,7 @@
 -- What a text writes down: items and uses.
 use Rattle.std.specs.Prelude.{ℕ, ◌+◌, List, [], ◌∷◌, ◌++◌, is_none, unwrap_or, if◌then◌else◌, map, fold}
 use Rattle.xc_input.specs.declared.problem.Use.{Use}
-use Rattle.xc_input.specs.Words.{place}
+use Rattle.xc_text.specs.Words.{place}
 
 -- an item: its name, and how many options of a cover hold it
 pub record Entry : Type 0 where

@@ -5,7 +5,7 @@ use Prim.Native.Char.{code}
 use Rattle.std.specs.List.{AllZip, before_first, after_first, list_any, enumerate_from}
 use Rattle.xc_input.specs.declared.kind.Kind.{Kind}
 use Rattle.xc_input.specs.Limits.{most_items, most_uses}
-use Rattle.xc_input.specs.Words.{has, place, are_digits, number}
+use Rattle.xc_text.specs.Words.{has, place, are_digits, number}
 use Rattle.xc_input.specs.Tokens.{tokens, parts, is_bar, is_skipped}
 use Rattle.xc_input.specs.Sheets.{Entry, Written, colours_of, number_uses}
 use Rattle.xc_input.specs.Named.{Named, IsName, IsColour}

@@ -1,6 +1,6 @@
 -- Worked texts, and what the definitions say of them.
 use Rattle.std.specs.Prelude.{◌≡◌, ℕ, List, [], ◌∷◌, ◌++◌, Some, codes}
-use Rattle.xc_input.specs.declared.seed.Seed.{Seed}
+use Rattle.xc_text.specs.declared.seed.Seed.{Seed}
 use Rattle.xc_input.specs.declared.kind.Kind.{Kind}
 use Rattle.xc_input.specs.declared.kind.Kind.TheVariants.{Plain, Colours, Bounds}
 use Rattle.xc_input.specs.declared.fault.FaultKind.{FaultKind}
@@ -12,7 +12,7 @@ use Rattle.xc_input.specs.declared.problem.Use.{Use}
 use Rattle.xc_input.specs.declared.problem.Bounds.{Bounds as ItemBounds}
 use Rattle.xc_input.specs.FirstFault.{first_fault}
 use Rattle.xc_input.specs.Text.{StandsFor}
-use Rattle.xc_input.specs.Lines.{lines_of}
+use Rattle.xc_text.specs.Lines.{lines_of}
 
 -- a use of item i, with colour c
 abbrev pub use_of : ℕ → ℕ → Use

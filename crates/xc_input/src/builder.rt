@@ -3,7 +3,7 @@
 ghost use Rattle.std.specs.Prelude.{◌≡◌, ◌≢◌, ◌||◌, true, false, nat_le, OnOk, Some};
 ghost use Rattle.std.specs.List.{list_any};
 ghost use Rattle.std.specs.Result.{result_err};
-ghost use Rattle.xc_input.specs.Words.{has};
+ghost use Rattle.xc_text.specs.Words.{has};
 ghost use Rattle.xc_input.specs.Faults.{first};
 ghost use Rattle.xc_input.specs.inner.Stages.{row_checks, no_row, row_with_parts, staged_line_checks};
 ghost use Rattle.xc_input.specs.inner.Stages.{staged_content_checks, with_line, with_option, written_by, no_stage};
@@ -19,12 +19,12 @@ use crate::line_error::LineError;
 use crate::option_line::option_line;
 use crate::outcome::Read;
 use crate::problem::{Item, Problem, Use};
-use crate::seed::Seed;
 use crate::stage::{ProblemBuilder, Tables};
-use crate::tokens::{has_byte, is_skipped_line};
+use crate::tokens::is_skipped_line;
 use crate::written::ItemLine;
 use crate::{FaultKind, Kind};
 use std::alloc::Global;
+use xc_text::{Seed, has_byte};
 
 impl ProblemBuilder {
     /// Nothing is read yet.

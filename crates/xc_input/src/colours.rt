@@ -7,7 +7,7 @@
 ghost use Rattle.std.specs.Prelude.{◌≡◌, ◌≤◌, ◌+◌, None, Some, OnOk, IfOk, IfSome, length};
 ghost use Rattle.xc_input.specs.Limits.{most_items, most_uses};
 ghost use Rattle.xc_input.specs.Sheets.{with_colour, colour_number};
-ghost use Rattle.xc_input.specs.Words.{place};
+ghost use Rattle.xc_text.specs.Words.{place};
 ghost use Rattle.xc_input.specs.inner.Builders.{Judged, AreDistinct};
 ghost use Rattle.xc_input.specs.inner.Stored.{key_names};
 ghost use Rattle.indexmap.specs.IndexSet.{hasher_of};

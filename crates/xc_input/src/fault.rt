@@ -2,13 +2,12 @@
 
 ghost use Rattle.std.specs.Prelude.{◌≡◌};
 ghost use Rattle.xc_input.specs.FaultTexts.{fault_text, error_text};
-ghost use Rattle.xc_input.specs.LinesRead.{error_of};
+ghost use Rattle.xc_input.specs.Readings.{error_of};
 ghost use Rattle.xc_input.specs.declared.fault.InputError.TheVariants.{Device, Memory};
 
-use crate::line_reader::Unread;
-use crate::source::ReadFailed;
 use std::alloc::AllocError;
 use std::fmt;
+use xc_text::{ReadFailed, Unread};
 
 /// What is wrong with a line.
 #[derive(Clone, Copy, Debug, PartialEq, Eq, Hash)]

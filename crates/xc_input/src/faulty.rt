@@ -7,7 +7,7 @@
 ghost use Rattle.std.specs.Prelude.{◌≡◌, ◌++◌, ◌≤◌, ◌||◌, [], ℕ, List, length, None, Ok, IfOk, option_map};
 ghost use Rattle.std.specs.Prelude.{true};
 ghost use Rattle.xc_input.specs.Tokens.{tokens, parts, is_skipped};
-ghost use Rattle.xc_input.specs.Words.{has};
+ghost use Rattle.xc_text.specs.Words.{has};
 ghost use Rattle.xc_input.specs.Faults.{first, checks_of_each, part_checks, token_checks, context_of};
 ghost use Rattle.xc_input.specs.FaultyTokens.{IsAtFault, IsFaulty, IsFaultyToken, Tells};
 ghost use Rattle.xc_input.specs.Limits.{most_items};
@@ -21,12 +21,12 @@ use crate::item_line::item_line;
 use crate::line_error::LineError;
 use crate::names::NameSet;
 use crate::option_line::use_of;
-use crate::seed::Seed;
 use crate::tables::no_marks;
-use crate::tokens::{has_byte, is_skipped_line, looked_up, next_part, next_word};
+use crate::tokens::{is_skipped_line, looked_up, next_part, next_word};
 use crate::written::ItemLine;
 use crate::{FaultKind, Kind};
 use std::alloc::{AllocError, Global};
+use xc_text::{Seed, has_byte};
 
 /// The first token of a line that is at fault: of an option line after the line of these `items`, or
 /// of the item line where there is none yet. `None` where no token is at fault: the line may have no

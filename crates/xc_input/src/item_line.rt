@@ -2,8 +2,8 @@
 
 ghost use Rattle.std.specs.Prelude.{◌≡◌, ◌++◌, ◌∷◌, [], None, Some, OnOk, IfOk, MatchResult, map, is_some, false};
 ghost use Rattle.std.specs.List.{list_any};
-ghost use Rattle.xc_input.specs.Tokens.{parts, is_space};
-ghost use Rattle.xc_input.specs.Words.{number};
+ghost use Rattle.xc_input.specs.Tokens.{parts};
+ghost use Rattle.xc_text.specs.Words.{is_space, number};
 ghost use Rattle.xc_input.specs.Faults.{first, name_checks, is_bounds, prefix_checks, bound_checks, item_checks};
 ghost use Rattle.xc_input.specs.inner.Stages.{entry, staged_part_checks, with_part, row_checks, row_with_parts, no_row};
 ghost use Rattle.xc_input.specs.inner.Stages.{names_of};
@@ -11,16 +11,15 @@ ghost use Rattle.xc_input.specs.inner.CutTokens.{low_text, high_text};
 ghost use Rattle.xc_input.specs.inner.Builders.{Judged, IsItemTable, row_of_line, entry_of};
 ghost use Rattle.indexmap.specs.IndexSet.{hasher_of};
 
-use crate::digits::number_of;
 use crate::limits::{LONGEST_NAME, MOST_ITEMS};
 use crate::line_error::LineError;
 use crate::names::{NameSet, add_name, no_names, place_of};
 use crate::problem::{Bounds, Item};
-use crate::seed::Seed;
-use crate::tokens::{cut_at, next_part};
+use crate::tokens::next_part;
 use crate::written::ItemLine;
 use crate::{FaultKind, Kind};
 use std::alloc::Global;
+use xc_text::{Seed, cut_at, number_of};
 
 /// The first fault of a name by itself.
 pub fn name_fault(name: &[u8]) -> Option<FaultKind>

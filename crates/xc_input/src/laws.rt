@@ -4,12 +4,12 @@ ghost use Rattle.std.specs.Prelude.{◌↔◌, IsTrue};
 ghost use Rattle.xc_input.specs.declared.at_fault.FaultyToken.{FaultyToken};
 ghost use Rattle.xc_input.specs.declared.problem.Item.{Item};
 ghost use Rattle.xc_input.specs.Laws.{FaultlessStand, StandForOne, StandAlso, TokensAgree};
-ghost use Rattle.xc_input.specs.Laws.{HaveTexts, DecidesEquality, IsEqualClone, IsSameItem, IsSameToken};
+ghost use Rattle.xc_input.specs.Laws.{HaveTexts, IsSameItem, IsSameToken};
+ghost use Rattle.xc_text.specs.Equality.{DecidesEquality, IsEqualClone};
 ghost use Rattle.xc_input.specs.declared.kind.Kind.TheVariants.{Plain, Colours, Bounds};
 
-use crate::{
-    FaultKind, FaultyToken, FoldingHasher, InputError, Item, Kind, ReadFailed, Seed, Unread, Use,
-};
+use crate::{FaultKind, FaultyToken, InputError, Item, Kind, Use};
+use xc_text::{FoldingHasher, ReadFailed, Seed, Unread};
 
 /// A text has a first fault or, by each seed, stands for one problem, and never both. It ties the checks to the
 /// grammar, so that a slip in one of the two, which nothing else would show, breaks a proof.
@@ -48,9 +48,6 @@ pub fn equality<'a>()
     ensures bounds { DecidesEquality ⟦<crate::Bounds as PartialEq>⟧.eq }
     ensures items { (a b : Item) → IsTrue (⟦<Item as PartialEq>⟧.eq a b) ↔ IsSameItem a b }
     ensures uses { DecidesEquality ⟦<Use as PartialEq>⟧.eq }
-    ensures seeds { DecidesEquality ⟦<Seed as PartialEq>⟧.eq }
-    ensures failures { DecidesEquality ⟦<ReadFailed as PartialEq>⟧.eq }
-    ensures unread { DecidesEquality ⟦<Unread as PartialEq>⟧.eq }
 {}
 
 /// A clone of a value of any of these types is equal to it.
@@ -62,8 +59,4 @@ pub fn clones<'a>()
     ensures bounds { IsEqualClone ⟦<crate::Bounds as Clone>⟧.is_clone }
     ensures items { (a b : Item) → ⟦<Item as Clone>⟧.is_clone a b → IsSameItem a b }
     ensures uses { IsEqualClone ⟦<Use as Clone>⟧.is_clone }
-    ensures seeds { IsEqualClone ⟦<Seed as Clone>⟧.is_clone }
-    ensures hashers { IsEqualClone ⟦<FoldingHasher as Clone>⟧.is_clone }
-    ensures failures { IsEqualClone ⟦<ReadFailed as Clone>⟧.is_clone }
-    ensures unread { IsEqualClone ⟦<Unread as Clone>⟧.is_clone }
 {}

@@ -5,15 +5,15 @@
 
 ghost use Rattle.std.specs.Prelude.{◌≡◌, ◌≤◌, ◌++◌, ◌∷◌, [], length, map, None, OnOk, IfOk};
 ghost use Rattle.xc_input.specs.Limits.{most_uses};
-ghost use Rattle.xc_input.specs.Words.{place};
+ghost use Rattle.xc_text.specs.Words.{place};
 ghost use Rattle.xc_input.specs.inner.Stored.{number_in, key_names};
 ghost use Rattle.xc_input.specs.inner.Builders.{Judged};
 ghost use Rattle.indexmap.specs.IndexSet.{hasher_of};
 
 use crate::line_error::LineError;
-use crate::seed::Seed;
 use indexmap::IndexSet;
 use std::alloc::Global;
+use xc_text::Seed;
 
 /// Names or colours, numbered from 0 in the order in which they were met.
 pub type NameSet = IndexSet<Vec<u8>, Seed>;

@@ -10,15 +10,15 @@ ghost use Rattle.xc_input.specs.Limits.{greatest_bound, most_uses};
 ghost use Rattle.xc_input.specs.ItemBounds.{bounds_of, secondary_bounds};
 ghost use Rattle.xc_input.specs.inner.Stored.{IsOptional, AreOptionStarts, named_from, key_names};
 ghost use Rattle.xc_input.specs.Named.{Named, IsKnownUse, IsWellNamed, IsName, IsColour, IsSound};
-ghost use Rattle.xc_input.specs.Words.{place};
+ghost use Rattle.xc_text.specs.Words.{place};
 ghost use Rattle.indexmap.specs.IndexSet.{hasher_of};
 
 use crate::names::{NameSet, number_of_name};
 use crate::options::Options;
-use crate::seed::Seed;
 use std::alloc::{AllocError, Global};
 use std::fmt;
 use std::marker::Model;
+use xc_text::Seed;
 
 /// How often an item is to be held: at least `low` and at most `high` times.
 #[derive(Clone, Copy, Debug, PartialEq, Eq)]

@@ -4,18 +4,17 @@ ghost use Rattle.std.specs.Prelude.{◌≡◌, ◌<◌, ◌++◌, [], Some, leng
 ghost use Rattle.std.specs.Result.{result_err};
 ghost use Rattle.xc_input.specs.Named.{IsSound};
 ghost use Rattle.xc_input.specs.inner.Feeding.{fed, IsBetween, Ended, EndsAs};
-ghost use Rattle.xc_input.specs.Lines.{lines_of};
-ghost use Rattle.xc_input.specs.LinesRead.{IsLine};
-ghost use Rattle.xc_input.specs.Pieces.{GaveAll, IsWhole, IsPart};
-ghost use Rattle.xc_input.specs.declared.seed.TheConstants.Seed.{FIXED};
+ghost use Rattle.xc_text.specs.Lines.{lines_of};
+ghost use Rattle.xc_text.specs.LinesRead.{IsLine};
+ghost use Rattle.xc_text.specs.Sources.{GaveAll};
+ghost use Rattle.xc_input.specs.Pieces.{IsWhole, IsPart};
+ghost use Rattle.xc_text.specs.declared.seed.TheConstants.Seed.{FIXED};
 
-use crate::line_reader::LineReader;
 use crate::outcome::Read;
 use crate::reader::Reader;
-use crate::seed::Seed;
-use crate::source::Source;
 use crate::{InputError, Kind};
 use std::alloc::Global;
+use xc_text::{LineReader, Seed, Source};
 
 /// Reads the source to its end, or to the first error. Names and colours are hashed by the fixed seed, for a text that
 /// nobody wrote to be slow.

@@ -7,20 +7,19 @@ ghost use Rattle.xc_input.specs.Readings.{IsErrorFor, IsStateOf};
 ghost use Rattle.xc_input.specs.FirstFault.{first_fault};
 ghost use Rattle.xc_input.specs.inner.Builders.{error_at};
 ghost use Rattle.xc_input.specs.Named.{Named, IsSound};
-ghost use Rattle.xc_input.specs.Words.{has};
+ghost use Rattle.xc_text.specs.Words.{has};
 ghost use Rattle.xc_input.specs.Tokens.{is_skipped};
 ghost use Rattle.xc_input.specs.Text.{StandsFor};
 
-use crate::given::Given;
 use crate::line_error::LineError;
 use crate::outcome::Read;
 use crate::problem::Problem;
-use crate::seed::Seed;
 use crate::stage::ProblemBuilder;
 use crate::{FaultKind, InputError, Kind};
 use std::alloc::Global;
 use std::fmt;
 use std::marker::Model;
+use xc_text::{Given, Seed};
 
 /// Reads a problem, line by line.
 #[derive(Drop)]
@@ -38,7 +37,7 @@ impl Model for Reader {
     ghost use Rattle.xc_input.specs.FirstFault.{line_number};
     ghost use Rattle.xc_input.specs.inner.Stages.{stage_of};
     ghost use Rattle.xc_input.specs.inner.Builders.{IsBuilder, stage_of_builder};
-    ghost use Rattle.xc_input.specs.inner.Feeding.{AreWhole};
+    ghost use Rattle.xc_text.specs.inner.LineFeeds.{AreWhole};
     ghost use Rattle.std.specs.Prelude.{◌≡◌, length, MatchOption};
     ghost use Rattle.indexmap.specs.IndexSet.{hasher_of};
 

@@ -7,9 +7,9 @@ ghost use Rattle.xc_input.specs.inner.Stored.{key_names};
 ghost use Rattle.indexmap.specs.IndexSet.{hasher_of};
 
 use crate::names::{NameSet, no_names};
-use crate::seed::Seed;
 use crate::stage::{ColourGuesses, Guesses, Tables};
 use std::alloc::{AllocError, Global};
+use xc_text::Seed;
 
 impl Tables {
     /// Those of no items.

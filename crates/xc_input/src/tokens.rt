@@ -6,30 +6,19 @@
 //! registers: 2 % less where uses have colours, 3 % more where they have none. A colour of one byte is recognized
 //! without a loop over its bytes, which saves 5 % there.
 
-ghost use Rattle.std.specs.Prelude.{◌≡◌, ◌++◌, ◌∷◌, ◌<◌, ◌≤◌, [], ℕ, List, length, take, drop, MatchOption, map, false};
-ghost use Rattle.std.specs.Prelude.{true, None, Some, OnOk, IfOk, IfSome};
-ghost use Rattle.xc_input.specs.Tokens.{is_space, tokens, parts, is_skipped};
+ghost use Rattle.std.specs.Prelude.{◌≡◌, ◌∷◌, ◌<◌, ◌≤◌, [], ℕ, List, length, take, drop, MatchOption};
+ghost use Rattle.std.specs.Prelude.{true, None, Some, IfSome};
+ghost use Rattle.xc_text.specs.Words.{has, before, after, place};
+ghost use Rattle.xc_input.specs.Tokens.{tokens, parts, is_skipped};
 ghost use Rattle.xc_input.specs.inner.CutTokens.{drop_white, word, StandsBefore, IsCutToken, IsCutBehind, StandsFirst};
-ghost use Rattle.xc_input.specs.Words.{has, before, after, place, are_digits};
-ghost use Rattle.xc_input.specs.Limits.{most_uses};
-ghost use Rattle.xc_input.specs.inner.Builders.{AreNames, Judged};
+ghost use Rattle.xc_input.specs.inner.Builders.{AreNames};
 ghost use Rattle.xc_input.specs.inner.Stored.{AreWords, key_names};
 
 use crate::guess::{long_word, short_word};
 use crate::names::{NameSet, place_of};
 use crate::stage::Guesses;
 use crate::written::Token;
-use bstr::ByteSlice;
-
-/// Whether a byte is white space.
-// `xc_check/src/checker/listing_lines.rt` has the same, since it isn't public: five lines twice are less than a public
-// call, with its wrong body and test, and both say by `is_space` what white space is.
-#[inline]
-pub fn is_white(b: u8) -> bool
-    ensures { result ≡ is_space b }
-{
-    b == b' ' || b == b'\t' || b == 11 || b == 12 || b == b'\r'
-}
+use xc_text::{cut_at, is_white};
 
 /// What is after leading white space.
 pub fn skip_white(line: &[u8]) -> &[u8]
@@ -225,23 +214,4 @@ pub fn next_part(line: &[u8]) -> Option<(&[u8], &[u8])>
         return Some(rest.split_at(1));
     }
     Some(rest.split_at(word_len(rest)))
-}
-
-/// Whether a byte is in a list.
-pub fn has_byte(bytes: &[u8], byte: u8) -> bool
-    ensures { result ≡ has byte bytes.now }
-{
-    bytes.find_byte(byte).is_some()
-}
-
-/// What is before and after the first such byte: all and nothing where there is none.
-pub fn cut_at(bytes: &[u8], byte: u8) -> (&[u8], Option<&[u8]>)
-    ensures front { result.0.now ≡ before byte bytes.now }
-    ensures back { MatchOption result.1 (has byte bytes.now ≡ false)
-        (λ back. (has byte bytes.now ≡ true) × (back.now ≡ after byte bytes.now)) }
-{
-    match bytes.find_byte(byte) {
-        None => (bytes, None),
-        Some(i) => (&bytes[..i], Some(&bytes[i + 1..])),
-    }
 }

@@ -23,17 +23,17 @@ use Rattle.xc_input.specs.UsePlaces.{place_in}
 use Rattle.xc_input.specs.Problem.{numbered_get, IsPrimary, IsItem, uses_of, primary_count, colour_in, IsOption}
 use Rattle.xc_input.specs.Problem.{numbered_options, Puzzle, Numbered, option_count, holds, holding}
 use Rattle.xc_input.specs.Named.{Named, IsKnownUse, IsSound, IsName, IsUnbroken}
-use Rattle.xc_input.specs.Words.{has}
-use Rattle.xc_input.specs.Tokens.{is_space}
-use Rattle.xc_input.specs.Lines.{lines_of}
-use Rattle.xc_input.specs.inner.Feeding.{ended, AreWhole}
-use Rattle.xc_input.proofs.ListLemmas.{drop_at, each-append, in-slice_get, each-map, each_weaker, get_take, IsIn}
-use Rattle.xc_input.proofs.ListLemmas.{in-map, in-filter, in-append, each_in, each_from, in-take, length-filter-le}
-use Rattle.xc_input.proofs.ListLemmas.{each-filter, contains-in, by_option}
+use Rattle.xc_text.specs.Words.{has, is_space}
+use Rattle.xc_text.specs.Lines.{lines_of}
+use Rattle.xc_text.specs.inner.LineFeeds.{ended, AreWhole}
+use Rattle.xc_text.proofs.ListLemmas.{drop_at, each-append, in-slice_get, each-map, each_weaker, get_take, IsIn}
+use Rattle.xc_text.proofs.ListLemmas.{in-map, in-filter, in-append, each_in, each_from, in-take, length-filter-le}
+use Rattle.xc_text.proofs.ListLemmas.{each-filter, contains-in, by_option}
 use Rattle.xc_input.proofs.TokenLemmas.{numbered_get-at, length-pieces, option_part, pieces-snoc, are_digits-decimal}
 use Rattle.xc_input.proofs.TokenLemmas.{digits, digits_read, lacks-decimal}
 use Rattle.xc_input.proofs.FaultLemmas.{not_false, and-both, COLON}
-use Rattle.xc_input.proofs.LineLemmas.{at_number, known_option, lines_of-ended}
+use Rattle.xc_input.proofs.LineLemmas.{at_number, known_option}
+use Rattle.xc_text.proofs.LineLemmas.{lines_of-ended}
 use Rattle.xc_moves.proofs.MoveLemmas.{length-numbered_from}
 use Rattle.xc_search.specs.declared.choice.Choice.{Choice}
 use Rattle.xc_search.specs.Listing.{Wanted, Residual, whole, branch_count, pick, none, Branch, branches_of, listing}

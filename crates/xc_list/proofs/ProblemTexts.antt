@@ -12,10 +12,10 @@ use Rattle.xc_input.specs.declared.problem.Bounds.{Bounds}
 use Rattle.xc_input.specs.declared.problem.Use.{Use}
 use Rattle.xc_input.specs.Named.{Named, IsSound}
 use Rattle.xc_input.specs.Problem.{IsSoundUse, IsSoundOption, numbered_get, primary_count, Puzzle}
-use Rattle.xc_input.specs.Hashing.{taken}
+use Rattle.xc_text.specs.Hashing.{taken}
 use Rattle.xc_input.specs.declared.problem.Item.{Item}
 use Rattle.xc_input.specs.ItemBounds.{bounds_of}
-use Rattle.xc_input.proofs.ListLemmas.{each_weaker, each_of_all}
+use Rattle.xc_text.proofs.ListLemmas.{each_weaker, each_of_all}
 use Rattle.xc_search.specs.declared.choice.Choice.{Choice}
 use Rattle.xc_search.specs.declared.marks.Mark.{Mark}
 use Rattle.xc_search.specs.Marks.{marked}

@@ -15,7 +15,7 @@ use Rattle.std.proofs.Math.Nat.{mul-add, mul-le-mul_left}
 use Rattle.std.proofs.lemmas.List.Elements.{All-from_recursion, recursion_from_All}
 use Rattle.xc_input.specs.Problem.{Puzzle}
 use Rattle.xc_input.specs.Named.{Named, IsSound}
-use Rattle.xc_input.proofs.ListLemmas.{in-filter, each_in, each_from}
+use Rattle.xc_text.proofs.ListLemmas.{in-filter, each_in, each_from}
 use Rattle.xc_moves.proofs.PlaceLemmas.{take_more-get}
 use Rattle.xc_search.specs.Listing.{whole}
 use Rattle.xc_search.specs.InSpan.{InSpan, branches_along, left_of, reached, row_or_end}

@@ -5,7 +5,7 @@ use Rattle.std.specs.Prelude.{true, false, flat_map}
 use Rattle.std.proofs.lemmas.Bool.Decides.{nat_tests}
 use Rattle.std.specs.Int.{w64, from_le_bytes}
 use Rattle.std.proofs.lemmas.List.Sums.{fold-append}
-use Rattle.xc_input.specs.Hashing.{taken}
+use Rattle.xc_text.specs.Hashing.{taken}
 use Rattle.xc_streams.specs.Texts.{SinkState, Took}
 use Rattle.xc_streams.proofs.SinkLemmas.{appends_more}
 use Rattle.std.specs.Io.KnownBytes.{Appends}

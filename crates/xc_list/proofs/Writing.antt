@@ -28,7 +28,7 @@ use Rattle.xc_input.specs.declared.problem.Use.{Use}
 use Rattle.xc_input.specs.UsePlaces.{place_in}
 use Rattle.xc_input.specs.Named.{Named, IsSound}
 use Rattle.xc_input.proofs.TokenLemmas.{digits_read}
-use Rattle.xc_input.proofs.ListLemmas.{drop_at, slice_get-drop, by_option, in-slice_get, each_in, by_bool}
+use Rattle.xc_text.proofs.ListLemmas.{drop_at, slice_get-drop, by_option, in-slice_get, each_in, by_bool}
 use Rattle.xc_input.proofs.FaultLemmas.{COLON}
 use Rattle.xc_search.specs.declared.choice.Choice.{Choice}
 use Rattle.xc_search.specs.Cover.{members}
@@ -59,7 +59,7 @@ use Rattle.xc_list.specs.SearchedSpans.{AreSmall}
 use Rattle.xc_list.specs.Digests.{problem_numbers, digest_after, digest_of, digits_of}
 use Rattle.xc_list.specs.inner.Writing.{digest_multiplier}
 use Rattle.xc_list.specs.declared.text_digest.TextDigest.{TextDigest}
-use Rattle.xc_input.specs.Hashing.{taken}
+use Rattle.xc_text.specs.Hashing.{taken}
 use lib.Lanes.{put_chunk, chunk}
 use Rattle.hex.specs.Hex.{encode_with, lower_digits}
 use Rattle.hex.proofs.HexLemmas.{length-encode_with}

@@ -3,7 +3,7 @@ use Rattle.std.specs.Prelude.{ℕ, ◌+◌, ◌*◌, ◌/◌, ◌^◌, List, [],
 use Rattle.std.specs.Prelude.{if◌then◌else◌}
 use Rattle.std.specs.Int.{w64, to_be_bytes}
 use Rattle.hex.specs.Hex.{encode_lower}
-use Rattle.xc_input.specs.Hashing.{taken}
+use Rattle.xc_text.specs.Hashing.{taken}
 use Rattle.xc_input.specs.Named.{Named}
 use Rattle.xc_list.specs.declared.text_digest.TextDigest.{TextDigest}
 

@@ -1,6 +1,6 @@
 -- Worked problems with their names.
 use Rattle.std.specs.Prelude.{[], ◌∷◌, codes}
-use Rattle.xc_input.specs.declared.seed.TheConstants.Seed.{FIXED}
+use Rattle.xc_text.specs.declared.seed.TheConstants.Seed.{FIXED}
 use Rattle.xc_input.specs.Named.{Named}
 use Rattle.xc_search.specs.Worked.{seven_items, two_colours, equal_options}
 

@@ -20,8 +20,8 @@ use crate::places::{PADDING, ROOM};
 use crate::uses::{colour_of, name_of, uses_at, write_option, write_uses};
 use std::alloc::Global;
 use std::marker::Model;
-use xc_dance::Memory;
 use xc_input::{Problem, Use};
+use xc_moves::Memory;
 use xc_streams::{Sink, SinkFault, Tray, write_all};
 
 /// The texts of options one after another, with the places where they start and at last the length of

@@ -1,6 +1,6 @@
 //! Listings judged, those that are printed here among them.
 ghost use Rattle.std.specs.Prelude.{◌≡◌, ◌≢◌, ◌<◌, ◌^◌, ℕ, codes, All, IsTrue, IfOk, IfErr, MatchResult};
-ghost use Rattle.xc_input.specs.Lines.{lines_of};
+ghost use Rattle.xc_text.specs.Lines.{lines_of};
 ghost use Rattle.xc_check.specs.Listed.{fault_in_lines, AreVerdicts, IsListingFault};
 ghost use Rattle.xc_check.specs.declared.verdict.ListingFault.TheVariants.{Memory};
 ghost use Rattle.xc_list.specs.Output.{output};

@@ -2,7 +2,7 @@
 ghost use Rattle.std.specs.Prelude.{◌≡◌, List, [], ◌∷◌, IfSome, IsNone};
 ghost use Rattle.xc_search.specs.declared.choice.Choice.{Choice};
 
-use xc_dance::Dance;
+use xc_moves::Dance;
 use xc_search::{Choice, Solution};
 
 /// The choices of a solution that are still to be read.

@@ -2,7 +2,7 @@
 ghost use Rattle.std.specs.Prelude.{◌≡◌, length};
 ghost use Rattle.std.specs.Int.{w64, to_be_bytes};
 ghost use Rattle.hex.specs.Hex.{encode_lower};
-ghost use Rattle.xc_input.specs.Hashing.{folded, taken};
+ghost use Rattle.xc_text.specs.Hashing.{folded, taken};
 ghost use Rattle.xc_input.specs.ItemBounds.{bounds_of};
 ghost use Rattle.xc_input.specs.Named.{IsSound};
 ghost use Rattle.xc_list.specs.Digests.{problem_numbers, length_first, digest_after, digest_of};

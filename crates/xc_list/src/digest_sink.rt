@@ -4,9 +4,9 @@ ghost use Rattle.xc_streams.specs.Texts.{Took};
 ghost use Rattle.xc_list.specs.Digests.{begun_digest, after_text, text_digest};
 
 use crate::text_digest::TextDigest;
-use xc_dance::Tally as Flushes;
-use xc_input::Given;
+use xc_moves::Tally as Flushes;
 use xc_streams::{Sink, WriteFailed};
+use xc_text::Given;
 
 /// A sink that takes each text, and of all of them keeps the digest.
 #[derive(Drop)]

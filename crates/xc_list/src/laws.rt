@@ -5,7 +5,7 @@ ghost use Rattle.xc_input.specs.Problem.{Puzzle};
 ghost use Rattle.xc_search.specs.Listing.{whole};
 ghost use Rattle.xc_search.specs.Nodes.{IsRowOf, row_count};
 ghost use Rattle.xc_search.specs.declared.went.Went.{Went};
-ghost use Rattle.xc_input.specs.Laws.{IsEqualClone};
+ghost use Rattle.xc_text.specs.Equality.{IsEqualClone};
 ghost use Rattle.xc_input.specs.Named.{Named, IsSound};
 ghost use Rattle.xc_list.specs.Digests.{problem_numbers};
 ghost use Rattle.xc_list.specs.Messages.{summary_text};

@@ -28,8 +28,8 @@ use crate::digest_sink::DigestSink;
 use crate::page::{Kept, Page, put_bytes, put_header};
 use crate::places::{Held, LINES, Line};
 use crate::uses::write_name;
-use xc_dance::Dance;
 use xc_input::Problem;
+use xc_moves::Dance;
 use xc_search::{Choice, Mark, Walk};
 use xc_streams::{Sink, SinkFault, write_all, write_number, write_two_numbers};
 

@@ -23,9 +23,10 @@ use crate::page::Page;
 use crate::print::write_by_page;
 use crate::words::Words;
 use std::alloc::Global;
-use xc_dance::{Dance, Links, Memory};
+use xc_dance::Links;
 use xc_input::Problem;
-use xc_search::{Walk, most_moves};
+use xc_moves::{Dance, Memory, most_moves};
+use xc_search::Walk;
 use xc_streams::{Sink, SinkFault};
 
 /// Whether the solution with this number is printed.

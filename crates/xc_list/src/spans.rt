@@ -27,9 +27,10 @@ use crate::ends::SpanFault;
 use crate::places::ROOM;
 use crate::print::write_noted;
 use std::alloc::Global;
-use xc_dance::{Dance, Links};
+use xc_dance::Links;
 use xc_input::Problem;
-use xc_search::{Halt, Span, Went, most_moves};
+use xc_moves::{Dance, most_moves};
+use xc_search::{Halt, Span, Went};
 use xc_streams::{Sink, SinkFault, write_all, write_number, write_numbered};
 
 /// What the text of a span has of its problem: the options as they are printed, and the digest.

@@ -10,8 +10,8 @@ use Rattle.std.proofs.lemmas.Bool.Decides.{eqb_tells}
 use Rattle.std.proofs.lemmas.List.Elements.{filter_agree}
 use Rattle.xc_input.specs.Problem.{Puzzle, Numbered, holds, colour_at, holding}
 use Rattle.xc_input.specs.declared.problem.Use.{Use}
-use Rattle.xc_input.proofs.ListLemmas.{each_weaker, each-filter, each_passes, each_of_all, filter_same, filter_both}
-use Rattle.xc_input.proofs.ListLemmas.{filter_swap, keep_all}
+use Rattle.xc_text.proofs.ListLemmas.{each_weaker, each-filter, each_passes, each_of_all, filter_same, filter_both}
+use Rattle.xc_text.proofs.ListLemmas.{filter_swap, keep_all}
 use Rattle.xc_moves.specs.declared.dance.Move.{Move}
 use Rattle.xc_moves.specs.declared.dance.Move.TheVariants.{Cover, Purify, Tweak, Spend}
 use Rattle.xc_moves.specs.Moves.{is_open, is_covered, purified, AreLegal, agrees, listed, without, is_among}

@@ -7,8 +7,8 @@ use Rattle.std.specs.List.{AllByRecursion, range_with_len}
 use Rattle.std.proofs.lemmas.Bool.{false≢true, cond_both}
 use Rattle.xc_input.specs.Problem.{Puzzle, uses_of, colour_in, Numbered, numbered_options, option_count, primary_count}
 use Rattle.xc_input.specs.Problem.{holds, holding}
-use Rattle.xc_input.proofs.ListLemmas.{each-map, each_weaker, length-filter-le, by_option, slice_get-drop, drop_one}
-use Rattle.xc_input.proofs.ListLemmas.{each-filter, each_both, each_passes}
+use Rattle.xc_text.proofs.ListLemmas.{each-map, each_weaker, length-filter-le, by_option, slice_get-drop, drop_one}
+use Rattle.xc_text.proofs.ListLemmas.{each-filter, each_both, each_passes}
 use Rattle.xc_moves.specs.Places.{is_in}
 use Rattle.xc_moves.specs.declared.dance.Move.{Move}
 use Rattle.xc_moves.specs.Moves.{listed_numbers, AreLegal, IsOpenPrimary, listed, next_above, is_open, open_items}

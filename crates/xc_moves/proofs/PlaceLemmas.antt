@@ -18,7 +18,7 @@ use Rattle.xc_input.specs.Problem.{IsOption, IsWithinLimits, IsValid, IsSoundOpt
 use Rattle.xc_input.specs.UsePlaces.{place_in}
 use Rattle.xc_input.specs.Named.{Named, IsSound}
 use Rattle.xc_input.proofs.OptionLemmas.{numbered_from}
-use Rattle.xc_input.proofs.ListLemmas.{get_left, drop_at, slice_get-drop, each_weaker}
+use Rattle.xc_text.proofs.ListLemmas.{get_left, drop_at, slice_get-drop, each_weaker}
 use Rattle.xc_moves.specs.Places.{Node, own, spacer, used, nodes_of, layout, spacer_place, link_place}
 use Rattle.xc_moves.specs.inner.Uses.{start_at, HoldsItem, named, before_use, behind_use}
 use Rattle.xc_moves.specs.Commits.{IsUseAt, option_at}

@@ -1,6 +1,6 @@
 //! What holds of lists after moves, and of the types here, as calls whose contracts say it.
 ghost use Rattle.std.specs.Prelude.{◌≡◌, ◌<◌, ℕ, List, ◌∷◌, ◌++◌, AllPairs, slice_get};
-ghost use Rattle.xc_input.specs.Laws.{DecidesEquality, IsEqualClone};
+ghost use Rattle.xc_text.specs.Equality.{DecidesEquality, IsEqualClone};
 ghost use Rattle.xc_input.specs.Problem.{Puzzle};
 ghost use Rattle.xc_moves.specs.Moves.{listed_numbers, next_above};
 ghost use Rattle.xc_moves.specs.declared.dance.Move.{Move};

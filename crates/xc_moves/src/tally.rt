@@ -2,7 +2,7 @@
 ghost use Rattle.std.specs.Prelude.{◌≡◌, ◌+◌};
 
 use std::marker::Model;
-use xc_input::Noted;
+use xc_text::Noted;
 
 /// How often something was done, as a cell written or a sink flushed. A clause reads it as `count`.
 #[derive(Drop)]

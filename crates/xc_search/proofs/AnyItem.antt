@@ -6,8 +6,8 @@ use Rattle.std.proofs.lemmas.List.Concat.{length-flat_map}
 use Rattle.xc_search.specs.declared.choice.Choice.{Choice}
 use Rattle.xc_search.specs.Listing.{Wanted, Residual, Branch, branches_of, level, listing}
 use Rattle.xc_search.specs.Cover.{options_of}
-use Rattle.xc_input.proofs.ListLemmas.{EachTwo, EachTwo-map, EachTwo-flat_map, EachTwo-weaker, IsIn, in-filter}
-use Rattle.xc_input.proofs.ListLemmas.{filter-in, in-map, each_from, keep_all}
+use Rattle.xc_text.proofs.ListLemmas.{EachTwo, EachTwo-map, EachTwo-flat_map, EachTwo-weaker, IsIn, in-filter}
+use Rattle.xc_text.proofs.ListLemmas.{filter-in, in-map, each_from, keep_all}
 use Rattle.xc_search.proofs.Completeness.{Solves, members_solve, solves_back, listed_for, is_listed, listed_in}
 use Rattle.xc_search.proofs.Completeness.{in_listed, member_of_set, Fits, Covers, IsMemberOf, member_on, member_back}
 use Rattle.xc_search.proofs.Completeness.{branch_for, covers_on, all_differ, Differ, branches_apart, AreApart}

@@ -16,9 +16,9 @@ use Rattle.xc_input.specs.Problem.{IsPrimary, IsSoundUse}
 use Rattle.xc_input.specs.declared.problem.Use.{Use}
 use Rattle.xc_input.specs.declared.problem.Bounds.{Bounds}
 use Rattle.xc_input.proofs.TokenLemmas.{numbered_get-at}
-use Rattle.xc_input.proofs.ListLemmas.{each-filter, and_left, mapped_some, not_some, by_option, contains-in, map-in}
-use Rattle.xc_input.proofs.ListLemmas.{in-slice_get, by_bool, each_front, each_in, each_weaker, each_at, keep_all}
-use Rattle.xc_input.proofs.ListLemmas.{length-filter-le, IsIn, in-map, each_from, in-filter, by_number, mapped_none}
+use Rattle.xc_text.proofs.ListLemmas.{each-filter, and_left, mapped_some, not_some, by_option, contains-in, map-in}
+use Rattle.xc_text.proofs.ListLemmas.{in-slice_get, by_bool, each_front, each_in, each_weaker, each_at, keep_all}
+use Rattle.xc_text.proofs.ListLemmas.{length-filter-le, IsIn, in-map, each_from, in-filter, by_number, mapped_none}
 use Rattle.xc_moves.specs.declared.dance.Move.{Move}
 use Rattle.xc_moves.specs.declared.dance.Move.TheVariants.{Spend, Tweak}
 use Rattle.xc_moves.specs.Moves.{spends, IsLegal, listed, listed_numbers, next_above, AreLegal, is_open, is_covered}

@@ -7,7 +7,7 @@ use Rattle.std.specs.List.{AllByRecursion}
 use Rattle.std.proofs.lemmas.List.{take_more_set, append-nil, append_assoc, length-set}
 use Rattle.std.proofs.lemmas.Grind.{flat_map-append}
 use Rattle.xc_input.specs.Problem.{Puzzle, Numbered, IsValid, IsItem, uses_of, option_count}
-use Rattle.xc_input.proofs.ListLemmas.{by_option, each_weaker}
+use Rattle.xc_text.proofs.ListLemmas.{by_option, each_weaker}
 use Rattle.xc_moves.specs.declared.dance.Move.{Move}
 use Rattle.xc_moves.specs.Commits.{IsListedAt, IsUseAt, first_primary, option_at}
 use Rattle.xc_moves.specs.Places.{link_place, first_above}

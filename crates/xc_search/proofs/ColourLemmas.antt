@@ -18,7 +18,7 @@ use Rattle.xc_input.specs.Problem.{Puzzle, IsValid, IsSoundOption, uses_of, colo
 use Rattle.xc_input.specs.Problem.{item_count}
 use Rattle.xc_input.specs.Named.{Named, IsKnownUse}
 use Rattle.xc_input.specs.declared.problem.Use.{Use}
-use Rattle.xc_input.proofs.ListLemmas.{by_bool}
+use Rattle.xc_text.proofs.ListLemmas.{by_bool}
 use Rattle.xc_moves.specs.Moves.{agrees, is_other_colour}
 use Rattle.xc_moves.specs.declared.dance.Move.{Move}
 use Rattle.xc_moves.proofs.PlaceLemmas.{at_option}

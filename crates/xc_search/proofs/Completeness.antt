@@ -15,12 +15,12 @@ use Rattle.xc_input.specs.Problem.{Numbered, colour_at, holds, holding, Puzzle, 
 use Rattle.xc_input.specs.Problem.{IsOption, bounds_at, uses_of, IsValid}
 use Rattle.xc_input.specs.declared.problem.Use.{Use}
 use Rattle.xc_input.specs.declared.problem.Bounds.{Bounds}
-use Rattle.xc_input.proofs.ListLemmas.{IsIn, each_from, length-filter-le, filter_same, by_bool, and_left, and_right}
-use Rattle.xc_input.proofs.ListLemmas.{filter_both, in-filter, filter-in, in-map, map-in, in-take, each_in, by_number}
-use Rattle.xc_input.proofs.ListLemmas.{by_option, list_all-each, EachTwo, AllPairs-from_each_two}
-use Rattle.xc_input.proofs.ListLemmas.{each_two_from_AllPairs, in-contains, contains-in, slice_get-in, EachTwo-append}
-use Rattle.xc_input.proofs.ListLemmas.{EachTwo-map, EachTwo-flat_map, EachTwo-at, EachTwo-weaker, EachTwo-take}
-use Rattle.xc_input.proofs.ListLemmas.{EachTwo-enumerated, in-enumerated}
+use Rattle.xc_text.proofs.ListLemmas.{IsIn, each_from, length-filter-le, filter_same, by_bool, and_left, and_right}
+use Rattle.xc_text.proofs.ListLemmas.{filter_both, in-filter, filter-in, in-map, map-in, in-take, each_in, by_number}
+use Rattle.xc_text.proofs.ListLemmas.{by_option, list_all-each, EachTwo, AllPairs-from_each_two}
+use Rattle.xc_text.proofs.ListLemmas.{each_two_from_AllPairs, in-contains, contains-in, slice_get-in, EachTwo-append}
+use Rattle.xc_text.proofs.ListLemmas.{EachTwo-map, EachTwo-flat_map, EachTwo-at, EachTwo-weaker, EachTwo-take}
+use Rattle.xc_text.proofs.ListLemmas.{EachTwo-enumerated, in-enumerated}
 use Rattle.xc_moves.proofs.MoveLemmas.{Rises, numbers, rises_filter, options_rise}
 use Rattle.xc_search.specs.declared.choice.Choice.{Choice}
 use Rattle.xc_search.specs.Listing.{Wanted, Residual, Branch, spend_one, may_stay, stays, pick, none, branch_count}

@@ -9,8 +9,8 @@ use Rattle.std.proofs.lemmas.List.{length-map}
 use Rattle.std.proofs.lemmas.Option.{slice_get_within}
 use Rattle.std.proofs.Math.Nat.{mul-add, le-mul_of_pos_right}
 use Rattle.xc_input.specs.Problem.{holds, Puzzle}
-use Rattle.xc_input.proofs.ListLemmas.{each_weaker, flat_map-same, IsIn, each_from, filter-in, each_in, drop_at}
-use Rattle.xc_input.proofs.ListLemmas.{mapped_none}
+use Rattle.xc_text.proofs.ListLemmas.{each_weaker, flat_map-same, IsIn, each_from, filter-in, each_in, drop_at}
+use Rattle.xc_text.proofs.ListLemmas.{mapped_none}
 use Rattle.xc_moves.specs.declared.dance.Move.{Move}
 use Rattle.xc_moves.specs.Dancing.{Dancing, moves_made}
 use Rattle.xc_moves.specs.Commits.{option_at, after_spend}

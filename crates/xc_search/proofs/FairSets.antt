@@ -5,8 +5,8 @@ use Rattle.std.proofs.Common.{length-append}
 use Rattle.std.specs.Int.{bit_at}
 use Rattle.std.specs.Prelude.{if◌then◌else◌}
 use Rattle.std.proofs.lemmas.Nat.Bits.{same_from_bits_below, bit_at-zero}
-use Rattle.xc_input.proofs.ListLemmas.{IsIn, EachTwo, EachTwo-append, by_bool, in-append, append-in_left}
-use Rattle.xc_input.proofs.ListLemmas.{append-in_right}
+use Rattle.xc_text.proofs.ListLemmas.{IsIn, EachTwo, EachTwo-append, by_bool, in-append, append-in_left}
+use Rattle.xc_text.proofs.ListLemmas.{append-in_right}
 use Rattle.xc_words.specs.declared.bounded.BoundedWords.{BoundedWords}
 use Rattle.xc_words.specs.Words.{bits_from}
 use Rattle.xc_words.specs.Bounded.{is_fair, fair_sets}

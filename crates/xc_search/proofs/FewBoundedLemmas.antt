@@ -2,7 +2,7 @@
 use Rattle.std.proofs.Common.{ℕ, ◌≡◌, ◌<◌, ◌-◌, ◌^◌, List, Option, Some, None, arith, ap, subst, sym, ◌∙◌, length}
 use Rattle.std.specs.Prelude.{IfSome}
 use Rattle.xc_input.specs.Problem.{Puzzle, primary_count}
-use Rattle.xc_input.proofs.ListLemmas.{map-in}
+use Rattle.xc_text.proofs.ListLemmas.{map-in}
 use Rattle.xc_moves.specs.declared.dance.Move.{Move}
 use Rattle.xc_moves.specs.Moves.{IsOpenPrimary, listed, open_items}
 use Rattle.xc_moves.proofs.LeftLemmas.{listed_open}

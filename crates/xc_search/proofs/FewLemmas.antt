@@ -7,7 +7,7 @@ use Rattle.std.proofs.lemmas.Nat.{pow_pos}
 use Rattle.std.proofs.lemmas.List.{length-map}
 use Rattle.std.proofs.lemmas.List.Elements.{All-from_recursion}
 use Rattle.xc_input.specs.Problem.{Puzzle, IsItem, IsOption}
-use Rattle.xc_input.proofs.ListLemmas.{each_from, map-in}
+use Rattle.xc_text.proofs.ListLemmas.{each_from, map-in}
 use Rattle.xc_moves.specs.declared.dance.Move.{Move}
 use Rattle.xc_moves.specs.Moves.{IsOpenPrimary, listed, open_items}
 use Rattle.xc_moves.proofs.LeftLemmas.{listed_open}

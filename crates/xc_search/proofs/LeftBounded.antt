@@ -13,8 +13,8 @@ use Rattle.std.proofs.lemmas.Nat.{and_le_r}
 use Rattle.std.proofs.lemmas.Nat.Bits.{bit_at_and, bit_at_ones, bit_at-zero}
 use Rattle.std.proofs.lemmas.Nat.Bits.{same_from_bits_below, bit_at_ones_above}
 use Rattle.xc_input.specs.Problem.{Numbered, holds, holding}
-use Rattle.xc_input.proofs.ListLemmas.{IsIn, by_bool, EachTwo, EachTwo-weaker, in-filter, filter-in}
-use Rattle.xc_input.proofs.ListLemmas.{each_two_from_AllPairs, length-filter-le, filter_both}
+use Rattle.xc_text.proofs.ListLemmas.{IsIn, by_bool, EachTwo, EachTwo-weaker, in-filter, filter-in}
+use Rattle.xc_text.proofs.ListLemmas.{each_two_from_AllPairs, length-filter-le, filter_both}
 use Rattle.xc_words.specs.declared.bounded.BoundedWords.{BoundedWords}
 use Rattle.xc_words.specs.Words.{bits_of}
 use Rattle.xc_words.specs.Bounded.{fair_sets, times_in}

@@ -6,8 +6,8 @@ use Rattle.std.specs.Int.{bit_at}
 use Rattle.std.proofs.lemmas.List.Elements.{recursion_from_All}
 use Rattle.std.proofs.lemmas.Nat.Bits.{bit_at_ones}
 use Rattle.xc_input.specs.Problem.{Puzzle, Numbered, primary_count, uses_of, colour_in, holds, holding}
-use Rattle.xc_input.proofs.ListLemmas.{IsIn, EachTwo-weaker, by_bool, each_at, in-contains, in-slice_get, slice_get-in}
-use Rattle.xc_input.proofs.ListLemmas.{length-filter-le, map-in, AllPairs-from_each_two}
+use Rattle.xc_text.proofs.ListLemmas.{IsIn, EachTwo-weaker, by_bool, each_at, in-contains, in-slice_get, slice_get-in}
+use Rattle.xc_text.proofs.ListLemmas.{length-filter-le, map-in, AllPairs-from_each_two}
 use Rattle.xc_moves.specs.declared.dance.Move.{Move}
 use Rattle.xc_moves.specs.inner.Left.{left}
 use Rattle.xc_moves.specs.Moves.{listed, open_items, IsOpenPrimary}

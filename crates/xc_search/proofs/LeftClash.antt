@@ -9,7 +9,7 @@ use Rattle.std.proofs.lemmas.Bool.Decides.{nat_tests}
 use Rattle.std.proofs.lemmas.List.Elements.{recursion_from_All}
 use Rattle.xc_input.specs.Problem.{Puzzle, Numbered, primary_count, holds, colour_at, IsSoundUse}
 use Rattle.xc_input.specs.declared.problem.Use.{Use}
-use Rattle.xc_input.proofs.ListLemmas.{IsIn, by_bool, by_option, each_in, map-in}
+use Rattle.xc_text.proofs.ListLemmas.{IsIn, by_bool, by_option, each_in, map-in}
 use Rattle.xc_moves.specs.declared.dance.Move.{Move}
 use Rattle.xc_moves.specs.inner.Left.{left}
 use Rattle.xc_moves.specs.Moves.{agrees, open_items}

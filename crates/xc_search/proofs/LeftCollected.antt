@@ -5,8 +5,8 @@ use Rattle.std.specs.Prelude.{is_some}
 use Rattle.std.proofs.lemmas.Bool.{leb-false}
 use Rattle.xc_input.specs.Problem.{Puzzle, Numbered, primary_count, holds, colour_in}
 use Rattle.xc_input.specs.declared.problem.Use.{Use}
-use Rattle.xc_input.proofs.ListLemmas.{IsIn, EachTwo, EachTwo-flat_map, EachTwo-weaker, by_bool, in-map}
-use Rattle.xc_input.proofs.ListLemmas.{in-contains, map-in, in-filter, filter-in, in-flat_map, flat_map-in}
+use Rattle.xc_text.proofs.ListLemmas.{IsIn, EachTwo, EachTwo-flat_map, EachTwo-weaker, by_bool, in-map}
+use Rattle.xc_text.proofs.ListLemmas.{in-contains, map-in, in-filter, filter-in, in-flat_map, flat_map-in}
 use Rattle.xc_moves.specs.declared.dance.Move.{Move}
 use Rattle.xc_moves.specs.inner.Left.{left}
 use Rattle.xc_moves.specs.Moves.{AreLegal, listed, open_items, IsOpenPrimary}

@@ -7,8 +7,8 @@ use Rattle.std.specs.List.{range_with_len}
 use Rattle.std.proofs.lemmas.List.Elements.{recursion_from_All}
 use Rattle.xc_input.specs.Problem.{Puzzle, Numbered, IsValid, IsItem, primary_count, low_at, high_at, holds}
 use Rattle.xc_input.specs.Problem.{AreSoundBounds, IsSoundUse}
-use Rattle.xc_input.proofs.ListLemmas.{IsIn, EachTwo, EachTwo-map, each_from, each_in, each_at}
-use Rattle.xc_input.proofs.ListLemmas.{by_bool, by_option, in-map, map-in, in-filter, filter-in, in-contains}
+use Rattle.xc_text.proofs.ListLemmas.{IsIn, EachTwo, EachTwo-map, each_from, each_in, each_at}
+use Rattle.xc_text.proofs.ListLemmas.{by_bool, by_option, in-map, map-in, in-filter, filter-in, in-contains}
 use Rattle.xc_moves.specs.declared.dance.Move.{Move}
 use Rattle.xc_moves.specs.inner.Left.{left}
 use Rattle.xc_moves.specs.inner.Rising.{Rises}

@@ -9,7 +9,7 @@ use Rattle.std.proofs.lemmas.List.Elements.{recursion_from_All}
 use Rattle.xc_input.specs.Problem.{Puzzle, Numbered, primary_count, high_at, holds, colour_at}
 use Rattle.xc_input.specs.Problem.{IsSoundUse}
 use Rattle.xc_input.specs.declared.problem.Use.{Use}
-use Rattle.xc_input.proofs.ListLemmas.{IsIn, each_both, by_bool, by_option}
+use Rattle.xc_text.proofs.ListLemmas.{IsIn, each_both, by_bool, by_option}
 use Rattle.xc_moves.specs.declared.dance.Move.{Move}
 use Rattle.xc_moves.specs.inner.Left.{left}
 use Rattle.xc_moves.specs.Moves.{agrees, spends}

@@ -3,7 +3,7 @@ use Rattle.std.proofs.Common.{ℕ, zero, suc, ◌≡◌, ◌≢◌, List, [], �
 use Rattle.std.specs.Prelude.{slice_get, AllPairs, is_some}
 use Rattle.std.proofs.lemmas.List.{length-map}
 use Rattle.xc_input.specs.Problem.{Puzzle, Numbered, uses_of, colour_in}
-use Rattle.xc_input.proofs.ListLemmas.{IsIn, in-slice_get, slice_get-in, AllPairs-from_each_two}
+use Rattle.xc_text.proofs.ListLemmas.{IsIn, in-slice_get, slice_get-in, AllPairs-from_each_two}
 use Rattle.xc_moves.specs.declared.dance.Move.{Move}
 use Rattle.xc_moves.specs.inner.Left.{left}
 use Rattle.xc_moves.specs.Moves.{open_items}

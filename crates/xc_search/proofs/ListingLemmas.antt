@@ -13,13 +13,13 @@ use Rattle.xc_input.specs.Problem.{Numbered, colour_in, holds, holding, Puzzle, 
 use Rattle.xc_input.specs.Problem.{IsSoundOption, IsValid, primary_count, colour_at, IsItem, AreSoundBounds, IsSoundUse}
 use Rattle.xc_input.specs.declared.problem.Use.{Use}
 use Rattle.xc_input.specs.declared.problem.Bounds.{Bounds}
-use Rattle.xc_input.proofs.ListLemmas.{IsIn, EachTwo, EachTwo-of, each_from, each_both, EachTwo-weaker}
-use Rattle.xc_input.proofs.ListLemmas.{each_two_from_AllPairs, length-filter-le, by_bool, by_option, get_left, get_seam}
-use Rattle.xc_input.proofs.ListLemmas.{get_numbered, get_take, not_some, length-filter-cons, each_in, each_weaker}
-use Rattle.xc_input.proofs.ListLemmas.{each-append, each-map, each-numbered, in-filter, in-append, append-in_left}
-use Rattle.xc_input.proofs.ListLemmas.{append-in_right, in-map, map-in, in-flat_map, flat_map-in, in-take}
-use Rattle.xc_input.proofs.ListLemmas.{in-enumerated, enumerated-in, flat_map-same, each_at, filter-in, in-contains}
-use Rattle.xc_input.proofs.ListLemmas.{and_right, each-filter, EachTwo-map, and_left, filter_swap, keep_all}
+use Rattle.xc_text.proofs.ListLemmas.{IsIn, EachTwo, EachTwo-of, each_from, each_both, EachTwo-weaker}
+use Rattle.xc_text.proofs.ListLemmas.{each_two_from_AllPairs, length-filter-le, by_bool, by_option, get_left, get_seam}
+use Rattle.xc_text.proofs.ListLemmas.{get_numbered, get_take, not_some, length-filter-cons, each_in, each_weaker}
+use Rattle.xc_text.proofs.ListLemmas.{each-append, each-map, each-numbered, in-filter, in-append, append-in_left}
+use Rattle.xc_text.proofs.ListLemmas.{append-in_right, in-map, map-in, in-flat_map, flat_map-in, in-take}
+use Rattle.xc_text.proofs.ListLemmas.{in-enumerated, enumerated-in, flat_map-same, each_at, filter-in, in-contains}
+use Rattle.xc_text.proofs.ListLemmas.{and_right, each-filter, EachTwo-map, and_left, filter_swap, keep_all}
 use Rattle.xc_input.proofs.OptionLemmas.{numbered_from}
 use Rattle.xc_moves.proofs.MoveLemmas.{Rises, numbers, rises_filter, options_rise}
 use Rattle.xc_search.specs.Listing.{Wanted, Residual, Branch, branches_of, branch_count, branch_item, first_least}

@@ -13,8 +13,8 @@ use Rattle.std.proofs.lemmas.List.Elements.{recursion_from_All}
 use Rattle.xc_input.specs.declared.problem.Use.{Use}
 use Rattle.xc_input.specs.Problem.{Puzzle, primary_count, IsPrimary, uses_of, AreSoundBounds, IsValid}
 use Rattle.xc_input.specs.declared.problem.Bounds.{Bounds}
-use Rattle.xc_input.proofs.ListLemmas.{each_weaker, IsIn, by_number, by_bool, by_option, in-map, in-filter, each_in}
-use Rattle.xc_input.proofs.ListLemmas.{map-map, mapped_none, mapped_some, map-same, drop_at, each_at, length-filter-le}
+use Rattle.xc_text.proofs.ListLemmas.{each_weaker, IsIn, by_number, by_bool, by_option, in-map, in-filter, each_in}
+use Rattle.xc_text.proofs.ListLemmas.{map-map, mapped_none, mapped_some, map-same, drop_at, each_at, length-filter-le}
 use Rattle.xc_moves.specs.declared.dance.Move.{Move}
 use Rattle.xc_moves.specs.Moves.{is_open, open_items, AreLegal, AreTweaks}
 use Rattle.xc_moves.specs.Places.{link_place}

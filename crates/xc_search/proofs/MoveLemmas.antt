@@ -17,10 +17,10 @@ use Rattle.xc_input.specs.Problem.{Puzzle, Numbered, holds, high_at, IsItem, hol
 use Rattle.xc_input.specs.Problem.{numbered_options, colour_in, item_count, use_count}
 use Rattle.xc_input.specs.UsePlaces.{place_in}
 use Rattle.xc_input.specs.declared.problem.Bounds.{Bounds}
-use Rattle.xc_input.proofs.ListLemmas.{each_of_all, filter_both, keep_all, only_rest, drop_one, in-filter, in-slice_get}
-use Rattle.xc_input.proofs.ListLemmas.{each_from, by_bool, by_number, each_weaker, each_passes, each_at, each_turned}
-use Rattle.xc_input.proofs.ListLemmas.{each_both, length-filter-le, total, total_zero, total_le, total_less, one_if}
-use Rattle.xc_input.proofs.ListLemmas.{total_same, total_two, total_once, IsIn, total_shifted}
+use Rattle.xc_text.proofs.ListLemmas.{each_of_all, filter_both, keep_all, only_rest, drop_one, in-filter, in-slice_get}
+use Rattle.xc_text.proofs.ListLemmas.{each_from, by_bool, by_number, each_weaker, each_passes, each_at, each_turned}
+use Rattle.xc_text.proofs.ListLemmas.{each_both, length-filter-le, total, total_zero, total_le, total_less, one_if}
+use Rattle.xc_text.proofs.ListLemmas.{total_same, total_two, total_once, IsIn, total_shifted}
 use Rattle.xc_input.proofs.OptionLemmas.{numbered_from}
 use Rattle.xc_moves.specs.declared.dance.Move.{Move}
 use Rattle.xc_moves.specs.declared.dance.Move.TheVariants.{Cover, Tweak, Spend, Purify}

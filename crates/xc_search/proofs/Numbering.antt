@@ -5,8 +5,8 @@ use Rattle.std.specs.Prelude.{slice_get, sum_by}
 use Rattle.std.specs.List.{range_with_len}
 use Rattle.std.proofs.lemmas.Bool.{eqb-false}
 use Rattle.std.proofs.lemmas.List.Sums.{sum_by-cons}
-use Rattle.xc_input.proofs.ListLemmas.{IsIn, by_bool, EachTwo, each_from, each_in, in-filter, filter-in, in-slice_get}
-use Rattle.xc_input.proofs.ListLemmas.{keep_all}
+use Rattle.xc_text.proofs.ListLemmas.{IsIn, by_bool, EachTwo, each_from, each_in, in-filter, filter-in, in-slice_get}
+use Rattle.xc_text.proofs.ListLemmas.{keep_all}
 use Rattle.xc_search.proofs.Matched.{EachTwo-filter}
 
 -- no two are the same

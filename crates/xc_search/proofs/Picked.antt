@@ -5,8 +5,8 @@ use Rattle.std.specs.Prelude.{slice_get}
 use Rattle.std.specs.Int.{bit_at}
 use Rattle.std.specs.List.{enumerate_from}
 use Rattle.std.proofs.lemmas.Nat.Bits.{bit_at_ones, bit_at-zero}
-use Rattle.xc_input.proofs.ListLemmas.{IsIn, by_bool, EachTwo, each_from, each_in, in-filter, in-map, in-enumerated}
-use Rattle.xc_input.proofs.ListLemmas.{filter-in, map-in}
+use Rattle.xc_text.proofs.ListLemmas.{IsIn, by_bool, EachTwo, each_from, each_in, in-filter, in-map, in-enumerated}
+use Rattle.xc_text.proofs.ListLemmas.{filter-in, map-in}
 
 -- bit i of m is set
 abbrev pub has : ℕ → ℕ → Bool

@@ -17,9 +17,9 @@ use Rattle.xc_input.specs.Problem.{Numbered, colour_in, holds, Puzzle, primary_c
 use Rattle.xc_input.specs.Problem.{IsSecondary, IsSoundUse, IsValid, bounds_at, low_at}
 use Rattle.xc_input.specs.UsePlaces.{place_in}
 use Rattle.xc_input.specs.declared.problem.Bounds.{Bounds}
-use Rattle.xc_input.proofs.ListLemmas.{filter_both, keep_all, each_of_all, by_bool, drop_at, map-same, EachTwo-swapped}
-use Rattle.xc_input.proofs.ListLemmas.{each_weaker, filter_same, filter-map, map-map, each-map, each_both, each-filter}
-use Rattle.xc_input.proofs.ListLemmas.{by_option, each_at, each_from, in-map, in-filter, each_in}
+use Rattle.xc_text.proofs.ListLemmas.{filter_both, keep_all, each_of_all, by_bool, drop_at, map-same, EachTwo-swapped}
+use Rattle.xc_text.proofs.ListLemmas.{each_weaker, filter_same, filter-map, map-map, each-map, each_both, each-filter}
+use Rattle.xc_text.proofs.ListLemmas.{by_option, each_at, each_from, in-map, in-filter, each_in}
 use Rattle.xc_input.proofs.TokenLemmas.{numbered_get-at}
 use Rattle.xc_moves.specs.declared.dance.Move.{Move}
 use Rattle.xc_moves.specs.declared.dance.Move.TheVariants.{Cover, Purify, Spend}

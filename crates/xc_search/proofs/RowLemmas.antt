@@ -11,9 +11,9 @@ use Rattle.std.proofs.lemmas.List.Sums.{sum_by-cons}
 use Rattle.std.proofs.lemmas.Grind.{common_steps, flat_map-append}
 use Rattle.std.proofs.lemmas.List.Elements.{filter-append}
 use Rattle.xc_input.specs.Problem.{Puzzle, holding}
-use Rattle.xc_input.proofs.ListLemmas.{by_bool, EachTwo, EachTwo-map, EachTwo-flat_map, AllPairs-from_each_two, IsIn}
-use Rattle.xc_input.proofs.ListLemmas.{each_from, in-map, slice_get-in, each_weaker, filter_same, keep_all, by_option}
-use Rattle.xc_input.proofs.ListLemmas.{by_number, mapped_none, each-append, each-map, each_of_all, map-same, drop_at}
+use Rattle.xc_text.proofs.ListLemmas.{by_bool, EachTwo, EachTwo-map, EachTwo-flat_map, AllPairs-from_each_two, IsIn}
+use Rattle.xc_text.proofs.ListLemmas.{each_from, in-map, slice_get-in, each_weaker, filter_same, keep_all, by_option}
+use Rattle.xc_text.proofs.ListLemmas.{by_number, mapped_none, each-append, each-map, each_of_all, map-same, drop_at}
 use Rattle.xc_moves.specs.declared.dance.Move.{Move}
 use Rattle.xc_search.specs.Spans.{precedes, row_of, is_before, between, spans_from, RowsRise}
 use Rattle.xc_search.specs.declared.choice.Choice.{Choice}

@@ -8,8 +8,8 @@ use Rattle.std.proofs.lemmas.Option.{slice_get_within}
 use Rattle.std.proofs.lemmas.Nat.Bits.{bit_at_and, bit_at_not, bit_at-lt}
 use Rattle.xc_input.specs.Problem.{Numbered, holds}
 use Rattle.xc_input.specs.declared.problem.Use.{Use}
-use Rattle.xc_input.proofs.ListLemmas.{IsIn, by_bool, by_option, slice_get-in, each_from, filter_both}
-use Rattle.xc_input.proofs.ListLemmas.{filter_same, in-filter}
+use Rattle.xc_text.proofs.ListLemmas.{IsIn, by_bool, by_option, slice_get-in, each_from, filter_both}
+use Rattle.xc_text.proofs.ListLemmas.{filter_same, in-filter}
 use Rattle.xc_words.specs.declared.words.Words.{Words}
 use Rattle.xc_words.specs.Words.{and_not}
 use Rattle.xc_search.specs.Listing.{Wanted, Residual, pick, stays, spend_one, may_stay}

@@ -7,7 +7,7 @@ use Rattle.std.specs.List.{AllByRecursion}
 use Rattle.std.proofs.lemmas.Grind.{flat_map-append}
 use Rattle.std.proofs.lemmas.List.{take-append-drop}
 use Rattle.xc_input.specs.Problem.{Puzzle}
-use Rattle.xc_input.proofs.ListLemmas.{each-map, each_weaker, each_of_all}
+use Rattle.xc_text.proofs.ListLemmas.{each-map, each_weaker, each_of_all}
 use Rattle.xc_moves.specs.Dancing.{Dancing, moves_made}
 use Rattle.xc_moves.specs.declared.dance.Move.{Move}
 use Rattle.xc_search.specs.declared.choice.Choice.{Choice}

@@ -7,7 +7,7 @@ use Rattle.std.proofs.lemmas.List.Elements.{filter_agree}
 use Rattle.std.specs.Prelude.{IfSome, unwrap_or, option_map, ◌||◌, ◌^◌, drop}
 use Rattle.std.proofs.Math.Nat.{mul-add}
 use Rattle.xc_input.specs.Problem.{Puzzle}
-use Rattle.xc_input.proofs.ListLemmas.{by_bool, by_number, mapped_none}
+use Rattle.xc_text.proofs.ListLemmas.{by_bool, by_number, mapped_none}
 use Rattle.xc_moves.specs.declared.dance.Move.{Move}
 use Rattle.xc_moves.specs.Dancing.{Dancing, moves_made}
 use Rattle.xc_search.specs.declared.choice.Choice.{Choice}

@@ -10,9 +10,9 @@ use Rattle.std.proofs.Math.Seq.{drop-append-add}
 use Rattle.std.proofs.lemmas.Grind.{common_steps}
 use Rattle.std.proofs.lemmas.Bool.Decides.{nat_tests}
 use Rattle.xc_input.specs.Problem.{Puzzle, holds}
-use Rattle.xc_input.proofs.ListLemmas.{each-append, each-map, each_weaker, each_of_all, keep_all, map-map, IsIn}
-use Rattle.xc_input.proofs.ListLemmas.{in-contains, contains-in, filter-in, in-map, in-slice_get, filter_both, by_bool}
-use Rattle.xc_input.proofs.ListLemmas.{by_number}
+use Rattle.xc_text.proofs.ListLemmas.{each-append, each-map, each_weaker, each_of_all, keep_all, map-map, IsIn}
+use Rattle.xc_text.proofs.ListLemmas.{in-contains, contains-in, filter-in, in-map, in-slice_get, filter_both, by_bool}
+use Rattle.xc_text.proofs.ListLemmas.{by_number}
 use Rattle.xc_moves.specs.declared.dance.Move.{Move}
 use Rattle.xc_moves.specs.Dancing.{Dancing, moves_made}
 use Rattle.xc_moves.specs.Moves.{AreLegal, open_items}

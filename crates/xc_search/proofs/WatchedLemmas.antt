@@ -5,7 +5,7 @@ use Rattle.std.specs.Prelude.{All, Contains, IfSome}
 use Rattle.std.proofs.lemmas.List.{take_more_set, length-set}
 use Rattle.std.proofs.lemmas.List.Elements.{All-nil, All-push, Contains-append_left, Contains-push}
 use Rattle.xc_input.specs.Problem.{Puzzle, high_at}
-use Rattle.xc_input.proofs.ListLemmas.{by_bool, IsIn, filter-in, in-filter}
+use Rattle.xc_text.proofs.ListLemmas.{by_bool, IsIn, filter-in, in-filter}
 use Rattle.xc_moves.specs.declared.dance.Move.{Move}
 use Rattle.xc_moves.specs.Moves.{open_items, next_above, IsOpenPrimary, listed, spends}
 use Rattle.xc_moves.proofs.MoveLemmas.{next_above-split, next_above-none, next_above-open}

@@ -13,9 +13,9 @@ use Rattle.std.proofs.lemmas.Nat.{and_le_l, pow_pos}
 use Rattle.std.proofs.lemmas.Nat.Bits.{bit_at_and, bit_at_above, bit_at-lt, bit_at_ones}
 use Rattle.xc_input.specs.Problem.{Numbered, holds, holding, colour_in}
 use Rattle.xc_input.specs.declared.problem.Use.{Use}
-use Rattle.xc_input.proofs.ListLemmas.{IsIn, by_bool, by_option, EachTwo, EachTwo-weaker, each_from, and_left}
-use Rattle.xc_input.proofs.ListLemmas.{not_some, list_all-each, in-filter, filter-in, filter_both, filter_same}
-use Rattle.xc_input.proofs.ListLemmas.{each_two_from_AllPairs, in-slice_get, and_right, keep_all}
+use Rattle.xc_text.proofs.ListLemmas.{IsIn, by_bool, by_option, EachTwo, EachTwo-weaker, each_from, and_left}
+use Rattle.xc_text.proofs.ListLemmas.{not_some, list_all-each, in-filter, filter-in, filter_both, filter_same}
+use Rattle.xc_text.proofs.ListLemmas.{each_two_from_AllPairs, in-slice_get, and_right, keep_all}
 use Rattle.xc_moves.proofs.MoveLemmas.{rises_filter}
 use Rattle.xc_words.specs.declared.words.Words.{Words}
 use Rattle.xc_words.specs.Words.{and_not, bits_of, CountsBranches}

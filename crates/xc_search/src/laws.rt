@@ -1,7 +1,7 @@
 //! Laws of the listing: its members are the covers, each once, and those of its spans in turn.
 ghost use Rattle.std.specs.Prelude.{ℕ, ◌≡◌, ◌<◌, ◌↔◌, List, [], ◌∷◌, ◌++◌, map, count_by, length, Some, None};
 ghost use Rattle.std.specs.Prelude.{Option, IfSome, AllPairs, true, false};
-ghost use Rattle.xc_input.specs.Laws.{IsEqualClone};
+ghost use Rattle.xc_text.specs.Equality.{IsEqualClone};
 ghost use Rattle.xc_input.specs.Problem.{Puzzle, IsValid};
 ghost use Rattle.xc_search.specs.Listing.{Residual, whole, branch_item, level, listing};
 ghost use Rattle.xc_search.specs.Ends.{ends};

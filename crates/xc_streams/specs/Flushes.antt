@@ -1,7 +1,7 @@
 -- What a flush behind all that was written does.
 use Rattle.std.specs.Prelude.{◌≡◌, ◌+◌, IsTrue}
 use Rattle.std.specs.Io.KnownBytes.{Keeps}
-use Rattle.xc_input.specs.Calls.{Rose}
+use Rattle.xc_text.specs.Calls.{Rose}
 use Rattle.xc_streams.specs.Texts.{SinkState}
 
 -- A sink was flushed once more, met no failure, and holds nothing back.

@@ -2,7 +2,7 @@
 use Rattle.std.specs.Prelude.{ℕ, ◌≡◌, ◌<◌, ◌≤◌, ◌+◌, ◌-◌, ◌⊎◌, List, [], Option, Result, MatchResult, IfOk, IsErr}
 use Rattle.std.specs.Prelude.{false, IsTrue, length, min, take}
 use Rattle.std.specs.Io.KnownBytes.{append_known, WriteAppends}
-use Rattle.xc_input.specs.Calls.{counted, is_failed_write}
+use Rattle.xc_text.specs.Calls.{counted, is_failed_write}
 use Rattle.xc_streams.specs.Streams.{IsLittle, answered, early, ends_line, is_failure, passed_of}
 use Rattle.xc_streams.specs.declared.outgoing.Outgoing.{Outgoing}
 use Rattle.xc_streams.specs.declared.system.SystemWriter.{Ghosts}

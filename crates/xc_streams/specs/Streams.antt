@@ -3,7 +3,7 @@
 use Rattle.std.specs.Prelude.{ℕ, ◌+◌, ◌-◌, ◌/◌, ◌^◌, ◌<◌, ◌≤◌, ◌≡◌, ◌⊎◌, nat_eq, min, Bool, true, false, List, codes}
 use Rattle.std.specs.Prelude.{length, Result, Ok, Err, if◌then◌else◌}
 use Rattle.std.specs.List.{ends_with}
-use Rattle.xc_input.specs.Calls.{one_more, counted, Rose}
+use Rattle.xc_text.specs.Calls.{one_more, counted, Rose}
 use Rattle.xc_streams.specs.declared.system.Answer.{Answer}
 use Rattle.xc_streams.specs.declared.system.System.{System}
 use Rattle.xc_streams.specs.declared.system.Answer.TheVariants.{Whole, Part, Flushed, Failed}

@@ -1,7 +1,7 @@
 -- What is known of a sink after a text was written to it.
 use Rattle.std.specs.Prelude.{◌≡◌, ◌⊎◌, ℕ, ◌<◌, Bool, IsTrue, length, take, List, Result, MatchResult, Option}
 use Rattle.std.specs.Io.KnownBytes.{Appends}
-use Rattle.xc_input.specs.Calls.{Rose}
+use Rattle.xc_text.specs.Calls.{Rose}
 
 -- A source or a sink, and what is known of it.
 pub record Seen (T Known : Type 0) : Type 0 where

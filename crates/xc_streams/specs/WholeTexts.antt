@@ -1,6 +1,6 @@
 -- What is said of a source once its text was read.
 use Rattle.std.specs.Prelude.{◌≡◌, ℕ, Result, Ok, Err}
-use Rattle.xc_input.specs.Calls.{Rose}
+use Rattle.xc_text.specs.Calls.{Rose}
 use Rattle.xc_streams.specs.declared.whole_text.TextError.{TextError}
 use Rattle.xc_streams.specs.declared.whole_text.TextError.TheVariants.{Device, Memory}
 

@@ -1,14 +1,14 @@
 //! The system's writers as sinks that hold nothing back.
 ghost use Rattle.std.specs.Prelude.{◌≡◌, ◌+◌, ◌<◌, ◌≤◌, true, false, length, is_err, IfOk, IsErr, IsTrue};
 ghost use Rattle.std.specs.Io.KnownBytes.{Keeps, WriteAppends};
-ghost use Rattle.xc_input.specs.Calls.{counted, is_failed_write};
+ghost use Rattle.xc_text.specs.Calls.{counted, is_failed_write};
 ghost use Rattle.xc_streams.specs.Streams.{answered, flushed, write_answer, answer_of};
 ghost use Rattle.xc_streams.specs.declared.system.Answer.TheVariants.{Flushed};
 
-use crate::Flushes;
 use crate::sink::{Sink, WriteFailed};
 use crate::system::{System, SystemWriter};
 use std::io::Write;
+use xc_moves::Tally;
 
 /// A writer of the system as a sink that passes on each text at once. After a failure nothing is called
 /// of it.

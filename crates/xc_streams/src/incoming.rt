@@ -2,14 +2,14 @@
 ghost use Rattle.std.specs.Prelude.{◌≡◌, true, ◌+◌, ◌-◌, ◌^◌, ◌<◌, ◌≤◌, None, length, is_err, option_map, unwrap_or};
 ghost use Rattle.std.specs.Prelude.{Some, IfSome, min, IfOk, IsErr, OnErr, [], ◌∷◌, ◌++◌, take};
 ghost use Rattle.std.specs.Io.KnownBytes.{ReadConsumes};
-ghost use Rattle.xc_input.specs.Calls.{counted};
-ghost use Rattle.xc_input.specs.Pieces.{SourceState};
+ghost use Rattle.xc_text.specs.Calls.{counted};
+ghost use Rattle.xc_text.specs.Sources.{SourceState};
 ghost use Rattle.xc_streams.specs.Streams.{answered, answer_of};
 ghost use Rattle.xc_streams.specs.declared.system.Answer.TheVariants.{Whole};
 
 use crate::system::{System, SystemReader};
 use std::io::Read;
-use xc_input::{Given, ReadFailed, Source};
+use xc_text::{Given, ReadFailed, Source};
 
 /// A reader of the system as a source, or what could not be opened. After a failure nothing is called
 /// of it.

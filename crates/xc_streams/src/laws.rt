@@ -1,5 +1,5 @@
 //! That failures of sinks, answers of the system and errors of texts are compared or cloned as they are.
-ghost use Rattle.xc_input.specs.Laws.{DecidesEquality, IsEqualClone};
+ghost use Rattle.xc_text.specs.Equality.{DecidesEquality, IsEqualClone};
 
 use crate::sink::WriteFailed;
 use crate::system::Answer;

@@ -1,6 +1,6 @@
 //! From which place a line came.
 
-use xc_input::{Feed, SliceSource, Source};
+use xc_text::{Feed, SliceSource, Source};
 
 /// A line of a file.
 #[derive(Clone, Copy)]

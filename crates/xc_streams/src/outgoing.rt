@@ -6,11 +6,11 @@ ghost use Rattle.xc_streams.specs.declared.outgoing.held.TheConstants.{ROOM};
 mod held;
 mod writing;
 
-use crate::Flushes;
 use crate::outgoing::held::Held;
 use crate::system::{System, SystemWriter};
 use std::alloc::{AllocError, Global};
 use std::io::Write;
+use xc_moves::Tally;
 
 /// A writer of the system as a sink that holds some bytes back until it is flushed. The first failure
 /// of the system is its own at that call, and after it the system isn't called.

@@ -5,7 +5,7 @@ ghost use Rattle.std.specs.Prelude.{◌≡◌, ◌/◌, ◌%◌, ◌^◌, ℕ, L
 
 use std::io;
 use std::random::RandomSource;
-use xc_input::Seed;
+use xc_text::Seed;
 
 /// A source of sixteen random bytes.
 // In place of `RandomSource`, whose contract doesn't say which bytes a call gives.

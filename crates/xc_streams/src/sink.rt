@@ -4,13 +4,12 @@ ghost use Rattle.std.specs.Prelude.{◌≡◌, ◌+◌, ◌-◌, ◌^◌, ◌<�
 ghost use Rattle.std.specs.Prelude.{length, min, IfOk, IfErr, IsErr, IsOk, IsTrue, OnErr, is_err, OnOk, vec_capacity};
 ghost use Rattle.std.specs.Io.KnownBytes.{WriteAppends, Keeps};
 ghost use Rattle.xc_streams.specs.Texts.{SinkState};
-ghost use Rattle.xc_input.specs.Calls.{counted, is_failed_write};
+ghost use Rattle.xc_text.specs.Calls.{counted, is_failed_write};
 
-use crate::Flushes;
 use std::alloc::Global;
 use std::fmt;
 use thiserror::Error;
-use xc_moves::Memory;
+use xc_moves::{Memory, Tally};
 
 /// A write that failed.
 #[derive(Clone, Copy, Debug, PartialEq, Eq, Error)]

@@ -1,7 +1,7 @@
 //! The statuses that the programs end with.
 ghost use Rattle.std.specs.Prelude.{◌≡◌, ◌⊎◌, ◌+◌, IfErr, IsTrue, OnOk, codes};
 ghost use Rattle.std.specs.Io.KnownBytes.{Keeps};
-ghost use Rattle.xc_input.specs.Calls.{Rose};
+ghost use Rattle.xc_text.specs.Calls.{Rose};
 ghost use Rattle.xc_streams.specs.Texts.{WasTold};
 ghost use Rattle.xc_streams.specs.Flushes.{FlushFailed, WasFlushed};
 

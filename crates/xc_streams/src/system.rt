@@ -11,8 +11,8 @@ ghost use Rattle.xc_streams.specs.declared.system.Answer.TheVariants.{Whole, Flu
 
 use crate::sink::WriteFailed;
 use std::io::{Read, Write};
-use xc_input::ReadFailed;
 use xc_moves::Tally;
+use xc_text::ReadFailed;
 
 /// What the system answers one call.
 #[derive(Clone, Copy, Debug, PartialEq, Eq)]

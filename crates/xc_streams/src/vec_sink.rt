@@ -2,12 +2,12 @@
 ghost use Rattle.std.specs.Prelude.{◌≡◌, ◌+◌, ◌≤◌, ◌<◌, ◌^◌, true, false, [], Some, length, IfOk, IsErr, IsOk, IsTrue};
 ghost use Rattle.std.specs.Prelude.{OnErr, OnOk, is_err, vec_len, vec_capacity};
 ghost use Rattle.std.specs.Io.KnownBytes.{WriteAppends, Keeps};
-ghost use Rattle.xc_input.specs.Calls.{counted, is_failed_write};
+ghost use Rattle.xc_text.specs.Calls.{counted, is_failed_write};
 
-use crate::Flushes;
 use crate::sink::{Sink, WriteFailed};
 use std::alloc::Global;
 use std::fmt;
+use xc_moves::Tally;
 
 /// A sink over memory that grows as it is written to. Contracts know the bytes that it took. A write takes
 /// all of its bytes, or fails where there is no memory for them, and takes none.

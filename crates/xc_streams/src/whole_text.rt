@@ -1,11 +1,11 @@
 //! Reads a whole text.
 ghost use Rattle.std.specs.Prelude.{◌≡◌, length, IfOk};
-ghost use Rattle.xc_input.specs.Pieces.{GaveAll};
+ghost use Rattle.xc_text.specs.Sources.{GaveAll};
 ghost use Rattle.xc_streams.specs.WholeTexts.{IsCounted};
 ghost use Rattle.xc_streams.specs.declared.whole_text.TextError.TheVariants.{Device, Memory};
 
 use std::alloc::{AllocError, Global};
-use xc_input::{ReadFailed, Source};
+use xc_text::{ReadFailed, Source};
 
 /// How many bytes are read at once.
 const PIECE: usize = 65536;
@@ -35,7 +35,7 @@ impl From<AllocError> for TextError {
 }
 
 /// All that comes from a source.
-#[tactic(auto, using(std::proofs::lemmas::Grind::common_steps, xc_input::proofs::LineLemmas::gave_more))]
+#[tactic(auto, using(std::proofs::lemmas::Grind::common_steps, xc_text::proofs::LineLemmas::gave_more))]
 pub fn read_text<S: Source>(alloc: Global, source: &mut S) -> Result<Vec<u8>, TextError>
     ensures whole { IfOk result (λ text. GaveAll (S.state source.old) (S.state source.new) text.items) }
     ensures counted { IsCounted (S.state source.old).failures (S.state source.new).failures result }

@@ -9,11 +9,11 @@ use Rattle.std.proofs.lemmas.List.Elements.{recursion_from_All}
 use Rattle.std.proofs.lemmas.Slice.Eq.{bytes_eq-Decides}
 use Rattle.std.proofs.lemmas.List.Sums.{sum_by-cons}
 use Rattle.std.specs.Prelude.{if◌then◌else◌, ◌==◌, not, codes, sum_by}
-use Rattle.xc_input.specs.Words.{has}
-use Rattle.xc_input.specs.Lines.{lines_of}
-use Rattle.xc_input.specs.inner.Feeding.{ended, AreWhole}
-use Rattle.xc_input.proofs.ListLemmas.{by_bool}
-use Rattle.xc_input.proofs.LineLemmas.{lines_of-all, lines_of-ended, lines_of-part, ended-append}
+use Rattle.xc_text.specs.Words.{has}
+use Rattle.xc_text.specs.Lines.{lines_of}
+use Rattle.xc_text.specs.inner.LineFeeds.{ended, AreWhole}
+use Rattle.xc_text.proofs.ListLemmas.{by_bool}
+use Rattle.xc_text.proofs.LineLemmas.{lines_of-all, lines_of-ended, lines_of-part, ended-append}
 use Rattle.xc_check.specs.ListingLines.{words_in}
 use Rattle.xc_list.specs.SpanTexts.{row_text, most_counted}
 use Rattle.xc_list.specs.SearchedSpans.{SearchedSpan}

@@ -5,9 +5,9 @@ use Rattle.std.proofs.Common.{◌≡◌, ◌⊎◌, ℕ, ◌+◌, List, length, 
 use Rattle.std.proofs.Common.{refl}
 use Rattle.std.specs.Prelude.{codes, IsTrue, flat_map}
 use Rattle.std.specs.Io.KnownBytes.{Appends, Keeps}
-use Rattle.xc_input.specs.Calls.{Rose}
+use Rattle.xc_text.specs.Calls.{Rose}
 use Rattle.xc_input.specs.Named.{Named}
-use Rattle.xc_input.specs.Pieces.{SourceState}
+use Rattle.xc_text.specs.Sources.{SourceState}
 use Rattle.xc_search.specs.Cover.{EachMemberCovers, EachCoverIsListedOnce}
 use Rattle.xc_search.specs.declared.went.Went.{Went}
 use Rattle.xc_list.specs.declared.ends.End.{End}

@@ -15,11 +15,12 @@ use Rattle.std.proofs.lemmas.List.Elements.{recursion_from_All, All-from_recursi
 use Rattle.xc_input.specs.Named.{Named, IsKnownUse, IsSound}
 use Rattle.xc_input.specs.Problem.{IsOption, IsPrimary, Puzzle, colour_in, uses_of}
 use Rattle.xc_input.specs.UsePlaces.{place_in}
-use Rattle.xc_input.specs.Words.{has}
-use Rattle.xc_input.specs.inner.Feeding.{ended, AreWhole}
-use Rattle.xc_input.proofs.ListLemmas.{by_bool, each-map, each_weaker, EachTwo, IsIn, each_from, each_in, in-filter}
+use Rattle.xc_text.specs.Words.{has}
+use Rattle.xc_text.specs.inner.LineFeeds.{ended, AreWhole}
+use Rattle.xc_text.proofs.ListLemmas.{by_bool, each-map, each_weaker, EachTwo, IsIn, each_from, each_in, in-filter}
 use Rattle.xc_input.proofs.TokenLemmas.{digits}
-use Rattle.xc_input.proofs.LineLemmas.{ended-append, known_option}
+use Rattle.xc_text.proofs.LineLemmas.{ended-append}
+use Rattle.xc_input.proofs.LineLemmas.{known_option}
 use Rattle.xc_search.specs.Spans.{precedes, between, is_before, row_of}
 use Rattle.xc_search.specs.declared.choice.Choice.{Choice}
 use Rattle.xc_search.specs.Listing.{whole}

@@ -15,10 +15,11 @@ use Rattle.std.proofs.lemmas.Bool.{or_from}
 use Rattle.std.proofs.lemmas.Fmt.{decimal_injective, digits_value-decimal}
 use Rattle.std.proofs.lemmas.List.Folds.{list_any-append}
 use Rattle.std.proofs.lemmas.Slice.Eq.{bytes_eq-Decides}
-use Rattle.xc_input.specs.Words.{has}
-use Rattle.xc_input.proofs.ListLemmas.{by_bool}
-use Rattle.xc_input.proofs.LineLemmas.{lacks-append}
-use Rattle.xc_input.proofs.TokenLemmas.{digits, lacks-decimal, digits_read, value_from}
+use Rattle.xc_text.specs.Words.{has}
+use Rattle.xc_text.proofs.ListLemmas.{by_bool}
+use Rattle.xc_text.proofs.LineLemmas.{lacks-append}
+use Rattle.xc_input.proofs.TokenLemmas.{digits, lacks-decimal, digits_read}
+use Rattle.xc_text.proofs.NumberLemmas.{value_from}
 use Rattle.xc_input.proofs.WrittenTexts.{split-front}
 use Rattle.xc_input.proofs.FaultLemmas.{not_false}
 use Rattle.xc_search.specs.Spans.{precedes}

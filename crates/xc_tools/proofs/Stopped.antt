@@ -3,13 +3,13 @@ use Rattle.std.proofs.Common.{◌≡◌, ℕ, Bool, false, List, [], ◌∷◌, 
 use Rattle.std.proofs.Common.{arith, append_assoc, append-nil, subst, ◌⊎◌, inl, inr, ◌+◌, flat_map}
 use Rattle.std.specs.Prelude.{◌==◌, IsTrue, codes, if◌then◌else◌}
 use Rattle.std.specs.Io.KnownBytes.{Keeps}
-use Rattle.xc_input.specs.Words.{has}
-use Rattle.xc_input.specs.inner.Feeding.{ended, AreWhole}
-use Rattle.xc_input.specs.Calls.{Rose, one_more}
-use Rattle.xc_input.specs.LinesRead.{Advanced, LinesRead}
-use Rattle.xc_input.specs.declared.line_reader.Unread.{Unread}
-use Rattle.xc_input.specs.Pieces.{SourceState, Gave, GaveAll}
-use Rattle.xc_input.proofs.LineLemmas.{came-gave, gave_then, ended-append, gave_none}
+use Rattle.xc_text.specs.Words.{has}
+use Rattle.xc_text.specs.inner.LineFeeds.{ended, AreWhole}
+use Rattle.xc_text.specs.Calls.{Rose, one_more}
+use Rattle.xc_text.specs.LinesRead.{Advanced, LinesRead}
+use Rattle.xc_text.specs.declared.line_reader.Unread.{Unread}
+use Rattle.xc_text.specs.Sources.{SourceState, Gave, GaveAll}
+use Rattle.xc_text.proofs.LineLemmas.{came-gave, gave_then, ended-append, gave_none}
 use Rattle.xc_streams.specs.Texts.{SinkState, Took, BrokeOff, WasTold}
 use Rattle.xc_list.specs.SpanTexts.{most_counted}
 use Rattle.xc_list.specs.Messages.{summary_text}
@@ -36,7 +36,7 @@ use Rattle.xc_tools.proofs.Chains.{shapes-unfinished, shapes-written}
 use Rattle.xc_tools.proofs.ReadTexts.{ReadAs, meet-read, one-read, read-lines, shapes-read, start-read, texts_read}
 use Rattle.xc_tools.proofs.RunLemmas.{took_all}
 use Rattle.xc_tools.specs.declared.outcomes.Refusal.TheVariants as refusals
-use Rattle.xc_input.specs.declared.line_reader.Unread.TheVariants as unread
+use Rattle.xc_text.specs.declared.line_reader.Unread.TheVariants as unread
 
 -- ======== Lines of spans' texts that are read one after another.
 

@@ -6,7 +6,7 @@ use Rattle.std.specs.List.{join_with_byte, list_all}
 use Rattle.std.specs.Str.{byte, bytes_eq}
 use Rattle.std.proofs.lemmas.List.Splits.{join_with_byte-slice_split}
 use Rattle.std.proofs.lemmas.Bool.Decides.{nat_tests}
-use Rattle.xc_input.proofs.ListLemmas.{by_bool}
+use Rattle.xc_text.proofs.ListLemmas.{by_bool}
 use Rattle.xc_check.specs.ListingLines.{words_in, branch_number}
 use Rattle.xc_list.specs.SpanTexts.{most_counted, row_text}
 use Rattle.xc_tools.specs.SpanShapes.{is_digest}

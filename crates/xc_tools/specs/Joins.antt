@@ -4,8 +4,8 @@ use Rattle.std.specs.Prelude.{None}
 use Rattle.std.specs.Prelude.{MatchOption, drop, map, flat_map, codes, decimal, if◌then◌else◌, take, sum_by, nat_lt}
 use Rattle.std.specs.List.{enumerate_from}
 use Rattle.std.specs.Str.{bytes_eq}
-use Rattle.xc_input.specs.Calls.{Rose}
-use Rattle.xc_input.specs.Pieces.{SourceState, Gave, GaveAll}
+use Rattle.xc_text.specs.Calls.{Rose}
+use Rattle.xc_text.specs.Sources.{SourceState, Gave, GaveAll}
 use Rattle.xc_list.specs.SpanTexts.{most_counted, row_text}
 use Rattle.xc_list.specs.Messages.{summary_text}
 use Rattle.xc_list.specs.SearchedSpans.{SearchedSpan}

@@ -6,9 +6,9 @@ use Rattle.std.specs.Str.{bytes_eq}
 use Rattle.xc_input.specs.declared.kind.Kind.{Kind}
 use Rattle.xc_input.specs.declared.kind.Kind.TheVariants.{Plain, Colours, Bounds}
 use Rattle.xc_input.specs.Named.{Named}
-use Rattle.xc_input.specs.Lines.{lines_of}
-use Rattle.xc_input.specs.Calls.{Rose}
-use Rattle.xc_input.specs.Pieces.{SourceState, GaveAll}
+use Rattle.xc_text.specs.Lines.{lines_of}
+use Rattle.xc_text.specs.Calls.{Rose}
+use Rattle.xc_text.specs.Sources.{SourceState, GaveAll}
 use Rattle.xc_check.specs.Listed.{fault_in_lines, AreVerdicts}
 use Rattle.xc_streams.specs.Texts.{Seen}
 use Rattle.xc_check.specs.declared.verdict.Verdict.{Verdict}

@@ -4,7 +4,7 @@ use Rattle.std.specs.Prelude.{option_and_then}
 use Rattle.std.specs.Prelude.{All, Bool, false, flat_map, is_some, ◌&&◌, IsTrue}
 use Rattle.xc_input.specs.declared.kind.Kind.{Kind}
 use Rattle.xc_input.specs.Named.{Named}
-use Rattle.xc_input.specs.Pieces.{SourceState}
+use Rattle.xc_text.specs.Sources.{SourceState}
 use Rattle.xc_search.specs.Cover.{EachMemberCovers, EachCoverIsListedOnce}
 use Rattle.xc_search.specs.declared.went.Went.{Went}
 use Rattle.xc_list.specs.SearchedSpans.{SearchedSpan, IsSpan, text_of}

@@ -5,7 +5,7 @@ use Rattle.std.specs.Prelude.{◌==◌, ◌&&◌, ◌||◌, nat_le, map, flat_ma
 use Rattle.std.specs.Char.{is_ascii_digit}
 use Rattle.std.specs.List.{enumerate_from, list_all}
 use Rattle.std.specs.Str.{byte}
-use Rattle.xc_input.specs.Words.{has}
+use Rattle.xc_text.specs.Words.{has}
 use Rattle.xc_search.specs.Spans.{is_before, precedes}
 use Rattle.xc_check.specs.ListingLines.{branch_number}
 use Rattle.xc_list.specs.SearchedSpans.{AreSmall, SearchedSpan}

@@ -1,10 +1,11 @@
 -- What the whole runs of all programs have in common.
 use Rattle.std.specs.Prelude.{◌≡◌, ◌⊎◌, ℕ, ◌+◌, List, ◌++◌, IsTrue, codes, decimal}
 use Rattle.std.specs.Io.KnownBytes.{Appends}
-use Rattle.xc_input.specs.Calls.{Rose}
+use Rattle.xc_text.specs.Calls.{Rose}
 use Rattle.xc_input.specs.FaultTexts.{fault_text}
 use Rattle.xc_input.specs.Named.{Named}
-use Rattle.xc_input.specs.Pieces.{SourceState, IsPart, IsWhole}
+use Rattle.xc_text.specs.Sources.{SourceState}
+use Rattle.xc_input.specs.Pieces.{IsPart, IsWhole}
 use Rattle.xc_input.specs.declared.fault.InputError.{InputError}
 use Rattle.xc_input.specs.declared.fault.InputError.TheVariants.{Fault, Device, Memory}
 use Rattle.xc_input.specs.declared.kind.Kind.{Kind}

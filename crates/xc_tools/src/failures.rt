@@ -5,9 +5,10 @@ ghost use Rattle.xc_input.specs.FaultTexts.{fault_text};
 ghost use Rattle.xc_tools.specs.WholeRuns.{no_problem};
 ghost use Rattle.xc_tools.specs.Judges.{listing_fault_text};
 
+use xc_check::ListingFault;
 use xc_input::{FaultKind, InputError};
-use xc_list::{ListingFault, Sink, SinkFault, write_all, write_line};
 use xc_streams::status::{BAD_INPUT, FAILED, NO_MEMORY};
+use xc_streams::{Sink, SinkFault, write_all, write_line};
 
 fn write_fault<S: Sink>(line: u64, kind: FaultKind, sink: &mut S) -> Result<(), SinkFault>
     ensures { Writes (S.state sink.old) (S.state sink.new)

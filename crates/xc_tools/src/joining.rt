@@ -7,10 +7,10 @@ ghost use Rattle.std.specs.Prelude.{◌≡◌, ◌++◌, ◌∷◌, [], ℕ, Lis
 ghost use Rattle.std.specs.Prelude.{◌⊎◌, ◌==◌, IsOkAnd, drop, map, option_copied, if◌then◌else◌};
 ghost use Rattle.xc_list.specs.SpanTexts.{most_counted};
 ghost use Rattle.xc_list.specs.declared.ends.End.TheVariants.{Done, Limit};
-ghost use Rattle.xc_input.specs.Pieces.{GaveAll};
-ghost use Rattle.xc_input.specs.LinesRead.{IsLine};
-ghost use Rattle.xc_input.specs.Words.{has};
-ghost use Rattle.xc_input.specs.inner.Feeding.{ended};
+ghost use Rattle.xc_text.specs.Sources.{GaveAll};
+ghost use Rattle.xc_text.specs.LinesRead.{IsLine};
+ghost use Rattle.xc_text.specs.Words.{has};
+ghost use Rattle.xc_text.specs.inner.LineFeeds.{ended};
 ghost use Rattle.xc_streams.specs.Texts.{seen, Took, WasTold, Writes};
 ghost use Rattle.xc_tools.specs.Joins.{asked_join, gap_text, at_line, no_text, other_text, unread_text, DidJoin};
 ghost use Rattle.xc_tools.specs.Joins.{DidJoinWords};
@@ -27,12 +27,12 @@ use crate::solving::finish;
 use crate::span_lines::put_word;
 use itoa::Buffer;
 use std::alloc::{AllocError, Global};
-use xc_input::{Given, LineReader};
-use xc_list::{End, Sink, SinkFault, write_all, write_line};
+use xc_list::End;
 use xc_streams::status::{
     BAD_INPUT, BAD_WORDS, COMPLETE, FAILED, GAP, NO_MEMORY, flush_and_refuse, refuse, write_failed,
 };
-use xc_streams::{Located, source_at, source_text};
+use xc_streams::{Located, Sink, SinkFault, source_at, source_text, write_all, write_line};
+use xc_text::{Given, LineReader};
 
 /// Writes what is to be written for a line, which comes with its line feed.
 fn write_act<O: Sink>(act: Act, with_feed: &[u8], out: &mut O) -> Result<(), SinkFault>

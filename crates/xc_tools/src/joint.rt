@@ -1,7 +1,7 @@
 //! What a run that joins spans knows behind some lines.
 
-use xc_input::Given;
 use xc_list::TextDigest;
+use xc_text::Given;
 
 /// The row of an open solution beside the one before it.
 #[derive(Drop)]

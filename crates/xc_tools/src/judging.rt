@@ -13,13 +13,15 @@ ghost use Rattle.xc_tools.specs.Judges.{DidJudgeListing, DidJudge};
 
 use crate::failures::{listing_fault, no_problem};
 use std::alloc::Global;
-use xc_input::{Kind, Problem, Seed, Source, read_problem_by};
-use xc_list::{ListingFault, Sink, SinkFault, Verdict, check, write_all, write_number};
+use xc_check::{ListingFault, Verdict};
+use xc_input::{Kind, Problem, read_problem_by};
+use xc_list::check;
 use xc_streams::status::{
     BAD_INPUT, BAD_WORDS, COMPLETE, FAILED, NO_MEMORY, NOT_ALL_COVERS, flushed, out_of_memory,
     refuse, write_failed,
 };
-use xc_streams::{TextError, read_text};
+use xc_streams::{Sink, SinkFault, TextError, read_text, write_all, write_number};
+use xc_text::{Seed, Source};
 
 /// The kind of problem that a number stands for.
 pub(crate) fn numbered_kind(word: &[u8]) -> Option<Kind>

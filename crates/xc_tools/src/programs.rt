@@ -8,9 +8,8 @@ use std::alloc::AllocError;
 use std::io::IsTerminal;
 use std::process::ExitCode;
 use xc_input::Kind;
-use xc_list::Sink;
 use xc_streams::status::out_of_memory;
-use xc_streams::{Direct, Incoming, Outgoing, random_seed, words};
+use xc_streams::{Direct, Incoming, Outgoing, Sink, random_seed, words};
 
 /// The status of a program, or 4, which is reported, if there was no memory for its words and streams.
 fn told_status<E: Sink>(status: Result<u8, AllocError>, err: &mut E) -> u8

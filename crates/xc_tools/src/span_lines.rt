@@ -16,7 +16,8 @@ use crate::outcomes::{Act, Refusal};
 use crate::span_words::{heading_of, put_numbers, record_of, words_of};
 use itoa::Buffer;
 use std::alloc::{AllocError, Global};
-use xc_list::{TextDigest, branch_number};
+use xc_check::branch_number;
+use xc_list::TextDigest;
 
 fn begins_with(line: &[u8], byte: u8) -> bool
     ensures { result ≡ begins_with byte line.now }

@@ -9,9 +9,11 @@ ghost use Rattle.xc_tools.specs.SpanRuns.{asked_span, take_memory_of, DidSpan, D
 use crate::failures::no_problem;
 use crate::judging::numbered_kind;
 use std::alloc::{AllocError, Global};
-use xc_input::{Kind, Problem, Seed, Source, read_problem_by};
-use xc_list::{Sink, SpanFault, SpanWords, list_span};
+use xc_input::{Kind, Problem, read_problem_by};
+use xc_list::{SpanFault, SpanWords, list_span};
+use xc_streams::Sink;
 use xc_streams::status::{BAD_WORDS, COMPLETE, flushed, out_of_memory, refuse, write_failed};
+use xc_text::{Seed, Source};
 
 /// Reports which words there are.
 fn refuse_words<E: Sink>(err: &mut E) -> u8

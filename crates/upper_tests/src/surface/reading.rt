@@ -1,7 +1,7 @@
 //! The calls and types of `xc_input`, each by its signature.
 ghost use Rattle.std.specs.Prelude.{◌≡◌, ◌≤◌, ◌<◌, false, length};
 ghost use Rattle.xc_input.specs.Problem.{IsItem, IsOption};
-ghost use Rattle.xc_input.specs.Words.{has};
+ghost use Rattle.xc_text.specs.Words.{has};
 
 use std::alloc::Global;
 use xc_input::{

@@ -4,14 +4,12 @@ ghost use Rattle.std.specs.Prelude.{IfSome, option_map, codes, drop};
 ghost use Rattle.std.specs.Str.{bytes_eq};
 ghost use Rattle.std.specs.List.{list_all};
 ghost use Rattle.std.specs.Char.{is_ascii_digit};
-ghost use Rattle.xc_input.specs.Words.{has};
-ghost use Rattle.xc_input.specs.Lines.{lines_of};
-ghost use Rattle.xc_input.specs.Tokens.{is_space};
+ghost use Rattle.xc_text.specs.Words.{has, is_space, are_digits};
+ghost use Rattle.xc_text.specs.Lines.{lines_of};
 ghost use Rattle.xc_check.specs.LongNumbers.{long_number};
 ghost use Rattle.xc_check.specs.ListingLines.{words_in, before_last, header_number, is_word};
 ghost use Rattle.xc_check.specs.ListingLines.{is_opening, is_closing, is_ending, body_of_words, body_of};
 ghost use Rattle.xc_check.specs.ListingLines.{number_in_words, branch_number};
-ghost use Rattle.xc_input.specs.Words.{are_digits};
 ghost use Rattle.xc_check.specs.inner.Listings.{read};
 ghost use Rattle.xc_check.specs.inner.Checking.{line_said};
 

@@ -15,7 +15,8 @@ use crate::checker::rotation::rotate;
 use indexmap::IndexSet;
 use std::alloc::{AllocError, Global};
 use std::marker::Model;
-use xc_input::{Problem, Seed, Use};
+use xc_input::{Problem, Use};
+use xc_text::Seed;
 
 /// The use whose word this is. The definition compares whole words; cut at the first colon they say the same, since a
 /// name has none.

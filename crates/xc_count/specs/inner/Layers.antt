@@ -3,8 +3,8 @@ use Rattle.std.specs.Prelude.{ℕ, zero, suc, ◌≡◌, ◌+◌, ◌*◌, ◌^�
 use Rattle.std.specs.Prelude.{List, [], ◌∷◌, Option, Some, None, fold, length, map, sum_by, slice_get, if◌then◌else◌}
 use Rattle.std.specs.Hash.{le_bytes}
 use Rattle.natural.specs.Numerals.{limbs_above}
-use Rattle.xc_input.specs.Hashing.{folded, hashed}
-use Rattle.xc_input.specs.declared.seed.Seed.{Seed}
+use Rattle.xc_text.specs.Hashing.{folded, hashed}
+use Rattle.xc_text.specs.declared.seed.Seed.{Seed}
 use Rattle.xc_count.specs.declared.layer.Slot.{Slot}
 use Rattle.xc_count.specs.declared.layer.State.{State}
 

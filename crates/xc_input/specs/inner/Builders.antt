@@ -13,7 +13,7 @@ use Rattle.xc_input.specs.declared.written.WrittenUse.{WrittenUse}
 use Rattle.xc_input.specs.declared.stage.ProblemBuilder.{ProblemBuilder}
 use Rattle.xc_input.specs.declared.stage.Tables.{Tables}
 use Rattle.xc_input.specs.Named.{Named, IsName, IsSound}
-use Rattle.xc_input.specs.Tokens.{is_space}
+use Rattle.xc_text.specs.Words.{is_space}
 use Rattle.xc_input.specs.inner.Stored.{pieces, AreWords, named_from, IsOptional, AreOptionStarts, key_names}
 use Rattle.xc_input.specs.inner.Stages.{Stage, Row, Sheet, names_of}
 use Rattle.xc_input.specs.Sheets.{Entry, Written}

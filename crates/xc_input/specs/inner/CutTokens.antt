@@ -1,9 +1,9 @@
 -- No public clause cites this module. What is at the front of a line, and how tokens are cut.
 use Prim.Native.Char.{code}
 use Rattle.std.specs.Prelude.{◌≡◌, ℕ, List, [], ◌∷◌, ◌++◌, true, if◌then◌else◌, ◌<◌, false, length, drop, MatchOption}
-use Rattle.xc_input.specs.Tokens.{is_space, tokens}
+use Rattle.xc_text.specs.Words.{is_space, has, before, after, place}
+use Rattle.xc_input.specs.Tokens.{tokens}
 use Rattle.xc_input.specs.declared.written.Token.{Token}
-use Rattle.xc_input.specs.Words.{has, before, after, place}
 use Rattle.xc_input.specs.Faults.{bound_texts}
 
 -- ======== What is at the front of a line.

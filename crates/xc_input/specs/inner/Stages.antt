@@ -12,7 +12,7 @@ use Rattle.xc_input.specs.declared.fault.FaultKind.{FaultKind}
 use Rattle.xc_input.specs.declared.fault.FaultKind.TheVariants.{TwoBars, UnknownItem, RepeatedInOption, ColourOnPrimary}
 use Rattle.xc_input.specs.declared.fault.FaultKind.TheVariants.{BadColour, ColourNotHere, NulByte, TooManyUses}
 use Rattle.xc_input.specs.Limits.{most_uses}
-use Rattle.xc_input.specs.Words.{has, before, after, place, number}
+use Rattle.xc_text.specs.Words.{has, before, after, place, number}
 use Rattle.xc_input.specs.Tokens.{tokens, parts, is_bar, is_skipped}
 use Rattle.xc_input.specs.Faults.{Context, is_plain, name_checks, has_prefix, name_of, bound_texts, item_checks}
 use Rattle.xc_input.specs.Faults.{is_bad_colour, has_primary}

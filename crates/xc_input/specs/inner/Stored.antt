@@ -3,10 +3,10 @@ use Rattle.std.specs.Prelude.{ℕ, ◌≤◌, ◌≡◌, List, [], ◌∷◌, sl
 use Rattle.std.specs.Prelude.{slice_get, ◌+◌, ◌*◌, ◌<◌, get_or}
 use Rattle.std.specs.Option.{option_map}
 use Rattle.std.specs.declared.alloc.Global.{Global}
-use Rattle.xc_input.specs.Words.{place}
+use Rattle.xc_text.specs.Words.{place}
 use Rattle.xc_input.specs.declared.problem.Item.{Item}
 use Rattle.xc_input.specs.declared.problem.Use.{Use}
-use Rattle.xc_input.specs.declared.seed.Seed.{Seed}
+use Rattle.xc_text.specs.declared.seed.Seed.{Seed}
 use Rattle.xc_input.specs.ItemBounds.{bounds_of, secondary_bounds}
 use Rattle.xc_input.specs.Named.{Named}
 

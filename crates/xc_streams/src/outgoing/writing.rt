@@ -17,15 +17,15 @@
 ghost use Rattle.std.specs.Prelude.{◌≡◌, ◌+◌, ◌-◌, ◌^◌, ◌<◌, ◌≤◌, ◌⊎◌, ◌↔◌, ◌&&◌, cond, true, false, length, nat_eq};
 ghost use Rattle.std.specs.Prelude.{is_err, IfOk, IsErr, IsTrue, OnOk, MatchResult, [], take};
 ghost use Rattle.std.specs.Io.KnownBytes.{Appends, Keeps};
-ghost use Rattle.xc_input.specs.Calls.{counted};
+ghost use Rattle.xc_text.specs.Calls.{counted};
 ghost use Rattle.xc_streams.specs.Outputs.{known_bytes, DidWrite};
 ghost use Rattle.xc_streams.specs.Streams.{BrokeLast, FlushedLast, early, ends_line, is_flushed, passed_of};
 
-use crate::Flushes;
 use crate::outgoing::Outgoing;
 use crate::outgoing::held::ROOM;
 use crate::sink::{Sink, WriteFailed};
 use crate::system::SystemWriter;
+use xc_moves::Tally;
 
 /// Passes on the bytes, and returns how many of them that were. A failed write isn't tried again.
 fn pass_on<W: SystemWriter>(writer: &mut W, bytes: &[u8]) -> usize

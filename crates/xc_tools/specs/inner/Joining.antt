@@ -1,11 +1,11 @@
 -- No public clause cites this module. How far a run that joins spans came.
 use Rattle.std.specs.Prelude.{ℕ, ◌≡◌, ◌⊎◌, Bool, true, false, List, [], ◌++◌, None, Result, Ok, Err}
-use Rattle.xc_input.specs.Calls.{Rose}
-use Rattle.xc_input.specs.Words.{has}
-use Rattle.xc_input.specs.inner.Feeding.{ended, AreWhole}
-use Rattle.xc_input.specs.Pieces.{SourceState, Gave, GaveAll}
-use Rattle.xc_input.specs.declared.line_reader.Unread.{Unread}
-use Rattle.xc_input.specs.declared.line_reader.Unread.TheVariants as unread
+use Rattle.xc_text.specs.Calls.{Rose}
+use Rattle.xc_text.specs.Words.{has}
+use Rattle.xc_text.specs.inner.LineFeeds.{ended, AreWhole}
+use Rattle.xc_text.specs.Sources.{SourceState, Gave, GaveAll}
+use Rattle.xc_text.specs.declared.line_reader.Unread.{Unread}
+use Rattle.xc_text.specs.declared.line_reader.Unread.TheVariants as unread
 use Rattle.xc_streams.specs.Texts.{SinkState, Took, BrokeOff, WasTold}
 use Rattle.xc_tools.specs.Joins.{ToldGap, ToldOther, no_text, unread_text}
 use Rattle.xc_streams.specs.ShownNames.{OfSource}

@@ -1,7 +1,7 @@
 use Rattle.std.proofs.lemmas.Grind.{common_steps}
 use Rattle.std.proofs.Common.{arith}
-use Rattle.xc_input.proofs.FaultLemmas.{has-all}
-use Rattle.xc_input.proofs.LineLemmas.{lines_of-part}
+use Rattle.xc_text.proofs.ByteLemmas.{has-all}
+use Rattle.xc_text.proofs.LineLemmas.{lines_of-part}
 use Rattle.xc_check.proofs.CheckLemmas.{first_cut, first_line}
 use Rattle.xc_c.proofs.texts.cut_line.Goals as goal
 

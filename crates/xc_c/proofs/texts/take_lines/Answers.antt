@@ -1,7 +1,7 @@
 use Rattle.std.proofs.Common.{◌≢◌, ◌∙◌, subst, append_assoc, arith}
 use Rattle.std.proofs.lemmas.Result.{err_from_is_err_and}
 use Rattle.xc_input.specs.declared.kind.Kind.{Kind}
-use Rattle.xc_input.specs.Lines.{lines_of}
+use Rattle.xc_text.specs.Lines.{lines_of}
 use Rattle.xc_input.specs.FirstFault.{first_fault}
 use Rattle.xc_input.specs.Readings.{IsErrorFor}
 use Rattle.xc_c.proofs.TextLemmas.{error-of-text, has-content}

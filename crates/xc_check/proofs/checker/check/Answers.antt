@@ -1,5 +1,5 @@
 use Rattle.std.proofs.Common.{◌∙◌, ap, subst}
-use Rattle.xc_input.specs.Lines.{lines_of}
+use Rattle.xc_text.specs.Lines.{lines_of}
 use Rattle.xc_input.specs.Named.{Named}
 use Rattle.xc_check.specs.Listed.{AreVerdicts}
 use Rattle.xc_check.specs.inner.Classes.{Classes}

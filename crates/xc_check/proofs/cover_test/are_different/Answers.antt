@@ -1,4 +1,4 @@
-use Rattle.xc_input.proofs.ListLemmas.{each_from, each_in, EachTwo, each_two_from_AllPairs, AllPairs-from_each_two}
+use Rattle.xc_text.proofs.ListLemmas.{each_from, each_in, EachTwo, each_two_from_AllPairs, AllPairs-from_each_two}
 use Rattle.xc_check.proofs.ClassLemmas.{any-in, in-any}
 use Rattle.std.proofs.Common.{eq-eqb}
 use Rattle.std.proofs.lemmas.Bool.Decides.{nat_tests}

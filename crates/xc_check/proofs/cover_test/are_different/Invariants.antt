@@ -1,5 +1,5 @@
 use Rattle.std.proofs.Common.{◌≢◌, length}
-use Rattle.xc_input.proofs.ListLemmas.{EachTwo}
+use Rattle.xc_text.proofs.ListLemmas.{EachTwo}
 use Rattle.xc_check.proofs.cover_test.are_different.Given as goal
 
 -- those that are left are different exactly where all are

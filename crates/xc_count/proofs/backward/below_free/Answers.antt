@@ -1,7 +1,7 @@
 use Rattle.std.proofs.Common.{arith, ◌≡◌, ◌*◌, ap, ◌∙◌, sym, get_or, subst, refl, drop, take}
 use Rattle.std.specs.Prelude.{sum_by, Contains}
 use Rattle.std.proofs.lemmas.Option.{slice_get-get_or}
-use Rattle.xc_input.proofs.ListLemmas.{contains-in, in-slice_get}
+use Rattle.xc_text.proofs.ListLemmas.{contains-in, in-slice_get}
 use Rattle.xc_count.specs.inner.Passed.{with_same}
 use Rattle.xc_count.specs.inner.Worth.{key_below, says, with_number}
 use Rattle.xc_count.proofs.Below.{split_once}

@@ -3,7 +3,7 @@ use Rattle.std.specs.Prelude.{Contains, unwrap_or}
 use Rattle.std.proofs.lemmas.List.{drop_all}
 use Rattle.std.proofs.lemmas.Option.{slice_get-get_or}
 use Rattle.xc_input.specs.Problem.{option_count, uses_of}
-use Rattle.xc_input.proofs.ListLemmas.{contains-in, in-slice_get}
+use Rattle.xc_text.proofs.ListLemmas.{contains-in, in-slice_get}
 use Rattle.xc_count.specs.inner.Held.{agree}
 use Rattle.xc_count.specs.inner.Keys.{held_in}
 use Rattle.xc_count.specs.inner.Worth.{says}

@@ -1,7 +1,7 @@
 use Rattle.std.proofs.Common.{ℕ, arith, ◌≡◌, ◌*◌, ap, length, get_or, ltb-true, ltb-false}
 use Rattle.std.specs.Prelude.{nat_lt}
 use Rattle.std.proofs.lemmas.List.{get_or_past}
-use Rattle.xc_input.proofs.ListLemmas.{by_bool}
+use Rattle.xc_text.proofs.ListLemmas.{by_bool}
 use Rattle.xc_count.specs.inner.ByOption.{marks_in, ways, ways_from}
 use Rattle.xc_count.specs.inner.Worth.{worth_by}
 use Rattle.xc_count.proofs.Forgetting.{ways_same}

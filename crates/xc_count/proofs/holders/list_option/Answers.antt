@@ -1,7 +1,7 @@
 use Rattle.std.proofs.Common.{arith, ◌-◌, length-set, length, refl, ◌∙◌}
 use Rattle.std.proofs.lemmas.Option.{slice_get_read}
 use Rattle.xc_input.specs.declared.problem.Use.{Use}
-use Rattle.xc_input.proofs.ListLemmas.{each_two_from_AllPairs}
+use Rattle.xc_text.proofs.ListLemmas.{each_two_from_AllPairs}
 use Rattle.xc_count.proofs.HolderLemmas.{list_step}
 use Rattle.xc_count.proofs.holders.list_option.Goals as goal
 

@@ -1,8 +1,8 @@
 use Rattle.std.proofs.Common.{arith, ◌≡◌, ◌+◌, ◌*◌, ◌∙◌, ap, ap₂, drop, get_or}
 use Rattle.std.specs.Prelude.{fold}
 use Rattle.std.specs.Hash.{le_bytes}
-use Rattle.xc_input.specs.Hashing.{folded, hashed}
-use Rattle.xc_input.specs.declared.seed.FoldingHasher.{FoldingHasher}
+use Rattle.xc_text.specs.Hashing.{folded, hashed}
+use Rattle.xc_text.specs.declared.seed.FoldingHasher.{FoldingHasher}
 use Rattle.xc_count.specs.inner.Layers.{key_words}
 use Rattle.xc_count.proofs.HashLemmas.{last_mark, no_mark, two_marks}
 use Rattle.xc_count.proofs.layer.hash_of.Goals.{then-place-key, else-place-key}

@@ -1,6 +1,6 @@
 use Rattle.std.proofs.Common.{◌≡◌, ◌≤◌, ◌-◌, drop, length}
 use Rattle.std.specs.Prelude.{fold}
-use Rattle.xc_input.specs.Hashing.{hashed}
+use Rattle.xc_text.specs.Hashing.{hashed}
 use Rattle.xc_count.specs.inner.Layers.{key_words}
 use Rattle.xc_count.proofs.layer.hash_of.Given as goal
 

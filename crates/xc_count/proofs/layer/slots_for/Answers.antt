@@ -2,7 +2,7 @@ use Rattle.std.proofs.Common.{ℕ, arith, ◌≡◌, ◌+◌, ◌∙◌, sym, ap
 use Rattle.std.specs.Prelude.{nat_lt, slice_get}
 use Rattle.std.proofs.lemmas.List.{length-map}
 use Rattle.std.proofs.lemmas.Option.{slice_get-get_or, slice_get_within}
-use Rattle.xc_input.proofs.ListLemmas.{by_bool}
+use Rattle.xc_text.proofs.ListLemmas.{by_bool}
 use Rattle.xc_count.specs.inner.Layers.{Finds, told}
 use Rattle.xc_count.proofs.SlotLemmas.{told_at}
 use Rattle.xc_count.proofs.layer.slots_for.Goals as goal

@@ -1,6 +1,6 @@
 use Rattle.std.proofs.Common.{arith, ◌≡◌, ◌≤◌, ◌+◌, ◌∙◌, sym, subst, get_or, length, ltb-true, ltb-false}
 use Rattle.std.specs.Prelude.{nat_lt, All, Contains}
-use Rattle.xc_input.proofs.ListLemmas.{by_bool}
+use Rattle.xc_text.proofs.ListLemmas.{by_bool}
 use Rattle.xc_count.specs.inner.Plans.{options_with}
 use Rattle.xc_count.proofs.HolderLemmas.{options_known}
 use Rattle.xc_count.proofs.options.options_in_order.Goals as goal

@@ -1,7 +1,7 @@
 use Rattle.std.proofs.Common.{arith, refl, ◌≡◌, ◌<◌, ◌∙◌, get_or, length, length-set}
 use Rattle.std.proofs.lemmas.List.{get_or_default}
 use Rattle.xc_input.specs.declared.problem.Use.{Use}
-use Rattle.xc_input.proofs.ListLemmas.{each_two_from_AllPairs}
+use Rattle.xc_text.proofs.ListLemmas.{each_two_from_AllPairs}
 use Rattle.xc_count.proofs.Orders.{held_by, less_left}
 use Rattle.xc_count.proofs.PlanLemmas.{use_there}
 use Rattle.xc_count.proofs.options.remove_uses.Goals as goal

@@ -1,6 +1,6 @@
 use Rattle.std.proofs.Common.{arith, ◌≡◌, ◌+◌, ◌∙◌, subst, ltb-true, ltb-false}
 use Rattle.std.specs.Prelude.{nat_lt, Contains}
-use Rattle.xc_input.proofs.ListLemmas.{by_bool}
+use Rattle.xc_text.proofs.ListLemmas.{by_bool}
 use Rattle.xc_count.proofs.order.whole_order.Goals as goal
 
 pub loop-i-preserved : goal.loop-i-preserved

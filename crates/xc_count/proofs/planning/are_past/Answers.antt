@@ -2,7 +2,7 @@ use Rattle.std.proofs.Common.{arith, ◌≡◌, ap, sym, subst, take, get_or, []
 use Rattle.std.specs.Prelude.{nat_lt, is_some, unwrap_or}
 use Rattle.std.proofs.lemmas.List.{get_or_default}
 use Rattle.xc_input.specs.Problem.{uses_of, colour_in}
-use Rattle.xc_input.proofs.ListLemmas.{by_bool}
+use Rattle.xc_text.proofs.ListLemmas.{by_bool}
 use Rattle.xc_count.specs.inner.Plans.{HoldsPast}
 use Rattle.xc_count.proofs.planning.are_past.Goals as goal
 

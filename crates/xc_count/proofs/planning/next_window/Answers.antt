@@ -1,7 +1,7 @@
 use Rattle.std.proofs.Common.{arith, ◌≡◌, ◌∙◌, ap, subst, take, get_or, ltb-true, ltb-false}
 use Rattle.std.specs.Prelude.{nat_lt}
 use Rattle.std.proofs.lemmas.List.{get_or_default}
-use Rattle.xc_input.proofs.ListLemmas.{by_bool}
+use Rattle.xc_text.proofs.ListLemmas.{by_bool}
 use Rattle.xc_count.specs.inner.Keys.{rank_of}
 use Rattle.xc_count.specs.inner.Plans.{IsOver}
 use Rattle.xc_count.proofs.planning.next_window.Goals as goal

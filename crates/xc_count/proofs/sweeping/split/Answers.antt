@@ -2,7 +2,7 @@ use Rattle.std.proofs.Common.{arith, ◌≡◌, ◌+◌, ◌*◌, ap, ◌∙◌,
 use Rattle.std.proofs.lemmas.List.{drop_all}
 use Rattle.std.specs.Prelude.{sum_by, Contains}
 use Rattle.std.proofs.lemmas.Option.{slice_get-get_or}
-use Rattle.xc_input.proofs.ListLemmas.{contains-in, in-slice_get}
+use Rattle.xc_text.proofs.ListLemmas.{contains-in, in-slice_get}
 use Rattle.xc_count.specs.inner.Passed.{worth_taken}
 use Rattle.xc_count.specs.inner.Worth.{says, with_number, worth}
 use Rattle.xc_count.proofs.Below.{split_once}

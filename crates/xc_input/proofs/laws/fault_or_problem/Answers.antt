@@ -1,6 +1,6 @@
 use Rattle.std.proofs.Common.{arith}
 use Rattle.xc_input.proofs.GrammarLemmas.{named_of}
-use Rattle.xc_input.specs.declared.seed.Seed.{Seed}
+use Rattle.xc_text.specs.declared.seed.Seed.{Seed}
 use Rattle.xc_input.specs.inner.Stages.{stage_of}
 use Rattle.xc_input.proofs.LineLemmas.{faultless-stands, stands-only}
 use Rattle.xc_input.proofs.laws.fault_or_problem.Goals as goal

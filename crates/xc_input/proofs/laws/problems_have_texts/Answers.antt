@@ -1,7 +1,8 @@
 use Rattle.std.proofs.Common.{[]}
-use Rattle.xc_input.specs.Lines.{lines_of}
+use Rattle.xc_text.specs.Lines.{lines_of}
 use Rattle.xc_input.specs.declared.kind.Kind.TheVariants.{Bounds}
-use Rattle.xc_input.proofs.LineLemmas.{lines_of-whole, sound}
+use Rattle.xc_text.proofs.LineLemmas.{lines_of-whole}
+use Rattle.xc_input.proofs.LineLemmas.{sound}
 use Rattle.xc_input.proofs.WrittenTexts.{has-text, in-order}
 use Rattle.xc_input.proofs.laws.problems_have_texts.Goals as goal
 

@@ -1,4 +1,5 @@
-use Rattle.xc_input.proofs.LineLemmas.{lines_of-ended, ends-as, line-ends, last-part}
+use Rattle.xc_text.proofs.LineLemmas.{lines_of-ended}
+use Rattle.xc_input.proofs.LineLemmas.{ends-as, line-ends, last-part}
 use Rattle.std.proofs.lemmas.List.{nil_from_length}
 use Rattle.std.proofs.Common.{append-nil}
 use Rattle.std.proofs.Common.{◌≡◌, ◌<◌, length, arith, refl}

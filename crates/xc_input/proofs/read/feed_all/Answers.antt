@@ -1,8 +1,10 @@
 use Rattle.std.proofs.Common.{◌++◌, ◌∙◌, [], ap, sym, subst, refl, append_assoc}
 use Rattle.std.proofs.lemmas.Result.{err_from_is_err_and}
-use Rattle.xc_input.specs.inner.Feeding.{ended, fed, Spoils}
-use Rattle.xc_input.specs.Pieces.{Gave, GaveAll}
-use Rattle.xc_input.proofs.LineLemmas.{shorter, all_then, came-gave, fed-line, fed-on, gave_none, gave_then}
+use Rattle.xc_text.specs.inner.LineFeeds.{ended}
+use Rattle.xc_input.specs.inner.Feeding.{fed, Spoils}
+use Rattle.xc_text.specs.Sources.{Gave, GaveAll}
+use Rattle.xc_text.proofs.LineLemmas.{shorter, all_then, came-gave, gave_none, gave_then}
+use Rattle.xc_input.proofs.LineLemmas.{fed-line, fed-on}
 use Rattle.xc_input.proofs.LineLemmas.{part-spoiled, part-unread, recent-came, recent_none, Spoils-more}
 use Rattle.xc_input.proofs.read.feed_all.Goals as goal
 

@@ -1,6 +1,6 @@
 use Rattle.std.proofs.Common.{◌≡◌, ◌+◌, [], length}
 use Rattle.xc_input.specs.inner.Feeding.{fed, IsBetween, Recent}
-use Rattle.xc_input.specs.Pieces.{Gave}
+use Rattle.xc_text.specs.Sources.{Gave}
 use Rattle.xc_input.proofs.read.feed_all.Given as goal
 
 -- what was read so far was handed on or is left, no read failed, and what was handed on has no fault

@@ -1,7 +1,7 @@
 use Rattle.std.proofs.lemmas.Bool.Decides.{nat_tests}
 use Rattle.std.proofs.Common.{arith}
 use Rattle.std.proofs.lemmas.Result.{err_from_is_err_and}
-use Rattle.xc_input.specs.inner.Feeding.{ended}
+use Rattle.xc_text.specs.inner.LineFeeds.{ended}
 use Rattle.xc_input.proofs.LineLemmas.{part-none}
 use Rattle.xc_input.proofs.read.read_problem_by.Goals as goal
 

@@ -1,6 +1,7 @@
 use Rattle.std.proofs.Common.{◌++◌, ◌∷◌, [], ◌∙◌, ap, sym}
-use Rattle.xc_input.specs.Words.{has}
-use Rattle.xc_input.proofs.LineLemmas.{before_end, ends}
+use Rattle.xc_text.specs.Words.{has}
+use Rattle.xc_text.proofs.LineLemmas.{before_end}
+use Rattle.xc_input.proofs.LineLemmas.{ends}
 use Rattle.xc_input.proofs.read.take_line.Goals as goal
 
 pub returns-clause-ended : goal.returns-clause-ended

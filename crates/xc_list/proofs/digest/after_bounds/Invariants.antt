@@ -1,6 +1,6 @@
 use Rattle.std.proofs.Common.{◌≡◌, length, take}
 use Rattle.std.specs.Prelude.{flat_map}
-use Rattle.xc_input.specs.Hashing.{taken}
+use Rattle.xc_text.specs.Hashing.{taken}
 use Rattle.xc_input.specs.ItemBounds.{bounds_of}
 use Rattle.xc_list.specs.Digests.{digest_after}
 use Rattle.xc_list.specs.inner.Writing.{bounds_numbers, digest_multiplier}

@@ -1,5 +1,5 @@
 use Rattle.std.proofs.Common.{◌∙◌, ap, length}
-use Rattle.xc_input.specs.Hashing.{taken}
+use Rattle.xc_text.specs.Hashing.{taken}
 use Rattle.xc_list.specs.Digests.{digest_after}
 use Rattle.xc_list.specs.inner.Writing.{bytes_numbers, digest_multiplier}
 use Rattle.xc_list.proofs.ProblemTexts.{after_next}

@@ -1,6 +1,6 @@
 use Rattle.std.proofs.Common.{◌≡◌, [], ◌∷◌, length, take}
 use Rattle.std.specs.Prelude.{flat_map}
-use Rattle.xc_input.specs.Hashing.{taken}
+use Rattle.xc_text.specs.Hashing.{taken}
 use Rattle.xc_list.specs.Digests.{digest_after}
 use Rattle.xc_list.specs.inner.Writing.{use_number, digest_multiplier}
 use Rattle.xc_list.proofs.digest.after_uses.Given as goal

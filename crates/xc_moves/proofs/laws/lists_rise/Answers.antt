@@ -2,7 +2,7 @@ use Rattle.std.proofs.Common.{ℕ, ◌≡◌, ◌<◌, ◌≤◌, List, [], ◌�
 use Rattle.std.proofs.Common.{length-append, le-ltb}
 use Rattle.std.specs.Prelude.{slice_get}
 use Rattle.std.specs.List.{AllByRecursion}
-use Rattle.xc_input.proofs.ListLemmas.{EachTwo, AllPairs-from_each_two}
+use Rattle.xc_text.proofs.ListLemmas.{EachTwo, AllPairs-from_each_two}
 use Rattle.xc_moves.specs.Moves.{listed_numbers, next_above}
 use Rattle.xc_moves.specs.inner.Rising.{Rises}
 use Rattle.xc_moves.proofs.MoveLemmas.{Rises-weaker, next_first, rises_listed}

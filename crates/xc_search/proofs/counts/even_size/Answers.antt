@@ -3,7 +3,7 @@ use Rattle.std.proofs.lemmas.Option.{slice_get_within}
 use Rattle.std.specs.Prelude.{unwrap_or}
 use Rattle.std.specs.List.{AllByRecursion}
 use Rattle.xc_input.specs.Problem.{Puzzle, option_count, uses_of}
-use Rattle.xc_input.proofs.ListLemmas.{each_from, slice_get-in}
+use Rattle.xc_text.proofs.ListLemmas.{each_from, slice_get-in}
 use Rattle.xc_input.proofs.TokenLemmas.{numbered_get-at}
 use Rattle.xc_search.specs.inner.Levels.{primary_uses}
 use Rattle.xc_search.proofs.counts.even_size.Goals as goal

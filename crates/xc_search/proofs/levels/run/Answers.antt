@@ -1,7 +1,7 @@
 use Rattle.std.proofs.Common.{ℕ, ◌≡◌, ◌+◌, ◌<◌, true, false, not, refl, sym, ap, ◌∙◌, arith, inl, inr, List, Option}
 use Rattle.std.specs.Prelude.{nat_eq, option_map}
 use Rattle.std.proofs.lemmas.Bool.Decides.{nat_tests}
-use Rattle.xc_input.proofs.ListLemmas.{by_option}
+use Rattle.xc_text.proofs.ListLemmas.{by_option}
 use Rattle.xc_search.specs.inner.Spanning.{BeginsBranch, IsRest, IsSeenBy}
 use Rattle.xc_search.proofs.BranchLemmas.{none_begun}
 use Rattle.xc_search.proofs.EndLemmas.{Pays-trans}

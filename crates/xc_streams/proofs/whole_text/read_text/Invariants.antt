@@ -1,5 +1,5 @@
 use Rattle.std.proofs.Common.{◌≡◌}
-use Rattle.xc_input.specs.Pieces.{Gave}
+use Rattle.xc_text.specs.Sources.{Gave}
 use Rattle.xc_streams.proofs.whole_text.read_text.Given as goal
 
 -- what was read so far is kept, and no read failed

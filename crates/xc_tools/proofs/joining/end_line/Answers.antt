@@ -1,8 +1,8 @@
 use Rattle.std.proofs.Common.{◌++◌, ◌∷◌, [], ◌∙◌, ap, sym, subst}
 use Rattle.std.specs.Prelude.{IfErr}
-use Rattle.xc_input.specs.Words.{has}
-use Rattle.xc_input.specs.inner.Feeding.{ended}
-use Rattle.xc_input.proofs.LineLemmas.{before_end}
+use Rattle.xc_text.specs.Words.{has}
+use Rattle.xc_text.specs.inner.LineFeeds.{ended}
+use Rattle.xc_text.proofs.LineLemmas.{before_end}
 use Rattle.xc_tools.specs.inner.Joining.{StopsIn}
 use Rattle.xc_tools.proofs.Stopped.{ended-more}
 use Rattle.xc_tools.proofs.joining.end_line.Goals as goal

@@ -1,8 +1,8 @@
 use Rattle.std.proofs.Common.{◌++◌, ◌∙◌, ap, sym, append_assoc, subst}
 use Rattle.std.proofs.lemmas.Result.{err_from_is_err_and}
-use Rattle.xc_input.specs.inner.Feeding.{ended}
-use Rattle.xc_input.specs.Pieces.{GaveAll}
-use Rattle.xc_input.proofs.LineLemmas.{shorter, all_then, came-gave, gave_then}
+use Rattle.xc_text.specs.inner.LineFeeds.{ended}
+use Rattle.xc_text.specs.Sources.{GaveAll}
+use Rattle.xc_text.proofs.LineLemmas.{shorter, all_then, came-gave, gave_then}
 use Rattle.xc_tools.specs.inner.Joining.{Adds}
 use Rattle.xc_streams.specs.Texts.{Took}
 use Rattle.xc_tools.proofs.Stopped.{adds-as, adds-then, fed-line, fed-on, gave-as, stops-as, stops-from, stops-more}

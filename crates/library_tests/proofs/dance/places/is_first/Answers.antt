@@ -1,7 +1,7 @@
 use Rattle.std.proofs.Common.{ℕ, ◌≡◌, ◌≢◌, ◌∙◌, ap, sym, subst, refl, inl}
 use Rattle.std.specs.Prelude.{unwrap_or}
 use Rattle.xc_input.specs.Problem.{IsValid}
-use Rattle.xc_input.proofs.ListLemmas.{by_option}
+use Rattle.xc_text.proofs.ListLemmas.{by_option}
 use Rattle.xc_moves.specs.Commits.{IsUseAt}
 use Rattle.xc_moves.specs.Dancing.{Dancing}
 use Rattle.xc_moves.specs.Moves.{next_above, listed_numbers}

@@ -1,5 +1,5 @@
 use Rattle.std.proofs.Common.{ℕ, ◌≡◌, ◌-◌, ◌^◌, min, length}
-use Rattle.xc_input.specs.Lines.{lines_of}
+use Rattle.xc_text.specs.Lines.{lines_of}
 use Rattle.xc_check.specs.inner.Checking.{IsProgress}
 use Rattle.xc_check.proofs.checker.Checker.take_lines.Given as goal
 

@@ -1,5 +1,5 @@
 use Rattle.std.proofs.Common.{arith}
-use Rattle.xc_input.proofs.FaultLemmas.{has-all}
+use Rattle.xc_text.proofs.ByteLemmas.{has-all}
 use Rattle.xc_check.proofs.CheckLemmas.{last_cut, last_word, one_word}
 use Rattle.xc_check.proofs.checker.listing_lines.cut_last_word.Goals as goal
 

@@ -1,5 +1,5 @@
 use Rattle.std.proofs.Common.{arith}
-use Rattle.xc_input.proofs.LineLemmas.{lines_of-part}
+use Rattle.xc_text.proofs.LineLemmas.{lines_of-part}
 use Rattle.xc_check.proofs.CheckLemmas.{first_line}
 use Rattle.xc_check.proofs.checker.listing_lines.cut_line.Goals as goal
 

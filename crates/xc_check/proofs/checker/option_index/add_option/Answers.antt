@@ -2,7 +2,7 @@ use Rattle.std.proofs.Common.{[], add-one, ℕ, suc, ◌≡◌, ◌+◌, ◌++�
 use Rattle.std.specs.Prelude.{slice_get}
 use Rattle.xc_input.specs.declared.problem.Use.{Use}
 use Rattle.xc_input.specs.Problem.{Puzzle, numbered_get}
-use Rattle.xc_input.proofs.ListLemmas.{IsIn}
+use Rattle.xc_text.proofs.ListLemmas.{IsIn}
 use Rattle.xc_check.specs.inner.Classes.{class_of, class_at, key_uses}
 use Rattle.xc_check.proofs.CheckLemmas.{members-few, members_at, classes-found, classes-new, found-key, lost-key}
 use Rattle.xc_check.proofs.CheckLemmas.{new-uses}

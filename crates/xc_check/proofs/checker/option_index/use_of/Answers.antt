@@ -1,5 +1,5 @@
 use Rattle.std.proofs.Common.{arith}
-use Rattle.xc_input.specs.Words.{has}
+use Rattle.xc_text.specs.Words.{has}
 use Rattle.xc_check.proofs.ClassLemmas.{plain-word, cut-word}
 use Rattle.xc_check.proofs.checker.option_index.use_of.Goals as goal
 

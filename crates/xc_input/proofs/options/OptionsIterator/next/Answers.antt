@@ -1,7 +1,7 @@
 use Rattle.std.proofs.Common.{arith}
 use Rattle.std.proofs.lemmas.List.{drop_all}
 use Rattle.xc_input.proofs.TokenLemmas.{numbered_get-at}
-use Rattle.xc_input.proofs.ListLemmas.{drop_at}
+use Rattle.xc_text.proofs.ListLemmas.{drop_at}
 use Rattle.xc_input.proofs.options.OptionsIterator.next.Goals as goal
 
 -- what is left begins with the element of the next number

@@ -1,7 +1,8 @@
 use Rattle.std.proofs.Common.{arith}
 use Rattle.std.proofs.Common.{sym, subst}
 use Rattle.xc_input.specs.inner.Feeding.{IsErrorOf}
-use Rattle.xc_input.proofs.LineLemmas.{stays, counts, fails, goes, stage-is, whole-more}
+use Rattle.xc_input.proofs.LineLemmas.{stays, counts, fails, goes, stage-is}
+use Rattle.xc_text.proofs.LineLemmas.{whole-more}
 use Rattle.xc_input.proofs.reader.Reader.line.Goals as goal
 
 pub returns-in-Some-clause-state : goal.returns-in-Some-clause-state

@@ -5,7 +5,7 @@ use Rattle.std.specs.Int.{bit_at}
 use Rattle.std.proofs.lemmas.Bool.{lt-ltb, ltb-true, eq-eqb}
 use Rattle.std.proofs.lemmas.Option.{slice_get_within, get_or_from_slice_get}
 use Rattle.xc_input.specs.Problem.{uses_of, colour_in}
-use Rattle.xc_input.proofs.ListLemmas.{and_left as left_of}
+use Rattle.xc_text.proofs.ListLemmas.{and_left as left_of}
 use Rattle.xc_moves.specs.Moves.{IsOpenPrimary}
 use Rattle.xc_search.specs.inner.FewBounded.{low_left, high_left, clash, clashes_at}
 use Rattle.xc_search.specs.inner.Filled.{held_at, TellsHolders}

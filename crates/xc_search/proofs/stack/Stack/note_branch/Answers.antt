@@ -3,7 +3,7 @@ use Rattle.std.proofs.Common.{◌≡◌, ◌∙◌, ◌-◌, ◌<◌, length, re
 use Rattle.std.proofs.lemmas.List.{length-reverse}
 use Rattle.std.proofs.Math.ListN.{set, get_or}
 use Rattle.xc_input.proofs.FaultLemmas.{items-length}
-use Rattle.xc_input.proofs.ListLemmas.{newest_changed, first_changed}
+use Rattle.xc_text.proofs.ListLemmas.{newest_changed, first_changed}
 use Rattle.xc_search.specs.inner.Levels.{begun_level}
 use Rattle.xc_search.proofs.stack.Stack.note_branch.Goals as goal
 

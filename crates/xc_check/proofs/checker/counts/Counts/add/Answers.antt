@@ -1,6 +1,6 @@
 use Rattle.std.proofs.lemmas.Grind.{common_steps}
 use Rattle.std.proofs.Common.{arith}
-use Rattle.xc_input.proofs.ListLemmas.{each_two_from_AllPairs}
+use Rattle.xc_text.proofs.ListLemmas.{each_two_from_AllPairs}
 use Rattle.xc_check.proofs.CountedCovers.{length-coloured, held_once}
 use Rattle.xc_check.proofs.checker.counts.Counts.add.Goals as goal
 

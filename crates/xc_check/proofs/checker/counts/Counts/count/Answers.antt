@@ -6,7 +6,7 @@ use Rattle.xc_check.proofs.CountedCovers.{known_items, classes_usable, added_onc
 use Rattle.std.proofs.lemmas.Grind.{common_steps}
 use Rattle.std.proofs.Common.{arith, ◌≢◌, get_or}
 use Rattle.xc_input.specs.declared.problem.Use.{Use}
-use Rattle.xc_input.proofs.ListLemmas.{AllPairs-from_each_two}
+use Rattle.xc_text.proofs.ListLemmas.{AllPairs-from_each_two}
 use Rattle.xc_check.proofs.checker.counts.Counts.count.Goals as goal
 
 pub loop-class-init : goal.loop-class-init

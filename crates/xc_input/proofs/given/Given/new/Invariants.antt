@@ -1,5 +1,0 @@
-use Rattle.std.proofs.Common.{[]}
-use Rattle.xc_input.proofs.given.Given.new.Given as goal
-
-abbrev pub ghost-of : goal.ghost-of
-ghost-of a = []

@@ -1,0 +1,4 @@
+pub mod ListLemmas
+pub mod ByteLemmas
+pub mod NumberLemmas
+pub mod LineLemmas
