@@ -14,7 +14,7 @@ use Rattle.xc_input.specs.FirstFault.{content, first_fault}
 use Rattle.xc_input.specs.Readings.{IsErrorFor, IsStateOf}
 use Rattle.xc_input.proofs.LineLemmas.{stands-only, IsErrorOf-more, error-ends}
 use Rattle.xc_list.specs.Output.{output}
-use Rattle.xc_streams.specs.Texts.{SinkState}
+use Rattle.xc_text.specs.Texts.{SinkState}
 use Rattle.xc_list.specs.Runs.{StoppedAt, IsRun, end_of}
 use Rattle.xc_list.specs.declared.ends.End.{End}
 use Rattle.xc_list.specs.declared.ends.End.TheVariants.{Done, Limit, WriteFailed}

@@ -20,10 +20,8 @@ use xc_count::count;
 use xc_dance::Links;
 use xc_input::{FaultKind, InputError, Kind, Problem, Read, Reader};
 use xc_list::{End, Words, run};
-use xc_moves::Memory;
 use xc_search::Search;
-use xc_streams::Tray;
-use xc_text::Seed;
+use xc_text::{Memory, Seed, Tray};
 
 /// The first line of a text, and what is left after it.
 // `xc_check/src/checker/listing_lines.rt` has the same, since it isn't public.

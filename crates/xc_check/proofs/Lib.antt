@@ -1,4 +1,3 @@
-pub mod NumberLemmas
 pub mod CheckLemmas
 pub mod ClassLemmas
 pub mod CountedCovers

@@ -1,4 +1,3 @@
-pub mod LongNumbers
 pub mod ListingLines
 pub mod UseTexts
 pub mod Listed

@@ -5,7 +5,7 @@ use Rattle.std.specs.Io.BufRead.{ends_with_byte}
 use Rattle.std.specs.List.{list_all, list_any, slice_split}
 use Rattle.std.specs.Str.{byte, bytes_eq}
 use Rattle.xc_text.specs.Words.{is_space, are_digits}
-use Rattle.xc_check.specs.LongNumbers.{long_number}
+use Rattle.xc_text.specs.LongNumbers.{long_number}
 
 -- the words of a text that single spaces part
 abbrev pub words_in : List ℕ → List (List ℕ)

@@ -9,12 +9,10 @@
 
 mod checker;
 mod cover_test;
-mod digits;
 mod judged_line;
 pub mod laws;
 mod verdict;
 
 pub use checker::{branch_number, check};
 pub use cover_test::is_cover;
-pub use digits::long_number;
 pub use verdict::{ListingFault, Verdict};

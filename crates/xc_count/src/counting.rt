@@ -17,7 +17,7 @@ use natural::Natural;
 use std::alloc::Global;
 use std::cell::Cell;
 use xc_input::Problem;
-use xc_moves::Memory;
+use xc_text::Memory;
 
 /// Whether each primary item is to be held exactly once.
 pub fn is_once(problem: &Problem) -> bool

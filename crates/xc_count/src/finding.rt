@@ -19,8 +19,8 @@ use natural::Natural;
 use std::alloc::Global;
 use std::cell::Cell;
 use xc_input::Problem;
-use xc_moves::Memory;
 use xc_search::Choice;
+use xc_text::Memory;
 
 /// The solution of a number by going down the branches of the listing, unless the search beside it ends first.
 fn nth_by_counts(

@@ -9,8 +9,8 @@ use natural::Natural;
 use std::alloc::Global;
 use std::marker::Model;
 use xc_input::Problem;
-use xc_moves::Memory;
 use xc_search::Choice;
+use xc_text::Memory;
 
 /// A search that goes on alone from where it was when the states beside it took too much memory. That may take longer
 /// than anybody waits, so it is handed to the caller.

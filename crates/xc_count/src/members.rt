@@ -14,8 +14,8 @@ use std::alloc::Global;
 use std::cell::Cell;
 use xc_dance::Links;
 use xc_input::Problem;
-use xc_moves::Memory;
 use xc_search::{Halt, Span};
+use xc_text::Memory;
 
 /// A search before the first member. All its memory is taken here. `gone_over` is for it alone.
 pub fn all_members<'a>(

@@ -16,8 +16,8 @@ use natural::Natural;
 use std::alloc::{AllocError, Global};
 use std::cell::Cell;
 use xc_input::Problem;
-use xc_moves::Memory;
 use xc_search::Choice;
+use xc_text::Memory;
 
 /// So many options that were never taken.
 fn never(alloc: Global, many: u32) -> Result<Vec<Times>, AllocError>

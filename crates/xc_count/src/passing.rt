@@ -13,8 +13,8 @@ use natural::Natural;
 use std::alloc::Global;
 use std::cell::Cell;
 use xc_input::Problem;
-use xc_moves::Memory;
 use xc_search::{Choice, Span};
+use xc_text::Memory;
 
 /// How many solutions are passed at once.
 const MANY: u64 = 1_000_000;

@@ -17,8 +17,8 @@ use std::alloc::Global;
 use std::cell::Cell;
 use std::marker::Model;
 use xc_input::Problem;
-use xc_moves::Memory;
 use xc_search::{Choice, Halt, Span};
+use xc_text::Memory;
 
 // Work is told in about nanoseconds.
 

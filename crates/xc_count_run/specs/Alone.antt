@@ -1,6 +1,6 @@
 -- The line before a search that goes on alone.
 use Rattle.std.specs.Prelude.{◌≡◌, ◌⊎◌, ℕ, List, codes}
-use Rattle.xc_streams.specs.Texts.{Seen, SinkState, Took, BrokeOff}
+use Rattle.xc_text.specs.Texts.{Seen, SinkState, Took, BrokeOff}
 use Rattle.xc_tools.specs.WholeRuns.{Sinks}
 
 -- that there is no sweep any more

@@ -5,7 +5,7 @@ use Rattle.xc_input.specs.Named.{Named}
 use Rattle.xc_text.specs.Sources.{SourceState}
 use Rattle.xc_search.specs.Cover.{members}
 use Rattle.xc_list.specs.Messages.{warning_text}
-use Rattle.xc_streams.specs.Texts.{Seen}
+use Rattle.xc_text.specs.Texts.{Seen}
 use Rattle.xc_tools.specs.WholeRuns.{Sinks, IsRefused, ReadsProblem}
 use Rattle.xc_count_run.specs.Alone.{DidBehind, DidPerhapsAlone}
 use Rattle.xc_count_run.specs.Each.{DidTellEach}

@@ -5,7 +5,7 @@ use Rattle.natural.specs.Numerals.{numeral}
 use Rattle.xc_input.specs.Named.{Named}
 use Rattle.xc_input.specs.Problem.{Puzzle}
 use Rattle.xc_search.specs.Cover.{members}
-use Rattle.xc_streams.specs.Texts.{BrokeOff, WasTold}
+use Rattle.xc_text.specs.Texts.{BrokeOff, WasTold}
 use Rattle.xc_tools.specs.WholeRuns.{Sinks, IsRefused, TookAll, FailedBehind}
 use Rattle.xc_count.specs.Occurrences.{occurrences}
 use Rattle.xc_count_run.specs.LastLine.{Concludes, count_text}

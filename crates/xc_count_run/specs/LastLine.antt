@@ -1,7 +1,7 @@
 -- The last line of a count.
 use Rattle.std.specs.Prelude.{◌≡◌, ◌⊎◌, ℕ, ◌==◌, List, ◌++◌, codes, if◌then◌else◌}
 use Rattle.natural.specs.Numerals.{numeral}
-use Rattle.xc_streams.specs.Texts.{SinkState, Took, BrokeOff}
+use Rattle.xc_text.specs.Texts.{SinkState, Took, BrokeOff}
 
 -- how many solutions there are
 abbrev pub count_text : ℕ → List ℕ

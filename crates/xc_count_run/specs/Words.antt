@@ -5,7 +5,7 @@ use Rattle.std.specs.Char.{is_ascii_digit}
 use Rattle.std.specs.List.{list_all}
 use Rattle.std.specs.Str.{byte, bytes_eq}
 use Rattle.xc_input.specs.declared.kind.Kind.{Kind}
-use Rattle.xc_check.specs.LongNumbers.{long_number}
+use Rattle.xc_text.specs.LongNumbers.{long_number}
 use Rattle.xc_tools.specs.Judges.{numbered_kind}
 
 -- what is asked of a problem: how many solutions it has, the solution of the number with these digits, or in how many

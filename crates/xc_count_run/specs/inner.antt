@@ -2,10 +2,10 @@
 -- count.
 use Rattle.std.specs.Prelude.{ℕ, ◌≡◌, ◌⊎◌, ◌==◌, List, [], ◌∷◌, Option, None, codes, length, unwrap_or, if◌then◌else◌}
 use Rattle.std.specs.Str.{byte}
-use Rattle.xc_check.specs.LongNumbers.{long_number}
+use Rattle.xc_text.specs.LongNumbers.{long_number}
 use Rattle.xc_input.specs.Named.{Named}
 use Rattle.xc_search.specs.Cover.{members}
-use Rattle.xc_streams.specs.Texts.{SinkState, Took, BrokeOff, WasTold}
+use Rattle.xc_text.specs.Texts.{SinkState, Took, BrokeOff, WasTold}
 use Rattle.xc_count_run.specs.Alone.{gave_up_text}
 use Rattle.xc_count_run.specs.LastLine.{Concludes, count_text}
 use Rattle.xc_count_run.specs.declared.asked.Question.{Question}

@@ -7,8 +7,8 @@ ghost use Rattle.xc_tools.specs.Judges.{numbered_kind};
 ghost use Rattle.xc_count_run.specs.Words.{asked_count, asked_more, is_bound, is_positive, question_word};
 ghost use Rattle.xc_count_run.specs.inner.{bound_word, meaning, megabytes};
 
-use xc_check::long_number;
 use xc_input::Kind;
+use xc_text::long_number;
 
 /// How many megabytes the states may take if no word says so.
 const MEGABYTES: u64 = 512;

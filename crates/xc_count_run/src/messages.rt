@@ -1,14 +1,14 @@
 //! What is reported of a count.
 ghost use Rattle.std.specs.Prelude.{◌≡◌, ◌==◌, ◌++◌, ℕ, IfOk, codes, if◌then◌else◌};
 ghost use Rattle.natural.specs.Numerals.{numeral};
-ghost use Rattle.xc_streams.specs.Texts.{Writes};
+ghost use Rattle.xc_text.specs.Texts.{Writes};
 ghost use Rattle.xc_count_run.specs.Alone.{gave_up_text};
 ghost use Rattle.xc_count_run.specs.LastLine.{count_text};
 ghost use Rattle.xc_count_run.specs.Solutions.{fewer_text};
 
 use natural::Natural;
 use std::alloc::{AllocError, Global};
-use xc_streams::{Sink, SinkFault, write_all};
+use xc_text::{Sink, SinkFault, write_all};
 
 /// What follows the number of solutions.
 fn tail<'a>(is_one: bool) -> &'a [u8]

@@ -15,7 +15,7 @@ use std::alloc::{AllocError, Global};
 use xc_count::{each_by_search, each_by_turns};
 use xc_input::Problem;
 use xc_streams::status::{flushed, out_of_memory, write_failed};
-use xc_streams::{Sink, write_all};
+use xc_text::{Sink, write_all};
 
 /// Adds the line of an option.
 fn add_line(

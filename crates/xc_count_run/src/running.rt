@@ -2,7 +2,7 @@
 ghost use Rattle.std.specs.Prelude.{◌≡◌, ◌⊎◌, ◌*◌, ◌^◌, ◌-◌, map, min, length, codes};
 ghost use Rattle.xc_input.specs.Named.{Named};
 ghost use Rattle.xc_search.specs.Cover.{members};
-ghost use Rattle.xc_streams.specs.Texts.{seen, WasTold};
+ghost use Rattle.xc_text.specs.Texts.{seen, WasTold};
 ghost use Rattle.xc_tools.specs.WholeRuns.{no_problem, sinks};
 ghost use Rattle.xc_count_run.specs.Alone.{DidPerhapsAlone};
 ghost use Rattle.xc_count_run.specs.Counts.{DidAnswer, DidCountWords, DidWarnAndAnswer};
@@ -20,8 +20,7 @@ use xc_count::{Counting, LoneSearch, count_by_turns};
 use xc_input::{InputError, Problem, Read, read_problem_by};
 use xc_list::warnings;
 use xc_streams::status::out_of_memory;
-use xc_streams::{Sink, write_all};
-use xc_text::{Seed, Source};
+use xc_text::{Seed, Sink, Source, write_all};
 use xc_tools::input_error;
 
 /// The number was printed.

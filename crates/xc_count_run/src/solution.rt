@@ -3,7 +3,7 @@ ghost use Rattle.std.specs.Prelude.{◌≡◌, ◌⊎◌, ◌++◌, All, codes, 
 ghost use Rattle.std.specs.Str.Parse.{digits_value};
 ghost use Rattle.xc_input.specs.Problem.{numbered_get};
 ghost use Rattle.xc_search.specs.Cover.{members};
-ghost use Rattle.xc_streams.specs.Texts.{WasTold, Writes};
+ghost use Rattle.xc_text.specs.Texts.{WasTold, Writes};
 ghost use Rattle.xc_list.specs.Output.{choice_text};
 ghost use Rattle.xc_list.specs.Known.{IsKnownChoice};
 ghost use Rattle.xc_tools.specs.WholeRuns.{sinks, Prints};
@@ -20,7 +20,7 @@ use xc_input::Problem;
 use xc_list::write_choices;
 use xc_search::Choice;
 use xc_streams::status::{flushed, out_of_memory, write_failed};
-use xc_streams::{Sink, SinkFault, write_all};
+use xc_text::{Sink, SinkFault, write_all};
 
 /// The solution was printed.
 const COMPLETE: u8 = 0;
@@ -39,7 +39,7 @@ fn tell_fewer<E: Sink>(alloc: Global, number: &Natural, err: &mut E) -> u8
 }
 
 /// Writes a solution after the line of its number.
-#[tactic(auto, using(xc_streams::proofs::SinkLemmas::then_writes))]
+#[tactic(auto, using(xc_text::proofs::SinkLemmas::then_writes))]
 fn write_numbered<O: Sink>(
     header: &[u8],
     choices: &[Choice],

@@ -17,7 +17,7 @@ use Rattle.std.proofs.Math.Path.{fun_ext}
 use Rattle.xc_input.specs.declared.problem.Use.{Use}
 use Rattle.xc_input.specs.Problem.{Puzzle, item_count, option_count, primary_count, Numbered, holding, colour_in}
 use Rattle.xc_input.specs.Problem.{IsWithinLimits, uses_of}
-use Rattle.xc_text.proofs.ListLemmas.{each_weaker}
+use Rattle.xc_text.proofs.ListLemmas.{each_weaker, take_more-get}
 use Rattle.xc_dance.specs.inner.Tables.{filled, blanks, rows_of, laid_to, with_node, Laying, top_in, ulink_in, dlink_in}
 use Rattle.xc_dance.specs.inner.Tables.{color_in, fixed_up, fixed_down, llink_at, rlink_at, linked_to, bound_to, Line}
 use Rattle.xc_dance.specs.inner.Tables.{blank, entered, IsFit, DifferByItem, Placed, IsLaid, Nodes, nodes_from, line_of}
@@ -36,7 +36,7 @@ use Rattle.xc_dance.specs.declared.links.field.Field.TheVariants.{Llink, Rlink, 
 use Rattle.xc_dance.specs.declared.links.field.Field.{Field}
 use Rattle.xc_dance.specs.inner.Walks.{IsFitted}
 use Rattle.xc_dance.specs.Same.{IsSame}
-use Rattle.xc_moves.proofs.PlaceLemmas.{take_more-get, option_place, place_next, layout_small, spacer_here, place_first}
+use Rattle.xc_moves.proofs.PlaceLemmas.{option_place, place_next, layout_small, spacer_here, place_first}
 use Rattle.xc_dance.proofs.TableLemmas.{head_is, range_get, same_items, is_laid, get_taken, is_at}
 use Rattle.xc_dance.proofs.LineLemmas.{last_below-more, last_of-more, stay_all, put_at-same, put_at-other, put_at}
 use Rattle.xc_dance.proofs.LineLemmas.{IsLinkedFrom, with_line, stands, get_map, same_nodes, put_link, column_same}

@@ -6,7 +6,8 @@ ghost use Rattle.xc_dance.specs.Linked.{dancing_of};
 use crate::{Links, Lists};
 use std::alloc::Global;
 use xc_input::Problem;
-use xc_moves::{Memory, most_moves};
+use xc_moves::most_moves;
+use xc_text::Memory;
 
 impl Links {
     /// The tables before any move, with the room that each search of the problem needs: `most_moves`. Else as `new`.

@@ -50,7 +50,7 @@ use Rattle.xc_check.specs.UseTexts.{from_item, bytes_at, use_word}
 use Rattle.xc_list.specs.Output.{body_text, choice_text, member_text, is_printed, output}
 use Rattle.xc_check.specs.ListingLines.{words_in, before_last, header_number, is_word, is_ending, body_of_words}
 use Rattle.xc_check.specs.ListingLines.{branch_number, number_in_words}
-use Rattle.xc_check.specs.LongNumbers.{long_number}
+use Rattle.xc_text.specs.LongNumbers.{long_number}
 use Rattle.xc_check.specs.inner.Listings.{Header, Body, read, Listing, listing_of}
 use Rattle.xc_check.specs.Listed.{stands_for, is_known, is_none, Solution, IsVerdictOn, AreVerdicts, IsListingFault}
 use Rattle.xc_check.specs.Listed.{fault_in_lines, solutions_of, IsListedCover}
@@ -61,7 +61,7 @@ use Rattle.xc_check.specs.declared.verdict.ListingFault.TheVariants.{Memory}
 use Rattle.xc_check.proofs.ClassLemmas.{numbered_some, place_held, All-turned, is-body, any-in, at_bytes, plain-word}
 use Rattle.xc_check.proofs.ClassLemmas.{uses-in}
 use Rattle.xc_check.proofs.CheckLemmas.{before_three, known-as, listed_solutions, lines-cons}
-use Rattle.xc_check.proofs.NumberLemmas.{some_digits}
+use Rattle.xc_text.proofs.NumberLemmas.{some_digits}
 use Rattle.xc_list.proofs.Writing.{number_read}
 use Rattle.xc_check.proofs.ClassLemmas.{colour_text-some}
 

@@ -15,8 +15,7 @@ use Rattle.std.proofs.Math.Nat.{mul-add, mul-le-mul_left}
 use Rattle.std.proofs.lemmas.List.Elements.{All-from_recursion, recursion_from_All}
 use Rattle.xc_input.specs.Problem.{Puzzle}
 use Rattle.xc_input.specs.Named.{Named, IsSound}
-use Rattle.xc_text.proofs.ListLemmas.{in-filter, each_in, each_from}
-use Rattle.xc_moves.proofs.PlaceLemmas.{take_more-get}
+use Rattle.xc_text.proofs.ListLemmas.{in-filter, each_in, each_from, take_more-get}
 use Rattle.xc_search.specs.Listing.{whole}
 use Rattle.xc_search.specs.InSpan.{InSpan, branches_along, left_of, reached, row_or_end}
 use Rattle.xc_search.specs.declared.choice.Choice.{Choice}
@@ -32,7 +31,7 @@ use Rattle.xc_search.specs.Nodes.{IsRowOf, RowsGoOn, row_count}
 use Rattle.xc_search.proofs.RowLemmas.{not_itself, not_before_before, before_either_way, spans_meet, rows_end}
 use Rattle.xc_search.proofs.SpanRuns.{none_long}
 use Rattle.xc_search.proofs.EndLemmas.{ends_on}
-use Rattle.xc_streams.specs.Texts.{SinkState, Took, BrokeOff}
+use Rattle.xc_text.specs.Texts.{SinkState, Took, BrokeOff}
 use Rattle.xc_list.specs.SpanTexts.{row_text, end_at, branches_text, record_front, span_text, problem_part}
 use Rattle.xc_list.specs.SpanTexts.{closed_text}
 use Rattle.xc_list.specs.inner.Writing.{dotted, numbers_text, text_at, row_in, branches_in, left_at, WentOn, GoesFew}
@@ -42,7 +41,7 @@ use Rattle.xc_list.specs.SpanWords.{AskedSpan, is_span}
 use Rattle.xc_list.specs.Known.{IsKnownChoice}
 use Rattle.xc_list.specs.Digests.{digest_of, text_digest}
 use Rattle.xc_list.specs.SearchedSpans.{AreSmall, IsSpan}
-use Rattle.xc_streams.proofs.SinkLemmas.{then_took, then_broke, broke_before}
+use Rattle.xc_text.proofs.SinkLemmas.{then_took, then_broke, broke_before}
 use Rattle.xc_list.proofs.Writing.{first_texts, texts_broke, within_next}
 use Rattle.xc_list.proofs.Writing.{take_next, rest_next, all_done, branches_small, numbers_small}
 use Rattle.xc_list.proofs.OutputLemmas.{members_known}

@@ -6,8 +6,8 @@ use Rattle.std.proofs.lemmas.Bool.Decides.{nat_tests}
 use Rattle.std.specs.Int.{w64, from_le_bytes}
 use Rattle.std.proofs.lemmas.List.Sums.{fold-append}
 use Rattle.xc_text.specs.Hashing.{taken}
-use Rattle.xc_streams.specs.Texts.{SinkState, Took}
-use Rattle.xc_streams.proofs.SinkLemmas.{appends_more}
+use Rattle.xc_text.specs.Texts.{SinkState, Took}
+use Rattle.xc_text.proofs.SinkLemmas.{appends_more}
 use Rattle.std.specs.Io.KnownBytes.{Appends}
 use Rattle.xc_list.specs.declared.text_digest.TextDigest.{TextDigest}
 use Rattle.xc_list.specs.declared.digest_sink.DigestSink.{DigestSink}

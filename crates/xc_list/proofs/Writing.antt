@@ -40,13 +40,13 @@ use Rattle.xc_search.specs.Nodes.{IsRowOf}
 use Rattle.xc_search.specs.inner.Levels.{size_of}
 use Rattle.xc_search.proofs.LoopSteps.{drop_past, shown_next, shown_past}
 use Rattle.xc_search.proofs.ListingLemmas.{few_branches, branches_less}
-use Rattle.xc_streams.proofs.SinkLemmas.{then_took, then_broke, broke_before}
-use Rattle.xc_check.proofs.NumberLemmas.{some_digits}
+use Rattle.xc_text.proofs.SinkLemmas.{then_took, then_broke, broke_before}
+use Rattle.xc_text.proofs.NumberLemmas.{some_digits}
 use Rattle.xc_list.specs.inner.Writing.{printed_text, StandsAt, Puts, held_text, digest_start}
 use Rattle.xc_check.specs.UseTexts.{from_item}
 use Rattle.xc_list.specs.Output.{output, is_printed, member_text}
-use Rattle.xc_streams.specs.Texts.{SinkState, Took, BrokeOff}
-use Rattle.xc_check.specs.LongNumbers.{long_number}
+use Rattle.xc_text.specs.Texts.{SinkState, Took, BrokeOff}
+use Rattle.xc_text.specs.LongNumbers.{long_number}
 use Rattle.xc_list.specs.Settings.{read_word}
 use Rattle.xc_list.specs.SpanTexts.{row_text}
 use Rattle.xc_list.specs.SpanWords.{row_numbers, row_word}

@@ -1,8 +1,8 @@
 -- What a run writes, and its end.
 use Rattle.std.specs.Prelude.{ℕ, ◌+◌, ◌-◌, ◌*◌, ◌≤◌, ◌≡◌, Bool, true, nat_lt, List, [], length, Some}
 use Rattle.std.specs.Prelude.{Result, MatchResult, if◌then◌else◌}
-use Rattle.xc_streams.specs.Texts.{Seen, SinkState, Took, BrokeOff, Behind}
-use Rattle.xc_moves.specs.declared.dance.Memory.{Memory}
+use Rattle.xc_text.specs.Texts.{Seen, SinkState, Took, BrokeOff, Behind}
+use Rattle.xc_text.specs.declared.memory.Memory.{Memory}
 use Rattle.xc_search.specs.declared.choice.Choice.{Choice}
 use Rattle.xc_input.specs.Problem.{Puzzle, numbered_get}
 use Rattle.xc_search.specs.Cover.{members}

@@ -13,7 +13,7 @@ use Rattle.xc_search.specs.declared.went.Halt.TheVariants.{Member, End, Steps}
 use Rattle.xc_list.specs.SpanTexts.{end_at}
 use Rattle.xc_list.specs.SearchedSpans.{SearchedSpan, IsSpan, text_of}
 use Rattle.xc_list.specs.SpanWords.{AskedSpan, is_span}
-use Rattle.xc_streams.specs.Texts.{Seen, SinkState, Took, BrokeOff}
+use Rattle.xc_text.specs.Texts.{Seen, SinkState, Took, BrokeOff}
 use Rattle.xc_list.specs.declared.ends.SpanFault.{SpanFault}
 use Rattle.xc_list.specs.declared.ends.SpanFault.TheVariants.{Memory, WriteFailed}
 

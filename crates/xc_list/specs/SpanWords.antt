@@ -4,7 +4,7 @@ use Rattle.std.specs.Prelude.{nat_lt, option_map, option_and_then, if◌then◌e
 use Rattle.std.specs.List.{slice_split}
 use Rattle.std.specs.Str.{byte, bytes_eq}
 use Rattle.xc_search.specs.Spans.{precedes}
-use Rattle.xc_check.specs.LongNumbers.{long_number}
+use Rattle.xc_text.specs.LongNumbers.{long_number}
 use Rattle.xc_list.specs.declared.asked.SpanWords.{SpanWords}
 
 -- What a run is to do: whether solutions are listed, or else counted alone; how many steps it takes at most, with 0

@@ -10,7 +10,7 @@ ghost use Rattle.std.specs.Prelude.{◌+◌, OnOk, OnErr, IsTrue, IsNone, flat_m
 ghost use Rattle.xc_input.specs.Problem.{uses_of, IsOption};
 ghost use Rattle.xc_input.specs.UsePlaces.{place_in};
 ghost use Rattle.xc_input.specs.Named.{IsKnownUse};
-ghost use Rattle.xc_streams.specs.Texts.{Writes};
+ghost use Rattle.xc_text.specs.Texts.{Writes};
 ghost use Rattle.xc_check.specs.UseTexts.{from_item};
 ghost use Rattle.xc_list.specs.inner.Writing.{use_text, AreLaid, ArePadded, first_item, uses_text};
 ghost use Rattle.xc_list.specs.declared.places.TheConstants.{PADDING, ROOM};
@@ -21,8 +21,7 @@ use crate::uses::{colour_of, name_of, uses_at, write_option, write_uses};
 use std::alloc::Global;
 use std::marker::Model;
 use xc_input::{Problem, Use};
-use xc_moves::Memory;
-use xc_streams::{Sink, SinkFault, Tray, write_all};
+use xc_text::{Memory, Sink, SinkFault, Tray, write_all};
 
 /// The texts of options one after another, with the places where they start and at last the length of
 /// all, and after them a few bytes more.

@@ -1,12 +1,10 @@
 //! A text that is known by its digest alone.
 ghost use Rattle.std.specs.Prelude.{◌≡◌, List, ℕ, Some, [], flat_map};
-ghost use Rattle.xc_streams.specs.Texts.{Took};
+ghost use Rattle.xc_text.specs.Texts.{Took};
 ghost use Rattle.xc_list.specs.Digests.{begun_digest, after_text, text_digest};
 
 use crate::text_digest::TextDigest;
-use xc_moves::Tally as Flushes;
-use xc_streams::{Sink, WriteFailed};
-use xc_text::Given;
+use xc_text::{Given, Sink, Tally as Flushes, WriteFailed};
 
 /// A sink that takes each text, and of all of them keeps the digest.
 #[derive(Drop)]

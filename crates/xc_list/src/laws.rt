@@ -23,7 +23,6 @@ use crate::ends::{End, SpanFault};
 use crate::text_digest::TextDigest;
 use crate::words::{WordFault, Words};
 pub use xc_check::laws::{equal_listing_faults, equal_verdicts};
-pub use xc_streams::laws::equal_failures;
 
 /// Two ends of runs are equal exactly if they are the same.
 pub fn equal_ends(a: &End, b: &End) -> bool

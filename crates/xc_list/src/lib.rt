@@ -40,8 +40,10 @@ pub use runs::{run, run_over, run_over_links};
 pub use spans::{list_span, list_span_over};
 pub use text_digest::TextDigest;
 pub use words::{WordFault, Words};
+
+// For callers alone: no library here imports by these paths (`scripts/imports`).
 pub use xc_check::{ListingFault, Verdict, branch_number, is_cover};
-pub use xc_dance::Tally as Flushes;
-pub use xc_streams::{
-    Sink, SinkFault, Tray, VecSink, WriteFailed, write_all, write_line, write_number,
+pub use xc_text::{
+    Sink, SinkFault, Tally as Flushes, Tray, VecSink, WriteFailed, write_all, write_line,
+    write_number,
 };

@@ -1,13 +1,13 @@
 //! What is reported beside a listing.
 ghost use Rattle.std.specs.Prelude.{◌≡◌, ℕ, ◌+◌, ◌-◌, ◌<◌, ◌≤◌, ◌++◌, flat_map, OnErr, IsTrue, decimal, codes, ◌==◌};
 ghost use Rattle.std.specs.Prelude.{if◌then◌else◌};
-ghost use Rattle.xc_streams.specs.Texts.{Writes};
+ghost use Rattle.xc_text.specs.Texts.{Writes};
 ghost use Rattle.xc_list.specs.Messages.{total_text, summary_text, warning_text, word_fault_text};
 
 use crate::ends::End;
 use crate::words::WordFault;
 use xc_input::Read;
-use xc_streams::{Sink, SinkFault, write_line};
+use xc_text::{Sink, SinkFault, write_line};
 
 fn plural<'a>(n: u64) -> &'a [u8]
     ensures { result.now ≡ (if n == 1 then codes " solution" else codes " solutions") }

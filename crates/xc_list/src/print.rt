@@ -13,7 +13,7 @@
 //! numbers of a line are tested one after the other: 1 % each.
 ghost use Rattle.std.specs.Prelude.{◌≡◌, ◌+◌, ◌<◌, ◌≤◌, ◌++◌, All, flat_map, OnErr, IsTrue, codes, length, take, drop};
 ghost use Rattle.std.specs.Prelude.{IfOk, IfSome, IsNone, MatchResult};
-ghost use Rattle.xc_streams.specs.Texts.{Writes, Took};
+ghost use Rattle.xc_text.specs.Texts.{Writes, Took};
 ghost use Rattle.xc_input.specs.Problem.{IsItem};
 ghost use Rattle.xc_check.specs.UseTexts.{bytes_at};
 ghost use Rattle.xc_list.specs.Output.{body_text, choice_text, member_text};
@@ -31,7 +31,7 @@ use crate::uses::write_name;
 use xc_input::Problem;
 use xc_moves::Dance;
 use xc_search::{Choice, Mark, Walk};
-use xc_streams::{Sink, SinkFault, write_all, write_number, write_two_numbers};
+use xc_text::{Sink, SinkFault, write_all, write_number, write_two_numbers};
 
 /// Writes that no option is taken.
 fn write_none<S: Sink>(problem: &Problem, item: u32, sink: &mut S) -> Result<(), SinkFault>
@@ -149,7 +149,7 @@ fn write_branch<S: Sink>(k: u32, n: u32, sink: &mut S) -> Result<(), SinkFault>
 }
 
 #[inline]
-#[tactic(auto, using(xc_streams::proofs::SinkLemmas::then_writes))]
+#[tactic(auto, using(xc_text::proofs::SinkLemmas::then_writes))]
 fn write_choice<S: Sink>(bodies: &Bodies, choice: &Choice, sink: &mut S) -> Result<(), SinkFault>
     requires { IsKnownChoice bodies.now.puzzle choice.now }
     ensures { Writes (S.state sink.old) (S.state sink.new) result (choice_text bodies.now choice.now) }
@@ -224,7 +224,7 @@ fn put_choice(laid: &LaidOut, choice: Choice, page: &mut [u8], at: usize) -> Opt
 /// Writes what a page holds and the line of a choice. It takes the choice in parts, so that one that is put on the page
 /// is never stored.
 #[inline(never)]
-#[tactic(auto, using(xc_streams::proofs::SinkLemmas::failed, xc_streams::proofs::SinkLemmas::broke_before, xc_streams::proofs::SinkLemmas::then_writes))]
+#[tactic(auto, using(xc_text::proofs::SinkLemmas::failed, xc_text::proofs::SinkLemmas::broke_before, xc_text::proofs::SinkLemmas::then_writes))]
 fn write_past<S: Sink>(
     bodies: &Bodies,
     item: u32,
@@ -337,7 +337,7 @@ fn write_in_pieces<C: Choices + Drop, S: Sink>(
 
 /// Writes a solution by a page that keeps no line. Where a line isn't put, what the page holds is written first.
 #[inline(always)]
-#[tactic(auto, using(xc_streams::proofs::SinkLemmas::then_writes, std::proofs::lemmas::Slice::between_is))]
+#[tactic(auto, using(xc_text::proofs::SinkLemmas::then_writes, std::proofs::lemmas::Slice::between_is))]
 pub fn write_afresh<C: Choices + Drop, S: Sink>(
     number: u64,
     solution: C,

@@ -4,7 +4,7 @@
 //! is made by a call that the programs use.
 ghost use Rattle.std.specs.Prelude.{◌≡◌, ℕ, ◌+◌, ◌-◌, ◌<◌, ◌≤◌, false, [], All, IfOk, IsTrue, MatchResult};
 ghost use Rattle.std.specs.Prelude.{OnErr, length};
-ghost use Rattle.xc_streams.specs.Texts.{seen, Writes};
+ghost use Rattle.xc_text.specs.Texts.{seen, Writes};
 ghost use Rattle.xc_search.specs.Cover.{members, EachMemberCovers, EachCoverIsListedOnce};
 ghost use Rattle.xc_search.specs.Room.{room_for};
 ghost use Rattle.xc_search.specs.Listing.{whole};
@@ -25,9 +25,9 @@ use crate::words::Words;
 use std::alloc::Global;
 use xc_dance::Links;
 use xc_input::Problem;
-use xc_moves::{Dance, Memory, most_moves};
+use xc_moves::{Dance, most_moves};
 use xc_search::Walk;
-use xc_streams::{Sink, SinkFault};
+use xc_text::{Memory, Sink, SinkFault};
 
 /// Whether the solution with this number is printed.
 fn is_printed(spacing: u64, number: u64) -> bool

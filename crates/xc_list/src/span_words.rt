@@ -9,7 +9,7 @@ ghost use Rattle.xc_list.specs.SpanWords.{asked_rows, asked_words, read_span_wor
 
 use crate::asked::SpanWords;
 use std::alloc::{AllocError, Global};
-use xc_check::long_number;
+use xc_text::long_number;
 
 /// Whether a word means a listing, or a count alone.
 fn listing_word(word: &[u8]) -> Option<bool>

@@ -8,7 +8,7 @@ ghost use Rattle.xc_search.specs.Listing.{whole};
 ghost use Rattle.xc_search.specs.Nodes.{IsRowOf};
 ghost use Rattle.xc_input.specs.Named.{IsSound};
 ghost use Rattle.xc_list.specs.Known.{IsKnownChoice};
-ghost use Rattle.xc_streams.specs.Texts.{seen, Writes, Took, BrokeOff};
+ghost use Rattle.xc_text.specs.Texts.{seen, Writes, Took, BrokeOff};
 ghost use Rattle.xc_list.specs.SpanTexts.{row_text, end_at, members_text, listing_text, heading_text};
 ghost use Rattle.xc_list.specs.SpanTexts.{problem_part};
 ghost use Rattle.xc_list.specs.Digests.{digest_of};
@@ -31,7 +31,7 @@ use xc_dance::Links;
 use xc_input::Problem;
 use xc_moves::{Dance, most_moves};
 use xc_search::{Halt, Span, Went};
-use xc_streams::{Sink, SinkFault, write_all, write_number, write_numbered};
+use xc_text::{Sink, SinkFault, write_all, write_number, write_numbered};
 
 /// What the text of a span has of its problem: the options as they are printed, and the digest.
 #[derive(Drop)]
@@ -73,7 +73,7 @@ fn write_numbers<S: Sink>(numbers: &[u32], sink: &mut S) -> Result<(), SinkFault
 }
 
 /// Writes a row: its numbers with points between, or `-` for the empty row.
-#[tactic(auto, using(xc_streams::proofs::SinkLemmas::then_writes, crate::proofs::SpanLemmas::row_parts))]
+#[tactic(auto, using(xc_text::proofs::SinkLemmas::then_writes, crate::proofs::SpanLemmas::row_parts))]
 fn write_row<S: Sink>(row: &[u32], sink: &mut S) -> Result<(), SinkFault>
     ensures { Writes (S.state sink.old) (S.state sink.new) result (row_text row.now) }
 {

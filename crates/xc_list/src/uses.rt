@@ -1,6 +1,6 @@
 //! Uses as text.
 ghost use Rattle.std.specs.Prelude.{◌≡◌, ◌≤◌, length, All, flat_map, OnErr, IsTrue};
-ghost use Rattle.xc_streams.specs.Texts.{Writes};
+ghost use Rattle.xc_text.specs.Texts.{Writes};
 ghost use Rattle.xc_input.specs.Problem.{IsItem, uses_of, IsOption};
 ghost use Rattle.xc_input.specs.Named.{IsKnownUse, IsSound};
 ghost use Rattle.xc_check.specs.UseTexts.{bytes_at, from_item};
@@ -8,7 +8,7 @@ ghost use Rattle.xc_check.specs.inner.Classes.{colour_text};
 ghost use Rattle.xc_list.specs.inner.Writing.{use_text};
 
 use xc_input::{Problem, Use, place_in};
-use xc_streams::{Sink, SinkFault, write_all};
+use xc_text::{Sink, SinkFault, write_all};
 
 /// The name of item `i`.
 pub fn name_of<'a>(problem: &'a Problem, i: u32) -> &'a [u8]

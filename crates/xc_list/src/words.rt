@@ -3,7 +3,7 @@ ghost use Rattle.std.specs.Prelude.{◌≡◌, ℕ, ◌+◌, ◌-◌, ◌<◌, �
 ghost use Rattle.xc_list.specs.Settings.{read_word, read_words};
 
 use thiserror::Error;
-use xc_check::long_number;
+use xc_text::long_number;
 
 /// What a run is to do: print each solution whose number is a multiple of `spacing`, none where that
 /// is 0, and stop after `limit` solutions.

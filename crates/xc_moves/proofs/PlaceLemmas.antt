@@ -3,8 +3,8 @@ use Rattle.std.proofs.Common.{ℕ, ◌≡◌, ◌+◌, List, [], ◌∷◌, ◌+
 use Rattle.std.proofs.Common.{inl, inr, true, false, cond, eqb, get_or, map, drop, refl, ap, sym, ◌∙◌, eqb-true, eq-eqb}
 use Rattle.std.proofs.Common.{sum_by, ◌^◌}
 use Rattle.std.specs.Prelude.{slice_get, flat_map, option_map, unwrap_or, is_some, All}
-use Rattle.std.proofs.lemmas.Option.{slice_get_within, get_or_from_slice_get, slice_get-map, slice_get-get_or}
-use Rattle.std.proofs.lemmas.List.{take_more, length-map, length-drop, append_assoc, take-take, drop-drop}
+use Rattle.std.proofs.lemmas.Option.{slice_get_within, slice_get-map, slice_get-get_or}
+use Rattle.std.proofs.lemmas.List.{length-map, length-drop, append_assoc, take-take, drop-drop}
 use Rattle.std.specs.List.{AllByRecursion}
 use Rattle.std.proofs.lemmas.Grind.{common_steps}
 use Rattle.std.proofs.lemmas.Bool.{false≢true}
@@ -18,16 +18,12 @@ use Rattle.xc_input.specs.Problem.{IsOption, IsWithinLimits, IsValid, IsSoundOpt
 use Rattle.xc_input.specs.UsePlaces.{place_in}
 use Rattle.xc_input.specs.Named.{Named, IsSound}
 use Rattle.xc_input.proofs.OptionLemmas.{numbered_from}
-use Rattle.xc_text.proofs.ListLemmas.{get_left, drop_at, slice_get-drop, each_weaker}
+use Rattle.xc_text.proofs.ListLemmas.{get_left, drop_at, slice_get-drop, each_weaker, take_more-get}
 use Rattle.xc_moves.specs.Places.{Node, own, spacer, used, nodes_of, layout, spacer_place, link_place}
 use Rattle.xc_moves.specs.inner.Uses.{start_at, HoldsItem, named, before_use, behind_use}
 use Rattle.xc_moves.specs.Commits.{IsUseAt, option_at}
 use Rattle.xc_moves.proofs.MoveLemmas.{holds_use, known_option}
 use Rattle.xc_input.specs.declared.problem.Bounds.{Bounds}
-
-pub take_more-get : {X : Type 0} (xs : List X) (k : ℕ) (x : X) → slice_get xs k ≡ Some x
-    → take (k + 1) xs ≡ take k xs ++ x ∷ []
-take_more-get xs k x e = cc (take_more xs k x (slice_get_within xs k x e), get_or_from_slice_get xs k x x e)
 
 pub get_dropped : {X : Type 0} (n k : ℕ) (xs : List X) → slice_get (drop n xs) k ≡ slice_get xs (n + k)
 get_dropped n k xs = cc (slice_get-drop (drop n xs) k, drop-drop k n xs, slice_get-drop xs (n + k))

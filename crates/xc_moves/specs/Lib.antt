@@ -1,4 +1,3 @@
-pub mod Counted
 pub mod Moves
 pub mod Dancing
 pub mod Places

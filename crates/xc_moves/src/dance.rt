@@ -17,7 +17,6 @@ ghost use Rattle.xc_moves.specs.Moves.{IsLegal, AreTweaks, listed, listed_number
 ghost use Rattle.xc_moves.specs.Moves.{IsOpenPrimary, spends};
 
 use crate::places::{node_place, number_at};
-use std::alloc::AllocError;
 use thiserror::Error;
 use xc_input::{Problem, Use, place_in};
 
@@ -43,17 +42,6 @@ pub struct Count(pub u64);
 #[derive(Clone, Copy, Debug, PartialEq, Eq, Error)]
 #[error("no room for another move")]
 pub struct Full;
-
-/// There was no memory.
-#[derive(Clone, Copy, Debug, PartialEq, Eq, Error)]
-#[error("out of memory")]
-pub struct Memory;
-
-impl From<AllocError> for Memory {
-    fn from(_: AllocError) -> Memory {
-        Memory
-    }
-}
 
 /// A keeper of the lists of options that each item has left, under moves that are undone in the
 /// opposite order. Items and options are named by their numbers, from 1 on.

@@ -5,7 +5,7 @@ ghost use Rattle.xc_input.specs.Problem.{Puzzle};
 ghost use Rattle.xc_moves.specs.Moves.{listed_numbers, next_above};
 ghost use Rattle.xc_moves.specs.declared.dance.Move.{Move};
 
-use crate::{Count, Full, Memory, Move};
+use crate::{Count, Full, Move};
 
 /// The options of an item's list rise in number. So `first` answers its head, and `below` of an option the next one.
 pub fn lists_rise()
@@ -19,7 +19,6 @@ pub fn equality()
     ensures moves { DecidesEquality ⟦<Move as PartialEq>⟧.eq }
     ensures counts { DecidesEquality ⟦<Count as PartialEq>⟧.eq }
     ensures full { DecidesEquality ⟦<Full as PartialEq>⟧.eq }
-    ensures memory { DecidesEquality ⟦<Memory as PartialEq>⟧.eq }
 {}
 
 /// A clone of a value of any of these types is equal to it.
@@ -27,5 +26,4 @@ pub fn clones()
     ensures moves { IsEqualClone ⟦<Move as Clone>⟧.is_clone }
     ensures counts { IsEqualClone ⟦<Count as Clone>⟧.is_clone }
     ensures full { IsEqualClone ⟦<Full as Clone>⟧.is_clone }
-    ensures memory { IsEqualClone ⟦<Memory as Clone>⟧.is_clone }
 {}

@@ -17,9 +17,7 @@ pub mod laws;
 mod listed;
 mod places;
 mod room;
-mod tally;
 
-pub use dance::{Count, Dance, Full, Memory, Move};
+pub use dance::{Count, Dance, Full, Move};
 pub use listed::{Listed, list_of};
 pub use room::most_moves;
-pub use tally::Tally;

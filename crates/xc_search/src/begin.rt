@@ -11,7 +11,8 @@ use std::alloc::Global;
 use std::error::Error;
 use std::fmt;
 use xc_input::Problem;
-use xc_moves::{Dance, Memory};
+use xc_moves::Dance;
+use xc_text::Memory;
 
 /// Why no search began: there was no memory for its levels. It holds the dance, as it was.
 #[derive(Drop)]

@@ -41,4 +41,6 @@ pub use search::{Search, Step};
 pub use span::{RowNumber, Span};
 pub use walk::{Solution, Walk};
 pub use went::{Halt, Went};
+
+// For callers alone: no library here imports by these paths (`scripts/imports`).
 pub use xc_moves::most_moves;

@@ -17,7 +17,8 @@ use crate::walk::Walk;
 use std::alloc::Global;
 use std::marker::Model;
 use xc_input::Problem;
-use xc_moves::{Dance, Memory};
+use xc_moves::Dance;
+use xc_text::Memory;
 
 /// A result of `Search::next`.
 #[derive(Clone, Copy, Debug, PartialEq, Eq)]

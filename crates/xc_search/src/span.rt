@@ -24,7 +24,8 @@ use crate::went::{Halt, Went};
 use std::alloc::{AllocError, Global};
 use std::marker::Model;
 use xc_input::Problem;
-use xc_moves::{Dance, Memory};
+use xc_moves::Dance;
+use xc_text::Memory;
 
 /// A number of a row: branch `k` of the `n` branches of its level.
 #[derive(Clone, Copy, Debug, PartialEq, Eq, Hash)]

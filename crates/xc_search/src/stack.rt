@@ -13,7 +13,8 @@ use crate::position::Position;
 use core::mem::replace_with;
 use std::alloc::{AllocError, Global};
 use std::marker::Model;
-use xc_moves::{Dance, Tally};
+use xc_moves::Dance;
+use xc_text::Tally;
 
 /// The levels of a search.
 #[derive(Drop)]

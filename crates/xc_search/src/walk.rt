@@ -34,7 +34,8 @@ use core::mem::replace_with;
 use std::alloc::Global;
 use std::marker::Model;
 use xc_input::Problem;
-use xc_moves::{Dance, Memory};
+use xc_moves::Dance;
+use xc_text::Memory;
 
 /// A walk over the solutions of a problem, over a dance of that problem, whose moves it makes and undoes. It stands for
 /// the members of the problem's listing that are still to come, and at one of them. It is what `Search` goes by, and

@@ -1,2 +1,1 @@
-pub mod SinkLemmas
 pub mod StreamLemmas

@@ -16,7 +16,7 @@ use Rattle.std.proofs.lemmas.List.Edits.{take-paste}
 use Rattle.std.proofs.lemmas.Slice.{drop-put_mid}
 use Rattle.std.specs.Simd.Lanes.{chunk, put_chunk}
 use Rattle.std.proofs.lemmas.Option.{slice_get_within}
-use Rattle.xc_moves.proofs.PlaceLemmas.{take_more-get}
+use Rattle.xc_text.proofs.ListLemmas.{take_more-get}
 use Rattle.xc_streams.specs.ShownNames.{hex_digit, is_unescaped, shown_byte}
 use lib.Seq.{paste}
 

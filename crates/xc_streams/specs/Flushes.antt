@@ -2,7 +2,7 @@
 use Rattle.std.specs.Prelude.{◌≡◌, ◌+◌, IsTrue}
 use Rattle.std.specs.Io.KnownBytes.{Keeps}
 use Rattle.xc_text.specs.Calls.{Rose}
-use Rattle.xc_streams.specs.Texts.{SinkState}
+use Rattle.xc_text.specs.Texts.{SinkState}
 
 -- A sink was flushed once more, met no failure, and holds nothing back.
 pub record WasFlushed (old new : SinkState) : Type 0 where

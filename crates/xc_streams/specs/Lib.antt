@@ -3,6 +3,4 @@ pub mod Flushes
 pub mod Outputs
 pub mod ShownNames
 pub mod Streams
-pub mod Texts
-pub mod WholeTexts
 pub mod inner

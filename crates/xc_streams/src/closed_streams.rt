@@ -4,11 +4,11 @@
 //! since the file would get the number of a closed stream. Wrong arguments give status 1 whatever is closed, without
 //! waiting for a file that is a pipe. The solvers open no file, so there a closed stream fails when it is used.
 ghost use Rattle.std.specs.Prelude.{◌≡◌, ◌⊎◌, Bool, true, false, Option, None, Some, IfSome, MatchOption, codes};
-ghost use Rattle.xc_streams.specs.Texts.{WasTold};
+ghost use Rattle.xc_text.specs.Texts.{WasTold};
 
-use crate::sink::Sink;
 use crate::status::{FAILED, refuse, write_failed};
 use std::os::fd::AsFd;
+use xc_text::Sink;
 
 /// A standard stream.
 // In place of `AsFd`, whose contract doesn't say whether it is open.

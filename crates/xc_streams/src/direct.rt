@@ -5,10 +5,9 @@ ghost use Rattle.xc_text.specs.Calls.{counted, is_failed_write};
 ghost use Rattle.xc_streams.specs.Streams.{answered, flushed, write_answer, answer_of};
 ghost use Rattle.xc_streams.specs.declared.system.Answer.TheVariants.{Flushed};
 
-use crate::sink::{Sink, WriteFailed};
 use crate::system::{System, SystemWriter};
 use std::io::Write;
-use xc_moves::Tally;
+use xc_text::{Sink, Tally, WriteFailed};
 
 /// A writer of the system as a sink that passes on each text at once. After a failure nothing is called
 /// of it.

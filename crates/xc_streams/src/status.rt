@@ -2,11 +2,10 @@
 ghost use Rattle.std.specs.Prelude.{◌≡◌, ◌⊎◌, ◌+◌, IfErr, IsTrue, OnOk, codes};
 ghost use Rattle.std.specs.Io.KnownBytes.{Keeps};
 ghost use Rattle.xc_text.specs.Calls.{Rose};
-ghost use Rattle.xc_streams.specs.Texts.{WasTold};
+ghost use Rattle.xc_text.specs.Texts.{WasTold};
 ghost use Rattle.xc_streams.specs.Flushes.{FlushFailed, WasFlushed};
 
-use crate::sink::Sink;
-use crate::write::write_all;
+use xc_text::{Sink, write_all};
 
 /// The run was complete or met its limit, or each solution is a cover.
 pub const COMPLETE: u8 = 0;

@@ -9,10 +9,8 @@ ghost use Rattle.xc_streams.specs.inner.Streams.{taken_answer};
 ghost use Rattle.xc_streams.specs.declared.system.Answer.{Answer};
 ghost use Rattle.xc_streams.specs.declared.system.Answer.TheVariants.{Whole, Flushed};
 
-use crate::sink::WriteFailed;
 use std::io::{Read, Write};
-use xc_moves::Tally;
-use xc_text::ReadFailed;
+use xc_text::{ReadFailed, Tally, WriteFailed};
 
 /// What the system answers one call.
 #[derive(Clone, Copy, Debug, PartialEq, Eq)]

@@ -2,3 +2,4 @@ pub mod ListLemmas
 pub mod ByteLemmas
 pub mod NumberLemmas
 pub mod LineLemmas
+pub mod SinkLemmas

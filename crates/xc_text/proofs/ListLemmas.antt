@@ -13,7 +13,8 @@ use Rattle.std.proofs.lemmas.List.Sums.{length-filter, count_by-le-length}
 use Rattle.std.proofs.lemmas.Grind.{common_steps}
 use Rattle.std.proofs.Math.ListN.{set}
 use Rattle.std.proofs.Math.Seq.{set-append_seam, get_or-append_seam}
-use Rattle.std.proofs.lemmas.List.{reverse-append, reverse-reverse, length-reverse}
+use Rattle.std.proofs.lemmas.List.{reverse-append, reverse-reverse, length-reverse, take_more}
+use Rattle.std.proofs.lemmas.Option.{slice_get_within, get_or_from_slice_get}
 
 -- ======== By cases of a value, each with what the value is there.
 
@@ -384,6 +385,10 @@ pub slice_get-drop : {X : Type 0} (xs : List X) (m : ℕ) → slice_get (drop m 
 slice_get-drop xs zero = refl
 slice_get-drop [] (suc m) = refl
 slice_get-drop (x ∷ xs) (suc m) = slice_get-drop xs m
+
+pub take_more-get : {X : Type 0} (xs : List X) (k : ℕ) (x : X) → slice_get xs k ≡ Some x
+    → take (k + 1) xs ≡ take k xs ++ x ∷ []
+take_more-get xs k x e = cc (take_more xs k x (slice_get_within xs k x e), get_or_from_slice_get xs k x x e)
 
 pub drop_one : {X : Type 0} (m : ℕ) (xs : List X) → drop 1 (drop m xs) ≡ drop (suc m) xs
 drop_one zero xs = refl

@@ -1,8 +1,12 @@
 pub mod Calls
 pub mod Words
+pub mod LongNumbers
 pub mod Hashing
 pub mod Lines
 pub mod Sources
 pub mod LinesRead
+pub mod Texts
+pub mod WholeTexts
+pub mod Counted
 pub mod Equality
 pub mod inner

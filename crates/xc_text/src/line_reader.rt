@@ -9,13 +9,10 @@ ghost use Rattle.xc_text.specs.Words.{has};
 ghost use Rattle.xc_text.specs.inner.LineFeeds.{AskedFor, Cut, ReadOnce, ended_carry, read_size};
 ghost use Rattle.xc_text.specs.declared.line_reader.Unread.TheVariants.{Device, Memory};
 
-use crate::source::{ReadFailed, Source};
+use crate::source::{PIECE, ReadFailed, Source};
 use bstr::ByteSlice;
 use std::alloc::{AllocError, Global};
 use std::marker::Model;
-
-/// How many bytes are read from a source at once.
-const PIECE: usize = 65536;
 
 /// Why there is no answer whether one more line comes.
 #[derive(Clone, Copy, Debug, PartialEq, Eq)]

@@ -17,6 +17,9 @@ use crate::given::Given;
 use std::fmt;
 use thiserror::Error;
 
+/// How many bytes are read from a source at once.
+pub(crate) const PIECE: usize = 65536;
+
 /// A read that failed.
 #[derive(Clone, Copy, Debug, PartialEq, Eq, Error)]
 #[error("a read failed")]

@@ -15,12 +15,12 @@ use Rattle.xc_list.specs.declared.words.Words.{Words}
 use Rattle.xc_list.specs.Messages.{summary_text}
 use Rattle.xc_list.specs.Output.{output}
 use Rattle.xc_list.specs.Runs.{end_of}
-use Rattle.xc_streams.specs.Texts.{Seen, SinkState, Took, BrokeOff, WasTold, Begins}
+use Rattle.xc_text.specs.Texts.{Seen, SinkState, Took, BrokeOff, WasTold, Begins}
 use Rattle.xc_check.specs.declared.verdict.Verdict.{Verdict}
 use Rattle.xc_list.specs.SpanRuns.{OfSpan}
 use Rattle.xc_list.specs.SpanWords.{AskedSpan}
 use Rattle.xc_list.proofs.Writing.{stopped_broke}
-use Rattle.xc_streams.proofs.SinkLemmas.{appends_kept, took_nothing}
+use Rattle.xc_text.proofs.SinkLemmas.{appends_kept, took_nothing}
 use Rattle.xc_tools.specs.Solves.{DidSearch, DidWarnAndSearch}
 use Rattle.xc_tools.specs.WholeRuns.{Sinks, TookAll, Prints}
 use Rattle.xc_tools.specs.Judges.{verdict_text, HasVerdicts, DidJudgeListing}

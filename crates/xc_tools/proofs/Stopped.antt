@@ -10,12 +10,12 @@ use Rattle.xc_text.specs.LinesRead.{Advanced, LinesRead}
 use Rattle.xc_text.specs.declared.line_reader.Unread.{Unread}
 use Rattle.xc_text.specs.Sources.{SourceState, Gave, GaveAll}
 use Rattle.xc_text.proofs.LineLemmas.{came-gave, gave_then, ended-append, gave_none}
-use Rattle.xc_streams.specs.Texts.{SinkState, Took, BrokeOff, WasTold}
+use Rattle.xc_text.specs.Texts.{SinkState, Took, BrokeOff, WasTold}
 use Rattle.xc_list.specs.SpanTexts.{most_counted}
 use Rattle.xc_list.specs.Messages.{summary_text}
 use Rattle.xc_list.specs.declared.ends.End.{End}
 use Rattle.xc_list.specs.declared.ends.End.TheVariants.{Done, Limit}
-use Rattle.xc_streams.proofs.SinkLemmas.{then_broke, then_took, took_nothing, appends_kept}
+use Rattle.xc_text.proofs.SinkLemmas.{then_broke, then_took, took_nothing, appends_kept}
 use Rattle.xc_tools.specs.declared.outcomes.Stop.{Stop}
 use Rattle.xc_tools.specs.declared.outcomes.Stop.TheVariants.{NotText, Other, Gap, Device, Memory, WriteFailed}
 use Rattle.xc_tools.specs.declared.joint.Joint.{Joint}

@@ -9,7 +9,7 @@ use Rattle.xc_text.specs.Sources.{SourceState, Gave, GaveAll}
 use Rattle.xc_list.specs.SpanTexts.{most_counted, row_text}
 use Rattle.xc_list.specs.Messages.{summary_text}
 use Rattle.xc_list.specs.SearchedSpans.{SearchedSpan}
-use Rattle.xc_streams.specs.Texts.{Seen, Took, BrokeOff, WasTold}
+use Rattle.xc_text.specs.Texts.{Seen, Took, BrokeOff, WasTold}
 use Rattle.xc_list.specs.declared.ends.End.{End}
 use Rattle.xc_list.specs.declared.ends.End.TheVariants.{Done, Limit}
 use Rattle.xc_tools.specs.SpanShapes.{AreShapes, HasShape, SpanText, bytes_of, solution_text}

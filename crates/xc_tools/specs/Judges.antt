@@ -10,7 +10,7 @@ use Rattle.xc_text.specs.Lines.{lines_of}
 use Rattle.xc_text.specs.Calls.{Rose}
 use Rattle.xc_text.specs.Sources.{SourceState, GaveAll}
 use Rattle.xc_check.specs.Listed.{fault_in_lines, AreVerdicts}
-use Rattle.xc_streams.specs.Texts.{Seen}
+use Rattle.xc_text.specs.Texts.{Seen}
 use Rattle.xc_check.specs.declared.verdict.Verdict.{Verdict}
 use Rattle.xc_check.specs.declared.verdict.ListingFault.{ListingFault}
 use Rattle.xc_check.specs.declared.verdict.ListingFault.TheVariants.{BadLine, UnknownOption, Memory}

@@ -10,7 +10,7 @@ use Rattle.xc_list.specs.Messages.{warning_text, summary_text, word_fault_text}
 use Rattle.xc_list.specs.Output.{output}
 use Rattle.xc_list.specs.Runs.{StoppedAt, end_of}
 use Rattle.xc_list.specs.Settings.{read_words}
-use Rattle.xc_streams.specs.Texts.{Seen, SinkState, Took, BrokeOff, WasTold}
+use Rattle.xc_text.specs.Texts.{Seen, SinkState, Took, BrokeOff, WasTold}
 use Rattle.xc_tools.specs.WholeRuns.{Sinks, TookAll, FailedBehind, IsRefused, ReadsProblem}
 
 -- 0: the output was taken, and the last line was printed. The members are covers, and each cover is the set of exactly

@@ -10,7 +10,7 @@ use Rattle.xc_search.specs.declared.went.Went.{Went}
 use Rattle.xc_list.specs.SearchedSpans.{SearchedSpan, IsSpan, text_of}
 use Rattle.xc_list.specs.SpanRuns.{OfSpan}
 use Rattle.xc_list.specs.SpanWords.{AskedSpan, is_span, read_span_words, take_memory}
-use Rattle.xc_streams.specs.Texts.{Seen, SinkState}
+use Rattle.xc_text.specs.Texts.{Seen, SinkState}
 use Rattle.xc_tools.specs.Judges.{numbered_kind}
 use Rattle.xc_tools.specs.WholeRuns.{Sinks, Prints, IsRefused, ReadsProblem}
 

@@ -9,7 +9,7 @@ use Rattle.xc_input.specs.Pieces.{IsPart, IsWhole}
 use Rattle.xc_input.specs.declared.fault.InputError.{InputError}
 use Rattle.xc_input.specs.declared.fault.InputError.TheVariants.{Fault, Device, Memory}
 use Rattle.xc_input.specs.declared.kind.Kind.{Kind}
-use Rattle.xc_streams.specs.Texts.{Seen, seen, SinkState, BrokeOff, WasTold}
+use Rattle.xc_text.specs.Texts.{Seen, seen, SinkState, BrokeOff, WasTold}
 
 -- The output and the messages of a program.
 pub record Sinks (O E : Type 0) : Type 0 where

@@ -1,6 +1,6 @@
 //! What is reported where no problem was read.
 ghost use Rattle.std.specs.Prelude.{◌≡◌, ◌++◌, OnErr, IsTrue, codes, decimal};
-ghost use Rattle.xc_streams.specs.Texts.{Writes, WasTold};
+ghost use Rattle.xc_text.specs.Texts.{Writes, WasTold};
 ghost use Rattle.xc_input.specs.FaultTexts.{fault_text};
 ghost use Rattle.xc_tools.specs.WholeRuns.{no_problem};
 ghost use Rattle.xc_tools.specs.Judges.{listing_fault_text};
@@ -8,7 +8,7 @@ ghost use Rattle.xc_tools.specs.Judges.{listing_fault_text};
 use xc_check::ListingFault;
 use xc_input::{FaultKind, InputError};
 use xc_streams::status::{BAD_INPUT, FAILED, NO_MEMORY};
-use xc_streams::{Sink, SinkFault, write_all, write_line};
+use xc_text::{Sink, SinkFault, write_all, write_line};
 
 fn write_fault<S: Sink>(line: u64, kind: FaultKind, sink: &mut S) -> Result<(), SinkFault>
     ensures { Writes (S.state sink.old) (S.state sink.new)

@@ -11,7 +11,7 @@ ghost use Rattle.xc_text.specs.Sources.{GaveAll};
 ghost use Rattle.xc_text.specs.LinesRead.{IsLine};
 ghost use Rattle.xc_text.specs.Words.{has};
 ghost use Rattle.xc_text.specs.inner.LineFeeds.{ended};
-ghost use Rattle.xc_streams.specs.Texts.{seen, Took, WasTold, Writes};
+ghost use Rattle.xc_text.specs.Texts.{seen, Took, WasTold, Writes};
 ghost use Rattle.xc_tools.specs.Joins.{asked_join, gap_text, at_line, no_text, other_text, unread_text, DidJoin};
 ghost use Rattle.xc_tools.specs.Joins.{DidJoinWords};
 ghost use Rattle.xc_tools.specs.WholeRuns.{sinks};
@@ -31,8 +31,8 @@ use xc_list::End;
 use xc_streams::status::{
     BAD_INPUT, BAD_WORDS, COMPLETE, FAILED, GAP, NO_MEMORY, flush_and_refuse, refuse, write_failed,
 };
-use xc_streams::{Located, Sink, SinkFault, source_at, source_text, write_all, write_line};
-use xc_text::{Given, LineReader};
+use xc_streams::{Located, source_at, source_text};
+use xc_text::{Given, LineReader, Sink, SinkFault, write_all, write_line};
 
 /// Writes what is to be written for a line, which comes with its line feed.
 fn write_act<O: Sink>(act: Act, with_feed: &[u8], out: &mut O) -> Result<(), SinkFault>

@@ -5,7 +5,7 @@ ghost use Rattle.std.specs.List.{list_all};
 ghost use Rattle.std.specs.Io.KnownBytes.{Keeps};
 ghost use Rattle.xc_input.specs.Named.{Named};
 ghost use Rattle.xc_input.specs.Pieces.{IsWhole};
-ghost use Rattle.xc_streams.specs.Texts.{seen, Writes, Begins};
+ghost use Rattle.xc_text.specs.Texts.{seen, Writes, Begins};
 ghost use Rattle.xc_check.specs.declared.verdict.Verdict.{Verdict};
 ghost use Rattle.xc_tools.specs.WholeRuns.{sinks, Prints};
 ghost use Rattle.xc_tools.specs.Judges.{asked_kind, numbered_kind, verdict_text, HasVerdicts};
@@ -20,8 +20,7 @@ use xc_streams::status::{
     BAD_INPUT, BAD_WORDS, COMPLETE, FAILED, NO_MEMORY, NOT_ALL_COVERS, flushed, out_of_memory,
     refuse, write_failed,
 };
-use xc_streams::{Sink, SinkFault, TextError, read_text, write_all, write_number};
-use xc_text::{Seed, Source};
+use xc_text::{Seed, Sink, SinkFault, Source, TextError, read_text, write_all, write_number};
 
 /// The kind of problem that a number stands for.
 pub(crate) fn numbered_kind(word: &[u8]) -> Option<Kind>

@@ -29,7 +29,8 @@ pub use judging::{asked_kind, judge, judge_by};
 pub use programs::{exit_code, run_solver};
 pub use solving::{solve, solve_by};
 pub use span_run::{solve_span, solve_span_by};
-pub use xc_streams::status::{flushed, out_of_memory, write_failed};
+
+// For callers alone: no library here imports by these paths (`scripts/imports`).
 pub use xc_streams::{
     Answer, Arguments, CommandLine, Direct, Incoming, Located, NamedFile, Outgoing, Place,
     RandomBytes, SpanFiles, StandardStream, System, SystemReader, SystemWriter, closed_stream,

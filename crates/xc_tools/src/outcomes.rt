@@ -5,8 +5,7 @@ ghost use Rattle.xc_tools.specs.declared.outcomes.Stop.TheVariants.{Memory, Writ
 ghost use Rattle.xc_tools.specs.inner.Joining.{stop_of, unread_stop};
 
 use std::alloc::AllocError;
-use xc_streams::SinkFault;
-use xc_text::Unread;
+use xc_text::{SinkFault, Unread};
 
 /// What is to be written for a line.
 #[derive(Clone, Copy)]

@@ -1,7 +1,7 @@
 //! Programs over the command line and the standard streams.
 ghost use Rattle.std.specs.Prelude.{◌≡◌, codes, MatchResult};
 ghost use Rattle.std.specs.Process.{exit_status};
-ghost use Rattle.xc_streams.specs.Texts.{WasTold};
+ghost use Rattle.xc_text.specs.Texts.{WasTold};
 
 use crate::solving::solve_by;
 use std::alloc::AllocError;
@@ -9,7 +9,8 @@ use std::io::IsTerminal;
 use std::process::ExitCode;
 use xc_input::Kind;
 use xc_streams::status::out_of_memory;
-use xc_streams::{Direct, Incoming, Outgoing, Sink, random_seed, words};
+use xc_streams::{Direct, Incoming, Outgoing, random_seed, words};
+use xc_text::Sink;
 
 /// The status of a program, or 4, which is reported, if there was no memory for its words and streams.
 fn told_status<E: Sink>(status: Result<u8, AllocError>, err: &mut E) -> u8

@@ -6,7 +6,7 @@ ghost use Rattle.xc_list.specs.Messages.{summary_text};
 ghost use Rattle.xc_list.specs.Output.{output};
 ghost use Rattle.xc_list.specs.declared.ends.End.TheVariants.{WriteFailed};
 ghost use Rattle.xc_list.specs.Settings.{read_words};
-ghost use Rattle.xc_streams.specs.Texts.{seen, Took, BrokeOff, WasTold, Begins};
+ghost use Rattle.xc_text.specs.Texts.{seen, Took, BrokeOff, WasTold, Begins};
 ghost use Rattle.xc_text.specs.Calls.{Rose};
 ghost use Rattle.xc_input.specs.Named.{Named};
 ghost use Rattle.xc_input.specs.Pieces.{IsWhole};
@@ -17,10 +17,8 @@ use crate::failures::no_problem;
 use std::alloc::Global;
 use xc_input::{Kind, Problem, Read, read_problem_by};
 use xc_list::{End, Words, run, summary, warnings, word_fault};
-use xc_moves::Memory;
-use xc_streams::Sink;
 use xc_streams::status::{BAD_WORDS, COMPLETE, FAILED, flushed, out_of_memory};
-use xc_text::{Seed, Source};
+use xc_text::{Memory, Seed, Sink, Source};
 
 /// Flushes the output, and reports the end of a complete run.
 pub(crate) fn finish<O: Sink, E: Sink>(end: &End, out: &mut O, err: &mut E) -> u8

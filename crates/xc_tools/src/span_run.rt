@@ -2,7 +2,7 @@
 ghost use Rattle.std.specs.Prelude.{◌≡◌, IfOk, IsTrue, OnErr, map, option_map, codes};
 ghost use Rattle.xc_input.specs.Named.{IsSound};
 ghost use Rattle.xc_list.specs.SpanWords.{asked_of};
-ghost use Rattle.xc_streams.specs.Texts.{seen, WasTold};
+ghost use Rattle.xc_text.specs.Texts.{seen, WasTold};
 ghost use Rattle.xc_tools.specs.WholeRuns.{sinks};
 ghost use Rattle.xc_tools.specs.SpanRuns.{asked_span, take_memory_of, DidSpan, DidSpanWords};
 
@@ -11,9 +11,8 @@ use crate::judging::numbered_kind;
 use std::alloc::{AllocError, Global};
 use xc_input::{Kind, Problem, read_problem_by};
 use xc_list::{SpanFault, SpanWords, list_span};
-use xc_streams::Sink;
 use xc_streams::status::{BAD_WORDS, COMPLETE, flushed, out_of_memory, refuse, write_failed};
-use xc_text::{Seed, Source};
+use xc_text::{Seed, Sink, Source};
 
 /// Reports which words there are.
 fn refuse_words<E: Sink>(err: &mut E) -> u8

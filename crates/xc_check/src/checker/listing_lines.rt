@@ -6,16 +6,16 @@ ghost use Rattle.std.specs.List.{list_all};
 ghost use Rattle.std.specs.Char.{is_ascii_digit};
 ghost use Rattle.xc_text.specs.Words.{has, is_space, are_digits};
 ghost use Rattle.xc_text.specs.Lines.{lines_of};
-ghost use Rattle.xc_check.specs.LongNumbers.{long_number};
+ghost use Rattle.xc_text.specs.LongNumbers.{long_number};
 ghost use Rattle.xc_check.specs.ListingLines.{words_in, before_last, header_number, is_word};
 ghost use Rattle.xc_check.specs.ListingLines.{is_opening, is_closing, is_ending, body_of_words, body_of};
 ghost use Rattle.xc_check.specs.ListingLines.{number_in_words, branch_number};
 ghost use Rattle.xc_check.specs.inner.Listings.{read};
 ghost use Rattle.xc_check.specs.inner.Checking.{line_said};
 
-use crate::digits::long_number;
 use crate::judged_line::ListingLine;
 use bstr::ByteSlice;
+use xc_text::long_number;
 
 /// A text cut at its first such byte.
 pub fn cut_first(text: &[u8], byte: u8) -> Option<(&[u8], &[u8])>

@@ -9,7 +9,8 @@ use crate::lists::table::Table;
 use std::alloc::{AllocError, Global};
 use std::marker::Model;
 use xc_input::Problem;
-use xc_moves::{Move, Tally};
+use xc_moves::Move;
+use xc_text::Tally;
 
 /// The moves on the trail, with the problem that they are made on.
 #[derive(Drop)]

@@ -23,7 +23,7 @@ use Rattle.xc_check.specs.UseTexts.{use_word}
 use Rattle.xc_list.specs.Output.{choice_text, member_text, is_printed}
 use Rattle.xc_list.specs.declared.places.TheConstants.{PADDING, LINES}
 use Rattle.xc_list.specs.declared.places.Line.{Line}
-use Rattle.xc_streams.specs.Texts.{SinkState, Took, BrokeOff}
+use Rattle.xc_text.specs.Texts.{SinkState, Took, BrokeOff}
 use Rattle.xc_list.specs.declared.places.Held.{Held}
 use Rattle.xc_list.specs.Digests.{length_first}
 use Rattle.xc_list.specs.declared.ends.End.{End as RunEnd}

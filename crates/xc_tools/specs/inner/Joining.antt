@@ -6,7 +6,7 @@ use Rattle.xc_text.specs.inner.LineFeeds.{ended, AreWhole}
 use Rattle.xc_text.specs.Sources.{SourceState, Gave, GaveAll}
 use Rattle.xc_text.specs.declared.line_reader.Unread.{Unread}
 use Rattle.xc_text.specs.declared.line_reader.Unread.TheVariants as unread
-use Rattle.xc_streams.specs.Texts.{SinkState, Took, BrokeOff, WasTold}
+use Rattle.xc_text.specs.Texts.{SinkState, Took, BrokeOff, WasTold}
 use Rattle.xc_tools.specs.Joins.{ToldGap, ToldOther, no_text, unread_text}
 use Rattle.xc_streams.specs.ShownNames.{OfSource}
 use Rattle.std.specs.Prelude.{codes}

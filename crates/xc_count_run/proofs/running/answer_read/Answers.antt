@@ -1,5 +1,5 @@
 use Rattle.std.proofs.Common.{inr}
-use Rattle.xc_streams.specs.Texts.{seen}
+use Rattle.xc_text.specs.Texts.{seen}
 use Rattle.xc_count_run.proofs.running.answer_read.Goals as goal
 
 pub returns-in-Ok : goal.returns-in-Ok

@@ -1,5 +1,5 @@
 use Rattle.std.proofs.Common.{◌∙◌, inl, subst}
-use Rattle.xc_streams.specs.Texts.{WasTold}
+use Rattle.xc_text.specs.Texts.{WasTold}
 use Rattle.xc_count_run.proofs.solution.tell_fewer.Goals as goal
 
 pub returns : goal.returns

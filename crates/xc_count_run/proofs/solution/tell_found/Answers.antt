@@ -2,7 +2,7 @@ use Rattle.std.proofs.Common.{◌≡◌, Some, None, inl, inr, subst, sym, refl}
 use Rattle.std.specs.Prelude.{All}
 use Rattle.xc_input.specs.Problem.{numbered_get}
 use Rattle.xc_search.specs.Cover.{members}
-use Rattle.xc_streams.specs.Texts.{seen}
+use Rattle.xc_text.specs.Texts.{seen}
 use Rattle.xc_list.specs.Known.{IsKnownChoice}
 use Rattle.xc_count_run.proofs.LineLemmas.{known_at}
 use Rattle.xc_count_run.proofs.solution.tell_found.Goals as goal

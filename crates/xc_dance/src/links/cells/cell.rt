@@ -4,7 +4,7 @@ ghost use Rattle.std.specs.Prelude.{◌≡◌, ◌+◌, ◌==◌};
 ghost use Rattle.std.proofs.Common.{rules};
 ghost use Rattle.std.specs.Cmp.Rules.{comparing};
 
-use xc_moves::Tally;
+use xc_text::Tally;
 
 /// One cell of a table. Only `write` changes it, and nothing copies it.
 #[derive(Drop)]

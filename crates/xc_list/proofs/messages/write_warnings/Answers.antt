@@ -1,5 +1,5 @@
 use Rattle.xc_list.specs.Messages.{warning_text}
-use Rattle.xc_streams.proofs.SinkLemmas.{flat_map-take-more, loop_failed, then_took}
+use Rattle.xc_text.proofs.SinkLemmas.{flat_map-take-more, loop_failed, then_took}
 use Rattle.xc_list.proofs.messages.write_warnings.Goals as goal
 
 pub returns-in_err-write_warning : goal.returns-in_err-write_warning

@@ -1,6 +1,6 @@
 use Rattle.std.proofs.Common.{take}
 use Rattle.std.specs.Prelude.{flat_map}
-use Rattle.xc_streams.specs.Texts.{Took}
+use Rattle.xc_text.specs.Texts.{Took}
 use Rattle.xc_list.specs.Messages.{warning_text}
 use Rattle.xc_list.proofs.messages.write_warnings.Given as goal
 

@@ -1,4 +1,4 @@
-use Rattle.xc_streams.proofs.SinkLemmas.{took_nothing, if_failed}
+use Rattle.xc_text.proofs.SinkLemmas.{took_nothing, if_failed}
 use Rattle.xc_list.proofs.Writing.{puts_out, held_more}
 use Rattle.std.proofs.Common.{arith, refl}
 use Rattle.std.proofs.lemmas.Slice.{between_is}

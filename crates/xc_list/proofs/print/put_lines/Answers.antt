@@ -1,5 +1,5 @@
 use Rattle.std.proofs.lemmas.Grind.{common_steps}
-use Rattle.xc_streams.proofs.SinkLemmas.{took_nothing, if_failed}
+use Rattle.xc_text.proofs.SinkLemmas.{took_nothing, if_failed}
 use Rattle.xc_list.proofs.Writing.{line_put, lines_broke}
 use Rattle.std.proofs.Common.{arith, refl, []}
 use Rattle.std.proofs.lemmas.List.Elements.{All-tail}

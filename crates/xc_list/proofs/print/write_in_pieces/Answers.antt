@@ -1,5 +1,5 @@
 use Rattle.std.proofs.Common.{arith}
-use Rattle.xc_streams.proofs.SinkLemmas.{then_took, then_broke, broke_before, then_writes, failed}
+use Rattle.xc_text.proofs.SinkLemmas.{then_took, then_broke, broke_before, then_writes, failed}
 use Rattle.xc_list.proofs.print.write_in_pieces.Goals as goal
 
 pub returns-in_err-write_number : goal.returns-in_err-write_number

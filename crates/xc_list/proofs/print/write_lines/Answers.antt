@@ -1,7 +1,7 @@
 use Rattle.std.proofs.Common.{[]}
 use Rattle.std.proofs.lemmas.List.Elements.{All-tail}
 use Rattle.xc_list.specs.Known.{IsKnownChoice}
-use Rattle.xc_streams.proofs.SinkLemmas.{failed}
+use Rattle.xc_text.proofs.SinkLemmas.{failed}
 use Rattle.xc_list.proofs.Writing.{line_put, lines_broke, puts_out}
 use Rattle.xc_list.proofs.print.write_lines.Goals as goal
 

@@ -5,7 +5,7 @@ use Rattle.xc_search.specs.Ends.{ends, ends_after}
 use Rattle.xc_search.specs.Listing.{whole}
 use Rattle.xc_search.specs.Room.{room_for}
 use Rattle.xc_list.specs.Output.{output}
-use Rattle.xc_streams.specs.Texts.{Took}
+use Rattle.xc_text.specs.Texts.{Took}
 use Rattle.xc_list.specs.inner.Writing.{AreKept}
 use Rattle.xc_list.proofs.runs.write_members.Given as goal
 

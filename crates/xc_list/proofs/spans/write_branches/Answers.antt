@@ -1,6 +1,6 @@
 use Rattle.std.proofs.lemmas.Grind.{common_steps}
 use Rattle.xc_list.proofs.SpanLemmas.{numbers_next, branches_at, no_branches, broke_next, took_all}
-use Rattle.xc_streams.proofs.SinkLemmas.{then_took, failed}
+use Rattle.xc_text.proofs.SinkLemmas.{then_took, failed}
 use Rattle.std.proofs.Common.{◌≡◌, Some, arith}
 use Rattle.std.specs.Prelude.{slice_get}
 use Rattle.std.proofs.lemmas.Option.{slice_get_within}

@@ -1,4 +1,4 @@
-use Rattle.xc_streams.proofs.SinkLemmas.{then_took, then_broke, broke_before, then_writes, failed}
+use Rattle.xc_text.proofs.SinkLemmas.{then_took, then_broke, broke_before, then_writes, failed}
 use Rattle.xc_list.proofs.spans.write_closing.Goals as goal
 
 pub returns-in_err-write_all : goal.returns-in_err-write_all

@@ -1,4 +1,4 @@
-use Rattle.xc_streams.proofs.SinkLemmas.{broke_before, then_writes, failed}
+use Rattle.xc_text.proofs.SinkLemmas.{broke_before, then_writes, failed}
 use Rattle.xc_list.proofs.spans.write_counts.Goals as goal
 
 pub returns-in_err-write_numbered : goal.returns-in_err-write_numbered

@@ -1,4 +1,4 @@
-use Rattle.xc_streams.proofs.SinkLemmas.{then_writes}
+use Rattle.xc_text.proofs.SinkLemmas.{then_writes}
 use Rattle.xc_list.proofs.spans.write_dotted.Goals as goal
 
 pub returns : goal.returns

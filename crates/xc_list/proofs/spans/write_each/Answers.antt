@@ -6,7 +6,7 @@ use Rattle.xc_list.specs.Known.{IsKnownChoice}
 use Rattle.xc_list.specs.Output.{member_text}
 use Rattle.xc_list.specs.inner.Writing.{left_at}
 use Rattle.xc_list.proofs.Writing.{texts_next, holds_next}
-use Rattle.xc_streams.proofs.SinkLemmas.{took_nothing, then_took, if_failed}
+use Rattle.xc_text.proofs.SinkLemmas.{took_nothing, then_took, if_failed}
 use Rattle.xc_list.proofs.SpanLemmas.{texts_broke_all, Called, none_passed, called, to_member, to_end, to_steps}
 use Rattle.xc_list.proofs.SpanLemmas.{at_most_members, halts, few_none, few_next, few_more}
 use Rattle.xc_list.proofs.spans.write_each.Goals as goal

@@ -3,7 +3,7 @@ use Rattle.xc_search.specs.Listing.{whole}
 use Rattle.xc_search.specs.Nodes.{IsRowOf}
 use Rattle.xc_search.specs.InSpan.{left_of}
 use Rattle.xc_list.specs.Output.{member_text}
-use Rattle.xc_streams.specs.Texts.{Took}
+use Rattle.xc_text.specs.Texts.{Took}
 use Rattle.xc_list.specs.inner.Writing.{GoesFew}
 use Rattle.xc_list.proofs.Writing.{first_texts}
 use Rattle.xc_list.proofs.SpanLemmas.{IsAhead}

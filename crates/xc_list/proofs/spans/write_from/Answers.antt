@@ -1,4 +1,4 @@
-use Rattle.xc_streams.proofs.SinkLemmas.{then_writes, broke_before, failed}
+use Rattle.xc_text.proofs.SinkLemmas.{then_writes, broke_before, failed}
 use Rattle.xc_list.proofs.spans.write_from.Goals as goal
 
 pub returns-in_err-write_all : goal.returns-in_err-write_all

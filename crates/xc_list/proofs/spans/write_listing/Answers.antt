@@ -1,4 +1,4 @@
-use Rattle.xc_streams.proofs.SinkLemmas.{broke_before, if_failed}
+use Rattle.xc_text.proofs.SinkLemmas.{broke_before, if_failed}
 use Rattle.xc_list.proofs.SpanLemmas.{then_result, then_noted}
 use Rattle.xc_list.proofs.spans.write_listing.Goals as goal
 

@@ -1,5 +1,5 @@
 use Rattle.xc_list.specs.inner.Writing.{dotted}
-use Rattle.xc_streams.proofs.SinkLemmas.{loop_failed}
+use Rattle.xc_text.proofs.SinkLemmas.{loop_failed}
 use Rattle.xc_list.proofs.spans.write_numbers.Goals as goal
 
 pub returns-in_err-write_dotted : goal.returns-in_err-write_dotted

@@ -1,6 +1,6 @@
 use Rattle.std.proofs.Common.{take}
 use Rattle.std.specs.Prelude.{flat_map}
-use Rattle.xc_streams.specs.Texts.{Took}
+use Rattle.xc_text.specs.Texts.{Took}
 use Rattle.xc_list.specs.inner.Writing.{dotted}
 use Rattle.xc_list.proofs.spans.write_numbers.Given as goal
 

@@ -1,5 +1,5 @@
 use Rattle.std.proofs.Common.{take, length, ◌-◌, ◌≤◌}
-use Rattle.xc_streams.specs.Texts.{Took}
+use Rattle.xc_text.specs.Texts.{Took}
 use Rattle.xc_list.specs.inner.Writing.{numbers_text, row_in}
 use Rattle.xc_list.proofs.spans.write_reached.Given as goal
 

@@ -4,8 +4,8 @@ use Rattle.xc_list.specs.Digests.{digest_of, text_digest}
 use Rattle.xc_list.specs.inner.Writing.{written_text, told_text}
 use Rattle.xc_list.proofs.TextDigests.{noted_both}
 use Rattle.xc_list.specs.SpanWords.{asked_of}
-use Rattle.xc_streams.specs.Texts.{Took, BrokeOff}
-use Rattle.xc_streams.proofs.SinkLemmas.{then_took, then_broke, if_failed, broke_before}
+use Rattle.xc_text.specs.Texts.{Took, BrokeOff}
+use Rattle.xc_text.proofs.SinkLemmas.{then_took, then_broke, if_failed, broke_before}
 use Rattle.xc_list.proofs.SpanLemmas.{AreSmallWords, known_left, of_span, of_broken}
 use Rattle.xc_list.proofs.spans.write_span.Goals as goal
 use Rattle.xc_list.proofs.spans.write_span.Goals.{After-write_wanted, After-text_digits}

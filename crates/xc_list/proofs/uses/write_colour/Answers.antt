@@ -1,6 +1,6 @@
 use Rattle.std.proofs.Common.{arith, ◌<◌}
 use Rattle.std.proofs.lemmas.Bool.Decides.{nat_tests}
-use Rattle.xc_streams.proofs.SinkLemmas.{then_writes}
+use Rattle.xc_text.proofs.SinkLemmas.{then_writes}
 use Rattle.xc_check.proofs.ClassLemmas.{colour_text-some}
 use Rattle.xc_list.proofs.uses.write_colour.Goals as goal
 

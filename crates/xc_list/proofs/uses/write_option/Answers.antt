@@ -1,5 +1,5 @@
 use Rattle.std.proofs.Common.{arith}
-use Rattle.xc_streams.proofs.SinkLemmas.{broke_before, then_writes, failed}
+use Rattle.xc_text.proofs.SinkLemmas.{broke_before, then_writes, failed}
 use Rattle.xc_list.proofs.Writing.{option_texts}
 use Rattle.xc_list.specs.inner.Writing.{use_text}
 use Rattle.xc_list.proofs.uses.write_option.Goals as goal

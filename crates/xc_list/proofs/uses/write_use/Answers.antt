@@ -1,4 +1,4 @@
-use Rattle.xc_streams.proofs.SinkLemmas.{then_took, then_broke, broke_before, then_writes, failed}
+use Rattle.xc_text.proofs.SinkLemmas.{then_took, then_broke, broke_before, then_writes, failed}
 use Rattle.xc_list.proofs.uses.write_use.Goals as goal
 
 pub returns-in_err-write_name : goal.returns-in_err-write_name

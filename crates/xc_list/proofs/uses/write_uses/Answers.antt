@@ -1,4 +1,4 @@
-use Rattle.xc_streams.proofs.SinkLemmas.{loop_failed}
+use Rattle.xc_text.proofs.SinkLemmas.{loop_failed}
 use Rattle.xc_list.specs.inner.Writing.{use_text}
 use Rattle.xc_list.proofs.uses.write_uses.Goals as goal
 

@@ -1,7 +1,7 @@
 use Rattle.std.proofs.Common.{take}
 use Rattle.xc_list.specs.inner.Writing.{use_text}
 use Rattle.std.specs.Prelude.{flat_map}
-use Rattle.xc_streams.specs.Texts.{Took}
+use Rattle.xc_text.specs.Texts.{Took}
 use Rattle.xc_list.proofs.uses.write_uses.Given as goal
 
 -- the texts so far were taken, and no failure came

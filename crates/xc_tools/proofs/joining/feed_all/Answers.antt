@@ -4,7 +4,7 @@ use Rattle.xc_text.specs.inner.LineFeeds.{ended}
 use Rattle.xc_text.specs.Sources.{GaveAll}
 use Rattle.xc_text.proofs.LineLemmas.{shorter, all_then, came-gave, gave_then}
 use Rattle.xc_tools.specs.inner.Joining.{Adds}
-use Rattle.xc_streams.specs.Texts.{Took}
+use Rattle.xc_text.specs.Texts.{Took}
 use Rattle.xc_tools.proofs.Stopped.{adds-as, adds-then, fed-line, fed-on, gave-as, stops-as, stops-from, stops-more}
 use Rattle.xc_tools.proofs.Stopped.{stops-reading, stops-then, stops-unread}
 use Rattle.xc_tools.proofs.joining.feed_all.Goals as goal

@@ -1,6 +1,6 @@
 use Rattle.std.proofs.Common.{◌≡◌, ◌+◌, length}
 use Rattle.xc_text.specs.Sources.{Gave}
-use Rattle.xc_streams.specs.Texts.{Took}
+use Rattle.xc_text.specs.Texts.{Took}
 use Rattle.xc_tools.specs.inner.Joining.{Adds, IsAfter, fed_lines}
 use Rattle.xc_tools.proofs.joining.feed_all.Given as goal
 

@@ -1,6 +1,6 @@
 use Rattle.std.proofs.Common.{◌∙◌, ap}
 use Rattle.std.proofs.lemmas.Result.{err_from_is_err_and}
-use Rattle.xc_streams.specs.Texts.{Took}
+use Rattle.xc_text.specs.Texts.{Took}
 use Rattle.xc_tools.specs.inner.Joining.{stand_reached}
 use Rattle.xc_tools.proofs.Stopped.{adds-more, refused, stands-more, unwritten, whole-more}
 use Rattle.xc_tools.proofs.joining.take_line.Goals as goal

@@ -1,5 +1,5 @@
 use Rattle.std.proofs.Common.{arith}
-use Rattle.xc_streams.proofs.SinkLemmas.{then_writes}
+use Rattle.xc_text.proofs.SinkLemmas.{then_writes}
 use Rattle.xc_tools.proofs.judging.write_verdict.Goals as goal
 
 pub returns-then-verdict : goal.returns-then-verdict

@@ -1,4 +1,4 @@
-use Rattle.xc_streams.proofs.SinkLemmas.{loop_failed}
+use Rattle.xc_text.proofs.SinkLemmas.{loop_failed}
 use Rattle.xc_tools.proofs.judging.write_verdicts.Goals as goal
 
 pub returns-in_err-write_verdict : goal.returns-in_err-write_verdict

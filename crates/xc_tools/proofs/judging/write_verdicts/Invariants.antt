@@ -1,6 +1,6 @@
 use Rattle.std.proofs.Common.{take}
 use Rattle.std.specs.Prelude.{flat_map}
-use Rattle.xc_streams.specs.Texts.{Took}
+use Rattle.xc_text.specs.Texts.{Took}
 use Rattle.xc_tools.specs.Judges.{verdict_text}
 use Rattle.xc_tools.proofs.judging.write_verdicts.Given as goal
 

@@ -1,6 +1,6 @@
 use Rattle.std.proofs.Common.{ap}
 use Rattle.xc_search.proofs.Completeness.{each_member_covers, each_cover_is_listed_once}
-use Rattle.xc_streams.specs.Texts.{seen}
+use Rattle.xc_text.specs.Texts.{seen}
 use Rattle.xc_tools.specs.WholeRuns.{sinks}
 use Rattle.xc_tools.proofs.RunLemmas.{span_broken, span_flushed, span_unflushed}
 use Rattle.xc_tools.proofs.span_run.search_problem.Goals as goal

@@ -1,5 +1,5 @@
 use Rattle.std.proofs.Math.Seq.{take-add}
-use Rattle.xc_streams.proofs.SinkLemmas.{appends_more}
+use Rattle.xc_text.proofs.SinkLemmas.{appends_more}
 use Rattle.std.proofs.Common.{arith}
 use Rattle.std.proofs.lemmas.Grind.{common_steps}
 use Rattle.xc_streams.proofs.outgoing.writing.pass_on.Goals as goal

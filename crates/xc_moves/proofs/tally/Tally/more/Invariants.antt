@@ -1,5 +1,0 @@
-use Rattle.std.proofs.Common.{◌+◌}
-use Rattle.xc_moves.proofs.tally.Tally.more.Given as goal
-
-abbrev pub ghost-of : goal.ghost-of
-ghost-of a = a._from.now.0.now.count + a._from.now.1.now
