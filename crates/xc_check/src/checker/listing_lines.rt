@@ -1,10 +1,10 @@
 //! The lines of a listing.
 ghost use Rattle.std.specs.Prelude.{◌≡◌, ◌<◌, ◌++◌, ◌∷◌, [], None, false, nat_le, length, if◌then◌else◌, MatchOption};
-ghost use Rattle.std.specs.Prelude.{IfSome, option_map, codes, drop};
+ghost use Rattle.std.specs.Prelude.{option_map, codes, drop};
 ghost use Rattle.std.specs.Str.{bytes_eq};
 ghost use Rattle.std.specs.List.{list_all};
 ghost use Rattle.std.specs.Char.{is_ascii_digit};
-ghost use Rattle.xc_text.specs.Words.{has, is_space, are_digits};
+ghost use Rattle.xc_text.specs.Words.{has, are_digits};
 ghost use Rattle.xc_text.specs.Lines.{lines_of};
 ghost use Rattle.xc_text.specs.LongNumbers.{long_number};
 ghost use Rattle.xc_check.specs.ListingLines.{words_in, before_last, header_number, is_word};
@@ -15,7 +15,7 @@ ghost use Rattle.xc_check.specs.inner.Checking.{line_said};
 
 use crate::judged_line::ListingLine;
 use bstr::ByteSlice;
-use xc_text::long_number;
+use xc_text::{is_white, long_number};
 
 /// A text cut at its first such byte.
 pub fn cut_first(text: &[u8], byte: u8) -> Option<(&[u8], &[u8])>
@@ -129,15 +129,6 @@ fn is_ending(first: &[u8], middle: &[u8], last: &[u8]) -> bool
     ensures { result ≡ is_ending (first.now ∷ middle.now ∷ last.now ∷ []) }
 {
     is_opening(first) && is_of(middle) && is_closing(last)
-}
-
-/// Whether a byte is white space.
-// As in `xc_input/src/tokens.rt`, where it isn't public: a call more there would be more than these lines, and both say
-// by `is_space` what white space is.
-fn is_white(b: u8) -> bool
-    ensures { result ≡ is_space b }
-{
-    b == b' ' || b == b'\t' || b == 11 || b == 12 || b == b'\r'
 }
 
 /// Whether a text is words that single spaces part.
