@@ -7,7 +7,6 @@ use crate::memory::Memory;
 use crate::seed::{FoldingHasher, Seed};
 use crate::sink::WriteFailed;
 use crate::source::ReadFailed;
-use crate::whole_text::TextError;
 use crate::write::SinkFault;
 
 /// Two values of any of these types are equal exactly if `==` says so.
@@ -26,6 +25,5 @@ pub fn clones()
     ensures hashers { IsEqualClone ⟦<FoldingHasher as Clone>⟧.is_clone }
     ensures failures { IsEqualClone ⟦<ReadFailed as Clone>⟧.is_clone }
     ensures unread { IsEqualClone ⟦<Unread as Clone>⟧.is_clone }
-    ensures texts { IsEqualClone ⟦<TextError as Clone>⟧.is_clone }
     ensures memory { IsEqualClone ⟦<Memory as Clone>⟧.is_clone }
 {}

@@ -40,5 +40,5 @@ pub use slice_source::SliceSource;
 pub use source::{Feed, ReadFailed, Source};
 pub use tally::Tally;
 pub use vec_sink::VecSink;
-pub use whole_text::{TextError, read_text};
+pub use whole_text::read_text;
 pub use write::{SinkFault, write_all, write_number, write_numbered, write_two_numbers};

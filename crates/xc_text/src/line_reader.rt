@@ -9,7 +9,7 @@ ghost use Rattle.xc_text.specs.Words.{has};
 ghost use Rattle.xc_text.specs.inner.LineFeeds.{AskedFor, Cut, ReadOnce, ended_carry, read_size};
 ghost use Rattle.xc_text.specs.declared.line_reader.Unread.TheVariants.{Device, Memory};
 
-use crate::source::{PIECE, ReadFailed, Source};
+use crate::source::{ReadFailed, Source, read_buffer};
 use bstr::ByteSlice;
 use std::alloc::{AllocError, Global};
 use std::marker::Model;
@@ -76,7 +76,7 @@ impl LineReader {
         ensures { IfOk result (λ r. r.unread ≡ []) }
     {
         Ok(LineReader {
-            store: vec![in alloc; 0; PIECE]?,
+            store: read_buffer(alloc)?,
             carry: Vec::new(alloc),
             line: 0,
             from: 0,

@@ -14,16 +14,25 @@ ghost use Rattle.xc_text.specs.Sources.{SourceState};
 ghost use Rattle.xc_text.specs.declared.source.ReadFailed.{ReadFailed};
 
 use crate::given::Given;
+use std::alloc::{AllocError, Global};
 use std::fmt;
 use thiserror::Error;
 
 /// How many bytes are read from a source at once.
-pub(crate) const PIECE: usize = 65536;
+const PIECE: usize = 65536;
 
 /// A read that failed.
 #[derive(Clone, Copy, Debug, PartialEq, Eq, Error)]
 #[error("a read failed")]
 pub struct ReadFailed;
+
+/// A buffer of zeros for one read.
+// A function of its own: a vector that is made where it is read into gets no proof.
+pub(crate) fn read_buffer(alloc: Global) -> Result<Vec<u8>, AllocError>
+    ensures { IfOk result (λ v. length v.items ≡ PIECE) }
+{
+    vec![in alloc; 0; PIECE]
+}
 
 /// Where bytes come from.
 pub trait Source {

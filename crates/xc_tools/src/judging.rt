@@ -20,7 +20,7 @@ use xc_streams::status::{
     BAD_INPUT, BAD_WORDS, COMPLETE, FAILED, NO_MEMORY, NOT_ALL_COVERS, flushed, out_of_memory,
     refuse, write_failed,
 };
-use xc_text::{Seed, Sink, SinkFault, Source, TextError, read_text, write_all, write_number};
+use xc_text::{Seed, Sink, SinkFault, Source, Unread, read_text, write_all, write_number};
 
 /// The kind of problem that a number stands for.
 pub(crate) fn numbered_kind(word: &[u8]) -> Option<Kind>
@@ -110,8 +110,8 @@ fn judge_listing<L: Source, O: Sink, E: Sink>(
     // Held in memory whole, since all of it has to be without fault before the first verdict is written.
     let text = match read_text(alloc, listing) {
         Ok(text) => text,
-        Err(TextError::Device) => return refuse(FAILED, b"Read failed.\n", err),
-        Err(TextError::Memory) => return out_of_memory(err),
+        Err(Unread::Device) => return refuse(FAILED, b"Read failed.\n", err),
+        Err(Unread::Memory) => return out_of_memory(err),
     };
     match check(alloc, problem, &text) {
         Ok(verdicts) => tell_verdicts(&verdicts, out, err),
