@@ -1,5 +1,5 @@
 //! Problems out of texts in memory.
-ghost use Rattle.std.specs.Prelude.{◌≡◌, ◌≢◌, ◌<◌, [], ◌∷◌, false, None, IfOk, IfErr, OnErr, OnOk, length, min};
+ghost use Rattle.std.specs.Prelude.{◌≡◌, ◌≢◌, ◌<◌, [], false, None, IfOk, IfErr, OnErr, OnOk, length, min};
 ghost use Rattle.std.specs.Prelude.{nat_lt, if◌then◌else◌};
 ghost use Rattle.xc_text.specs.Words.{has};
 ghost use Rattle.xc_input.specs.Readings.{IsErrorFor};
@@ -14,28 +14,13 @@ ghost use Rattle.xc_c.specs.Answers.{IsFilled, IsSearched, Lists, Totals};
 ghost use Rattle.xc_c.specs.inner.{CountMakesFew, listing_status};
 
 use crate::numbers::{DONE, LIMIT, NO_ROOM};
-use bstr::ByteSlice;
 use std::alloc::Global;
 use xc_count::count;
 use xc_dance::Links;
 use xc_input::{FaultKind, InputError, Kind, Problem, Read, Reader};
 use xc_list::{End, Words, run};
 use xc_search::Search;
-use xc_text::{Memory, Seed, Tray};
-
-/// The first line of a text, and what is left after it.
-// `xc_check/src/checker/listing_lines.rt` has the same, since it isn't public.
-fn cut_line(text: &[u8]) -> (&[u8], &[u8])
-    requires { 0 < length text.now }
-    ensures lines { lines_of text.now ≡ result.0.now ∷ lines_of result.1.now }
-    ensures whole { has 10 result.0.now ≡ false }
-    ensures shorter { length result.1.now < length text.now }
-{
-    match text.find_byte(b'\n') {
-        Some(k) => (&text[..k], &text[k + 1..]),
-        None => (text, &[]),
-    }
-}
+use xc_text::{Memory, Seed, Tray, cut_line};
 
 /// Hands the lines of a text to a reader that took none yet.
 fn take_lines(reader: &mut Reader, text: &[u8]) -> Result<(), InputError>

@@ -23,15 +23,13 @@ use Rattle.std.specs.Option.{option_map, option_or}
 use Rattle.std.proofs.lemmas.Slice.Eq.{slice_eq-Decides}
 use Rattle.std.specs.Cmp.Lexicographic.{pointwise}
 use Rattle.xc_text.specs.Words.{has, is_space}
-use Rattle.xc_text.specs.Lines.{lines_of}
 use Rattle.xc_input.specs.declared.problem.Use.{Use}
 use Rattle.xc_input.specs.Problem.{uses_of, IsOption, Puzzle, option_count, IsValid, IsItem, IsSecondary, IsSoundUse}
 use Rattle.xc_input.specs.Problem.{bounds_at, colour_in, primary_count}
 use Rattle.xc_input.specs.Named.{Named, IsKnownUse, IsSound}
 use Rattle.xc_input.specs.declared.problem.Bounds.{Bounds}
-use Rattle.xc_text.proofs.ByteLemmas.{cut-is, has-all, has-at}
+use Rattle.xc_text.proofs.ByteLemmas.{has-all}
 use Rattle.xc_input.proofs.FaultLemmas.{no-place, map-snoc, position-map, not_false}
-use Rattle.xc_text.proofs.LineLemmas.{lines_of-ended}
 use Rattle.xc_text.proofs.ListLemmas.{IsIn, in-contains, slice_get-in, each_in, in-append, contains-in, in-slice_get}
 use Rattle.xc_text.proofs.ListLemmas.{EachTwo, EachTwo-append, each_two_from_AllPairs, AllPairs-from_each_two}
 use Rattle.xc_text.proofs.ListLemmas.{list_all-each, and_left}
@@ -60,14 +58,6 @@ use Rattle.xc_check.proofs.ClassLemmas.{option-sound, DifferInItems}
 
 -- ======== Texts cut at a byte, and what is left of their lines and words.
 
--- CUTTING
--- a text cut at its first such byte
-pub first_cut : (b : ℕ) (xs ys : List ℕ) (k : ℕ) → ys ≡ take (length xs - (k + 1)) (drop (k + 1) xs) → k < length xs
-    → ((j : ℕ) → j < k → nat_eq (get_or xs j 0) b ≡ false) → nat_eq (get_or xs k 0) b ≡ true
-    → (has b (take k xs) ≡ false) × (xs ≡ take k xs ++ b ∷ ys)
-first_cut b xs ys k e l h g =
-    grind (arith, nat_tests, has-at b xs k l h g, cut-is b xs, take_rest xs (k + 1), add-one k)
-
 at_last : (b : ℕ) (xs : List ℕ) (k : ℕ) → k < length xs
     → ((j : ℕ) → k < j → j < length xs → nat_eq (get_or xs j 0) b ≡ false) → nat_eq (get_or xs k 0) b ≡ true
     → (xs ≡ take k xs ++ b ∷ drop (suc k) xs) × (has b (drop (suc k) xs) ≡ false)
@@ -84,11 +74,6 @@ pub last_cut : (b : ℕ) (xs ys : List ℕ) (k : ℕ) → ys ≡ take (length xs
     → ((j : ℕ) → k < j → j < length xs → nat_eq (get_or xs j 0) b ≡ false) → nat_eq (get_or xs k 0) b ≡ true
     → (has b ys ≡ false) × (xs ≡ take k xs ++ b ∷ ys)
 last_cut b xs ys k e l h g = grind (arith, nat_tests, at_last b xs k l h g, take_rest xs (k + 1), add-one k)
-
--- LINES
-pub first_line : (text line rest : List ℕ) → has 10 line ≡ false → text ≡ line ++ 10 ∷ rest
-    → lines_of text ≡ line ∷ lines_of rest
-first_line text line rest h e = cc (append_assoc line (10 ∷ []) rest, lines_of-ended (line ∷ []) rest (h, tt))
 
 -- WORDS
 pub one_word : (word : List ℕ) → has 32 word ≡ false → words_in word ≡ word ∷ []

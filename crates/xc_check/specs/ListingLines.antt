@@ -1,19 +1,14 @@
 -- The lines of a listing: headers, and choice lines with their bodies.
 use Rattle.std.specs.Prelude.{ℕ, ◌-◌, Bool, false, not, ◌&&◌, ◌==◌, nat_le, List, [], ◌∷◌, codes, length, take, drop}
 use Rattle.std.specs.Prelude.{Option, Some, None, is_some, option_and_then, slice_get, if◌then◌else◌}
-use Rattle.std.specs.Io.BufRead.{ends_with_byte}
 use Rattle.std.specs.List.{list_all, list_any, slice_split}
 use Rattle.std.specs.Str.{byte, bytes_eq}
-use Rattle.xc_text.specs.Words.{is_space, are_digits}
+use Rattle.xc_text.specs.Words.{is_space, are_digits, before_last}
 use Rattle.xc_text.specs.LongNumbers.{long_number}
 
 -- the words of a text that single spaces part
 abbrev pub words_in : List ℕ → List (List ℕ)
 words_in text = slice_split (λ b. b == byte " ") text
-
--- what is before the text's last byte, where that is this one
-abbrev pub before_last : ℕ → List ℕ → Option (List ℕ)
-before_last b text = if ends_with_byte b text then Some (take (length text - 1) text) else None
 
 -- a header's number, where it fits: one to twenty digits and a colon, and nothing else
 abbrev pub header_number : List ℕ → Option ℕ

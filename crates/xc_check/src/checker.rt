@@ -21,7 +21,7 @@ mod rotation;
 mod seen_lines;
 
 use crate::checker::cover_counter::CoverCounter;
-use crate::checker::listing_lines::{cut_line, read_line};
+use crate::checker::listing_lines::read_line;
 use crate::checker::option_index::OptionIndex;
 use crate::checker::seen_lines::SeenLines;
 use crate::judged_line::ListingLine;
@@ -30,6 +30,7 @@ pub use listing_lines::branch_number;
 use std::alloc::{AllocError, Global};
 use std::marker::Model;
 use xc_input::Problem;
+use xc_text::cut_line;
 
 /// How many choice lines are noted at most: lines that were chosen for it can make the notes of no use, and
 /// they take no more memory then.

@@ -1,6 +1,5 @@
 //! What the words ask for.
 ghost use Rattle.std.specs.Prelude.{◌≡◌, ◌==◌, drop, is_some, map, option_map, IfSome};
-ghost use Rattle.std.specs.Char.{is_ascii_digit};
 ghost use Rattle.std.specs.List.{list_all};
 ghost use Rattle.std.specs.Str.{byte};
 ghost use Rattle.xc_tools.specs.Judges.{numbered_kind};
@@ -8,17 +7,10 @@ ghost use Rattle.xc_count_run.specs.Words.{asked_count, asked_more, is_bound, is
 ghost use Rattle.xc_count_run.specs.inner.{bound_word, meaning, megabytes};
 
 use xc_input::Kind;
-use xc_text::long_number;
+use xc_text::{all_digits, long_number};
 
 /// How many megabytes the states may take if no word says so.
 const MEGABYTES: u64 = 512;
-
-/// Whether these are digits.
-fn are_digits(text: &[u8]) -> bool
-    ensures { result ≡ list_all is_ascii_digit text.now }
-{
-    text.iter().all(|b| b.is_ascii_digit())
-}
 
 /// Whether each of these is the digit 0.
 fn are_zeros(text: &[u8]) -> bool
@@ -31,7 +23,7 @@ fn are_zeros(text: &[u8]) -> bool
 fn is_positive(text: &[u8]) -> bool
     ensures { result ≡ is_positive text.now }
 {
-    are_digits(text) && !are_zeros(text)
+    all_digits(text) && !are_zeros(text)
 }
 
 /// The megabytes that a word means.

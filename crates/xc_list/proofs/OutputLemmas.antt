@@ -23,7 +23,7 @@ use Rattle.xc_input.specs.UsePlaces.{place_in}
 use Rattle.xc_input.specs.Problem.{numbered_get, IsPrimary, IsItem, uses_of, primary_count, colour_in, IsOption}
 use Rattle.xc_input.specs.Problem.{numbered_options, Puzzle, Numbered, option_count, holds, holding}
 use Rattle.xc_input.specs.Named.{Named, IsKnownUse, IsSound, IsName, IsUnbroken}
-use Rattle.xc_text.specs.Words.{has, is_space}
+use Rattle.xc_text.specs.Words.{has, is_space, before_last}
 use Rattle.xc_text.specs.Lines.{lines_of}
 use Rattle.xc_text.specs.inner.LineFeeds.{ended, AreWhole}
 use Rattle.xc_text.proofs.ListLemmas.{drop_at, each-append, in-slice_get, each-map, each_weaker, get_take, IsIn}
@@ -48,7 +48,7 @@ use Rattle.xc_list.specs.inner.Writing.{use_text, AreLaid, ArePadded, first_item
 use Rattle.xc_check.specs.inner.Classes.{colour_text}
 use Rattle.xc_check.specs.UseTexts.{from_item, bytes_at, use_word}
 use Rattle.xc_list.specs.Output.{body_text, choice_text, member_text, is_printed, output}
-use Rattle.xc_check.specs.ListingLines.{words_in, before_last, header_number, is_word, is_ending, body_of_words}
+use Rattle.xc_check.specs.ListingLines.{words_in, header_number, is_word, is_ending, body_of_words}
 use Rattle.xc_check.specs.ListingLines.{branch_number, number_in_words}
 use Rattle.xc_text.specs.LongNumbers.{long_number}
 use Rattle.xc_check.specs.inner.Listings.{Header, Body, read, Listing, listing_of}

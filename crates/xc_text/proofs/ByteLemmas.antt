@@ -1,6 +1,7 @@
 -- Where a byte stands in a list, and a list that is cut there.
 use Rattle.std.proofs.Common.{ℕ, zero, ◌≡◌, suc, ◌<◌, List, [], ◌∷◌, ◌++◌, length, true, false}
-use Rattle.std.proofs.Common.{get_or, take, drop, refl, arith, nat_eq}
+use Rattle.std.proofs.Common.{get_or, take, drop, refl, arith, nat_eq, ◌+◌, ◌-◌, add-one}
+use Rattle.std.proofs.lemmas.List.{take_rest}
 use Rattle.std.proofs.lemmas.Bool.Decides.{nat_tests}
 use Rattle.xc_text.specs.Words.{has, before, after}
 
@@ -18,7 +19,6 @@ has-at b (x ∷ xs) zero p h e = rw e (refl, refl, refl)
 has-at b (x ∷ xs) (suc i) p h e =
     grind (arith, nat_tests, has-at b xs i (omega arith) (λ k q. h (suc k) (omega arith)) e, h 0 (omega arith))
 
--- CUTTING AT A BYTE
 pub cut-is : (b : ℕ) (xs : List ℕ) → has b xs ≡ true → (xs ≡ before b xs ++ b ∷ after b xs)
     × (has b (before b xs) ≡ false)
 cut-is b [] e = absurd (cc)
@@ -32,3 +32,10 @@ pub cut-at : (b : ℕ) (p q : List ℕ) → has b p ≡ false → (before b (p +
     × (has b (p ++ b ∷ q) ≡ true)
 cut-at b [] q e = grind (arith, nat_tests)
 cut-at b (x ∷ p) q e = grind (arith, cut-at b p q)
+
+-- a text cut at its first such byte
+pub first_cut : (b : ℕ) (xs ys : List ℕ) (k : ℕ) → ys ≡ take (length xs - (k + 1)) (drop (k + 1) xs) → k < length xs
+    → ((j : ℕ) → j < k → nat_eq (get_or xs j 0) b ≡ false) → nat_eq (get_or xs k 0) b ≡ true
+    → (has b (take k xs) ≡ false) × (xs ≡ take k xs ++ b ∷ ys)
+first_cut b xs ys k e l h g =
+    grind (arith, nat_tests, has-at b xs k l h g, cut-is b xs, take_rest xs (k + 1), add-one k)

@@ -48,6 +48,11 @@ pub lines_of-ended : (ls : List (List ℕ)) (rest : List ℕ) → AreWhole ls
 lines_of-ended [] rest h = refl
 lines_of-ended (l ∷ ls) rest h = grind (arith, append_assoc, ended, lines_of-line, lines_of-ended ls rest h.1)
 
+-- the first line of a text
+pub first_line : (text line rest : List ℕ) → has 10 line ≡ false → text ≡ line ++ 10 ∷ rest
+    → lines_of text ≡ line ∷ lines_of rest
+first_line text line rest h e = cc (append_assoc line (10 ∷ []) rest, lines_of-ended (line ∷ []) rest (h, tt))
+
 -- lines that line feeds end
 pub lines_of-all : (ls : List (List ℕ)) → AreWhole ls → lines_of (ended ls) ≡ ls
 lines_of-all ls h = ap lines_of (sym (append-nil (ended ls))) ∙ lines_of-ended ls [] h ∙ append-nil ls

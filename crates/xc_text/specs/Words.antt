@@ -1,6 +1,7 @@
 -- Bytes of a text: where they stand, which are white space, and the numbers that digits stand for.
 use Rattle.std.specs.Prelude.{ℕ, ◌+◌, ◌-◌, ◌*◌, length, List, [], ◌∷◌, Bool, ◌&&◌, ◌||◌, Option, nat_eq, nat_le, fold}
-use Rattle.std.specs.Prelude.{position, if◌then◌else◌}
+use Rattle.std.specs.Prelude.{Some, None, position, take, if◌then◌else◌}
+use Rattle.std.specs.Io.BufRead.{ends_with_byte}
 use Rattle.std.specs.Char.{is_ascii_digit}
 use Prim.Native.Char.{code}
 use Rattle.std.specs.List.{list_any, list_all}
@@ -35,3 +36,7 @@ number digits = fold (λ n b. n * 10 + (b - code "0")) 0 digits
 -- space, tab, vertical tab, form feed and carriage return
 abbrev pub is_space : ℕ → Bool
 is_space b = nat_eq b (code " ") || nat_eq b 9 || nat_eq b 11 || nat_eq b 12 || nat_eq b 13
+
+-- what is before the text's last byte, where that is this one
+abbrev pub before_last : ℕ → List ℕ → Option (List ℕ)
+before_last b text = if ends_with_byte b text then Some (take (length text - 1) text) else None

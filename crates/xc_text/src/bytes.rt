@@ -1,7 +1,8 @@
-//! Where bytes stand in a text.
+//! Where bytes stand in a text, and texts that are cut there.
 
-ghost use Rattle.std.specs.Prelude.{◌≡◌, MatchOption, false, true};
-ghost use Rattle.xc_text.specs.Words.{after, before, has, is_space};
+ghost use Rattle.std.specs.Prelude.{◌≡◌, ◌<◌, ◌∷◌, MatchOption, false, length, option_map, true};
+ghost use Rattle.xc_text.specs.Lines.{lines_of};
+ghost use Rattle.xc_text.specs.Words.{after, before, before_last, has, is_space};
 
 use bstr::ByteSlice;
 
@@ -30,4 +31,25 @@ pub fn cut_at(bytes: &[u8], byte: u8) -> (&[u8], Option<&[u8]>)
         None => (bytes, None),
         Some(i) => (&bytes[..i], Some(&bytes[i + 1..])),
     }
+}
+
+/// The first line of a text, and what is left after it.
+pub fn cut_line(text: &[u8]) -> (&[u8], &[u8])
+    requires { 0 < length text.now }
+    ensures lines { lines_of text.now ≡ result.0.now ∷ lines_of result.1.now }
+    ensures whole { has 10 result.0.now ≡ false }
+    ensures shorter { length result.1.now < length text.now }
+{
+    match text.find_byte(b'\n') {
+        Some(k) => (&text[..k], &text[k + 1..]),
+        None => (text, &[]),
+    }
+}
+
+/// What is before a last byte, where that is the text's last.
+pub fn before_last(text: &[u8], byte: u8) -> Option<&[u8]>
+    ensures { option_map (λ front. front.now) result ≡ before_last byte text.now }
+{
+    let (last, front) = text.split_last()?;
+    if *last == byte { Some(front) } else { None }
 }

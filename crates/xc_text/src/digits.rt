@@ -1,6 +1,8 @@
 //! Numbers by their digits.
 
 ghost use Rattle.std.specs.Prelude.{◌≡◌, ◌<◌, true, false, MatchOption};
+ghost use Rattle.std.specs.Char.{is_ascii_digit};
+ghost use Rattle.std.specs.List.{list_all};
 ghost use Rattle.xc_text.specs.LongNumbers.{long_number};
 ghost use Rattle.xc_text.specs.Words.{are_digits, number};
 
@@ -39,4 +41,21 @@ pub fn long_number(bytes: &[u8]) -> Option<u64>
         value = value.checked_mul(10)?.checked_add(u64::from(*b - b'0'))?;
     }
     Some(value)
+}
+
+/// Whether these are digits, if any.
+pub fn all_digits(text: &[u8]) -> bool
+    ensures { result ≡ list_all is_ascii_digit text.now }
+{
+    text.iter().all(|b| b.is_ascii_digit())
+}
+
+/// Whether these are digits: one or more, and at most so many.
+pub fn are_digits(text: &[u8], most: usize) -> bool
+    ensures { result ≡ are_digits most text.now }
+{
+    if text.is_empty() || most < text.len() {
+        return false;
+    }
+    all_digits(text)
 }

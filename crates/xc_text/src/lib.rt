@@ -27,8 +27,8 @@ mod vec_sink;
 mod whole_text;
 mod write;
 
-pub use bytes::{cut_at, has_byte, is_white};
-pub use digits::{long_number, number_of};
+pub use bytes::{before_last, cut_at, cut_line, has_byte, is_white};
+pub use digits::{all_digits, are_digits, long_number, number_of};
 pub use given::Given;
 pub use line::write_line;
 pub use line_reader::{LineReader, Unread};

@@ -10,11 +10,11 @@ use Rattle.std.proofs.lemmas.List.Elements.{recursion_from_All, All-from_recursi
 use Rattle.std.specs.Io.BufRead.{ends_with_byte}
 use Rattle.std.proofs.lemmas.List.{take_more}
 use Rattle.std.proofs.Math.Seq.{take-length}
-use Rattle.xc_text.specs.Words.{has}
+use Rattle.xc_text.specs.Words.{has, before_last}
 use Rattle.xc_text.specs.inner.LineFeeds.{ended, AreWhole}
 use Rattle.xc_text.proofs.ListLemmas.{each-append}
 use Rattle.xc_search.specs.Spans.{precedes}
-use Rattle.xc_check.specs.ListingLines.{branch_number, words_in, before_last}
+use Rattle.xc_check.specs.ListingLines.{branch_number, words_in}
 use Rattle.xc_list.specs.Digests.{begun_digest}
 use Rattle.xc_list.specs.SpanTexts.{row_text}
 use Rattle.xc_list.specs.SearchedSpans.{SearchedSpan}

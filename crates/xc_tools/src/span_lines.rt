@@ -1,8 +1,9 @@
 //! The lines of the texts of spans, one by one.
-ghost use Rattle.std.specs.Prelude.{IsTrue, ℕ, List, ◌==◌, ◌||◌, ◌≡◌, ◌+◌, ◌≤◌, MatchResult, IfOk, OnOk, decimal};
+ghost use Rattle.std.specs.Prelude.{IsTrue, ℕ, List, ◌==◌, ◌||◌, ◌≡◌, ◌+◌, MatchResult, IfOk, OnOk};
 ghost use Rattle.std.specs.Prelude.{option_map};
-ghost use Rattle.std.specs.Str.{byte, bytes_eq};
-ghost use Rattle.xc_check.specs.ListingLines.{before_last, words_in};
+ghost use Rattle.std.specs.Str.{byte};
+ghost use Rattle.xc_text.specs.Words.{before_last};
+ghost use Rattle.xc_check.specs.ListingLines.{words_in};
 ghost use Rattle.xc_list.specs.Digests.{after_text, digits_of};
 ghost use Rattle.xc_tools.specs.inner.SpanLines.{act_text, before_digest, begins_with, by_choice, by_digest};
 ghost use Rattle.xc_tools.specs.inner.SpanLines.{by_header, by_heading, by_last, by_line, by_record, closed, ends_well};
@@ -18,6 +19,7 @@ use itoa::Buffer;
 use std::alloc::{AllocError, Global};
 use xc_check::branch_number;
 use xc_list::TextDigest;
+use xc_text::before_last;
 
 fn begins_with(line: &[u8], byte: u8) -> bool
     ensures { result ≡ begins_with byte line.now }
@@ -28,19 +30,11 @@ fn begins_with(line: &[u8], byte: u8) -> bool
     }
 }
 
-/// What is before a colon, where that is the line's last byte.
-fn before_colon(line: &[u8]) -> Option<&[u8]>
-    ensures { option_map (λ front. front.now) result ≡ before_last (byte ":") line.now }
-{
-    let (last, front) = line.split_last()?;
-    if *last == b':' { Some(front) } else { None }
-}
-
 /// Whether a line is the header of the solution with this number.
 fn is_header(line: &[u8], number: u64) -> bool
     ensures { result ≡ is_header number line.now }
 {
-    match before_colon(line) {
+    match before_last(line, b':') {
         Some(front) => front == Buffer::new().format(number).as_bytes(),
         None => false,
     }

@@ -3,19 +3,16 @@ ghost use Rattle.std.specs.Prelude.{◌≡◌, ◌<◌, ◌++◌, ◌∷◌, [],
 ghost use Rattle.std.specs.Prelude.{option_map, codes, drop};
 ghost use Rattle.std.specs.Str.{bytes_eq};
 ghost use Rattle.std.specs.List.{list_all};
-ghost use Rattle.std.specs.Char.{is_ascii_digit};
-ghost use Rattle.xc_text.specs.Words.{has, are_digits};
-ghost use Rattle.xc_text.specs.Lines.{lines_of};
+ghost use Rattle.xc_text.specs.Words.{has, are_digits, before_last};
 ghost use Rattle.xc_text.specs.LongNumbers.{long_number};
-ghost use Rattle.xc_check.specs.ListingLines.{words_in, before_last, header_number, is_word};
+ghost use Rattle.xc_check.specs.ListingLines.{words_in, header_number, is_word, number_in_words, branch_number};
 ghost use Rattle.xc_check.specs.ListingLines.{is_opening, is_closing, is_ending, body_of_words, body_of};
-ghost use Rattle.xc_check.specs.ListingLines.{number_in_words, branch_number};
 ghost use Rattle.xc_check.specs.inner.Listings.{read};
 ghost use Rattle.xc_check.specs.inner.Checking.{line_said};
 
 use crate::judged_line::ListingLine;
 use bstr::ByteSlice;
-use xc_text::{is_white, long_number};
+use xc_text::{are_digits, before_last, is_white, long_number};
 
 /// A text cut at its first such byte.
 pub fn cut_first(text: &[u8], byte: u8) -> Option<(&[u8], &[u8])>
@@ -24,18 +21,6 @@ pub fn cut_first(text: &[u8], byte: u8) -> Option<(&[u8], &[u8])>
 {
     let k = text.find_byte(byte)?;
     Some((&text[..k], &text[k + 1..]))
-}
-
-/// The first line of a text, and what is left after it.
-pub fn cut_line(text: &[u8]) -> (&[u8], &[u8])
-    requires { 0 < length text.now }
-    ensures lines { lines_of text.now ≡ result.0.now ∷ lines_of result.1.now }
-    ensures shorter { length result.1.now < length text.now }
-{
-    match cut_first(text, b'\n') {
-        Some((line, rest)) => (line, rest),
-        None => (text, &[]),
-    }
 }
 
 /// The first word of a text whose words single spaces part, and what is left after that space.
@@ -48,36 +33,6 @@ pub fn cut_word(text: &[u8]) -> (&[u8], Option<&[u8]>)
         Some((word, rest)) => (word, Some(rest)),
         None => (text, None),
     }
-}
-
-/// What is before a last byte, where that is the text's last.
-fn before_last(text: &[u8], byte: u8) -> Option<&[u8]>
-    ensures { option_map (λ front. front.now) result ≡ before_last byte text.now }
-{
-    let (last, front) = text.split_last()?;
-    if *last == byte { Some(front) } else { None }
-}
-
-fn is_digit(b: u8) -> bool
-    ensures { result ≡ is_ascii_digit b }
-{
-    b.is_ascii_digit()
-}
-
-fn all_digits(text: &[u8]) -> bool
-    ensures { result ≡ list_all is_ascii_digit text.now }
-{
-    text.iter().all(|b| is_digit(*b))
-}
-
-/// Whether these are digits: one or more, and at most so many.
-fn are_digits(text: &[u8], most: usize) -> bool
-    ensures { result ≡ are_digits most text.now }
-{
-    if text.is_empty() || most < text.len() {
-        return false;
-    }
-    all_digits(text)
 }
 
 /// The number of one to twenty digits, where it fits.

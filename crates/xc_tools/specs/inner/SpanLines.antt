@@ -9,7 +9,8 @@ use Rattle.xc_search.specs.Spans.{precedes}
 use Rattle.xc_list.specs.Digests.{after_text, begun_digest, digits_of}
 use Rattle.xc_list.specs.SpanTexts.{most_counted}
 use Rattle.xc_list.specs.declared.text_digest.TextDigest.{TextDigest}
-use Rattle.xc_check.specs.ListingLines.{before_last, branch_number, words_in}
+use Rattle.xc_text.specs.Words.{before_last}
+use Rattle.xc_check.specs.ListingLines.{branch_number, words_in}
 use Rattle.xc_tools.specs.declared.joint.Rising.{Rising}
 use Rattle.xc_tools.specs.SpanShapes.{is_digest}
 use Rattle.xc_tools.specs.declared.headings.Counts.{Counts}

@@ -1,6 +1,5 @@
 use Rattle.std.proofs.Common.{arith, refl}
-use Rattle.xc_text.proofs.ByteLemmas.{has-all}
-use Rattle.xc_check.proofs.CheckLemmas.{first_cut}
+use Rattle.xc_text.proofs.ByteLemmas.{has-all, first_cut}
 use Rattle.xc_check.proofs.checker.listing_lines.cut_first.Goals as goal
 
 pub returns-in_err-k : goal.returns-in_err-k

@@ -1,9 +1,8 @@
 use Rattle.std.proofs.lemmas.Grind.{common_steps}
 use Rattle.std.proofs.Common.{arith}
-use Rattle.xc_text.proofs.ByteLemmas.{has-all}
-use Rattle.xc_text.proofs.LineLemmas.{lines_of-part}
-use Rattle.xc_check.proofs.CheckLemmas.{first_cut, first_line}
-use Rattle.xc_c.proofs.texts.cut_line.Goals as goal
+use Rattle.xc_text.proofs.ByteLemmas.{has-all, first_cut}
+use Rattle.xc_text.proofs.LineLemmas.{lines_of-part, first_line}
+use Rattle.xc_text.proofs.bytes.cut_line.Goals as goal
 
 pub returns-in-Some-clause-whole : goal.returns-in-Some-clause-whole
 returns-in-Some-clause-whole c = grind (arith, common_steps, first_cut)
