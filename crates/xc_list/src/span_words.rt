@@ -1,6 +1,5 @@
 //! The words of a run over a span.
 ghost use Rattle.std.specs.Prelude.{◌≡◌, ◌==◌, IfOk, IsTrue, OnErr, map, option_map};
-ghost use Rattle.std.specs.List.{slice_split};
 ghost use Rattle.xc_search.specs.Spans.{precedes};
 ghost use Rattle.xc_list.specs.SearchedSpans.{AreSmall};
 ghost use Rattle.xc_list.specs.SpanTexts.{end_at};
@@ -9,7 +8,7 @@ ghost use Rattle.xc_list.specs.SpanWords.{asked_rows, asked_words, read_span_wor
 
 use crate::asked::SpanWords;
 use std::alloc::{AllocError, Global};
-use xc_text::long_number;
+use xc_text::{long_number, point_parts};
 
 /// Whether a word means a listing, or a count alone.
 fn listing_word(word: &[u8]) -> Option<bool>
@@ -43,13 +42,6 @@ fn row_numbers(alloc: Global, texts: &[&[u8]]) -> Result<Option<Vec<u32>>, Alloc
     Ok(Some(row))
 }
 
-/// What is between the points of a word.
-fn parts(alloc: Global, word: &[u8]) -> Result<Vec<&[u8]>, AllocError>
-    ensures { IfOk result (λ parts. map (λ w. w.now) parts.items ≡ slice_split (λ b. b == 46) word.now) }
-{
-    word.split(|b| *b == b'.').collect(alloc)
-}
-
 /// The row that a word means: numbers with points between, or `-` for the empty row.
 fn row_word(alloc: Global, word: &[u8]) -> Result<Option<Vec<u32>>, AllocError>
     ensures { IfOk result (λ found. option_map (λ row. row.items) found ≡ row_word word.now) }
@@ -57,7 +49,7 @@ fn row_word(alloc: Global, word: &[u8]) -> Result<Option<Vec<u32>>, AllocError>
     if word == b"-".as_slice() {
         return Ok(Some(Vec::new(alloc)));
     }
-    row_numbers(alloc, &parts(alloc, word)?)
+    row_numbers(alloc, &point_parts(alloc, word)?)
 }
 
 /// Whether the one row comes before the other.

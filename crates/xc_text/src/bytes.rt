@@ -1,10 +1,13 @@
 //! Where bytes stand in a text, and texts that are cut there.
 
-ghost use Rattle.std.specs.Prelude.{◌≡◌, ◌<◌, ◌∷◌, MatchOption, false, length, option_map, true};
+ghost use Rattle.std.specs.Prelude.{◌≡◌, ◌<◌, ◌==◌, ◌∷◌, IfOk, MatchOption, false, length, map, option_map, true};
+ghost use Rattle.std.specs.List.{slice_split};
+ghost use Rattle.std.specs.Str.{byte};
 ghost use Rattle.xc_text.specs.Lines.{lines_of};
 ghost use Rattle.xc_text.specs.Words.{after, before, before_last, has, is_space};
 
 use bstr::ByteSlice;
+use std::alloc::{AllocError, Global};
 
 /// Whether a byte is white space.
 #[inline]
@@ -52,4 +55,11 @@ pub fn before_last(text: &[u8], byte: u8) -> Option<&[u8]>
 {
     let (last, front) = text.split_last()?;
     if *last == byte { Some(front) } else { None }
+}
+
+/// What is between the points of a word, such as that of a row.
+pub fn point_parts(alloc: Global, word: &[u8]) -> Result<Vec<&[u8]>, AllocError>
+    ensures { IfOk result (λ parts. map (λ w. w.now) parts.items ≡ slice_split (λ b. b == byte ".") word.now) }
+{
+    word.split(|b| *b == b'.').collect(alloc)
 }

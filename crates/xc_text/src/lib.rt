@@ -27,7 +27,7 @@ mod vec_sink;
 mod whole_text;
 mod write;
 
-pub use bytes::{before_last, cut_at, cut_line, has_byte, is_white};
+pub use bytes::{before_last, cut_at, cut_line, has_byte, is_white, point_parts};
 pub use digits::{all_digits, are_digits, long_number, number_of};
 pub use given::Given;
 pub use line::write_line;

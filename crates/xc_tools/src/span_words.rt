@@ -5,13 +5,14 @@ ghost use Rattle.std.specs.List.{list_all, slice_split};
 ghost use Rattle.std.specs.Str.{byte, bytes_eq};
 ghost use Rattle.xc_check.specs.ListingLines.{words_in};
 ghost use Rattle.xc_tools.specs.SpanShapes.{is_digest, is_hex};
-ghost use Rattle.xc_tools.specs.inner.SpanLines.{are_counts, are_ends, begins, is_problem, row_parts, counted_of};
+ghost use Rattle.xc_tools.specs.inner.SpanLines.{are_counts, are_ends, begins, is_problem, counted_of};
 ghost use Rattle.xc_tools.specs.inner.SpanLines.{counts_of, heading_of, is_number, is_row, headed_of, numbers_in};
 ghost use Rattle.xc_tools.specs.inner.SpanLines.{record_of, recorded_counts, saturating_number, told_of};
 
 use crate::headings::{Counts, Heading, Record};
 use itoa::Buffer;
 use std::alloc::{AllocError, Global};
+use xc_text::point_parts;
 
 /// The number that digits stand for, up to 2^64 - 1.
 fn saturating_number(digits: &[u8]) -> u64
@@ -52,13 +53,6 @@ fn is_row(word: &[u8]) -> bool
     is_dash(word) || all_numbers(word)
 }
 
-/// What is between the points of a word.
-fn row_parts(alloc: Global, word: &[u8]) -> Result<Vec<&[u8]>, AllocError>
-    ensures { IfOk result (λ parts. map (λ w. w.now) parts.items ≡ row_parts word.now) }
-{
-    word.split(|b| *b == b'.').collect(alloc)
-}
-
 /// The numbers that words stand for, behind others.
 fn push_numbers(store: &mut Vec<u64>, words: &[&[u8]]) -> Result<(), AllocError>
     ensures { OnOk result
@@ -82,7 +76,7 @@ pub(crate) fn put_numbers(
     if is_dash(word) {
         return Ok(());
     }
-    push_numbers(store, &row_parts(alloc, word)?)
+    push_numbers(store, &point_parts(alloc, word)?)
 }
 
 fn is_hex(b: u8) -> bool

@@ -1,7 +1,7 @@
 use Rattle.std.proofs.Common.{rules, tests}
 use Rattle.std.proofs.lemmas.Iterator.Consumers.{map_from_collect}
 use Rattle.std.proofs.lemmas.Iterator.Splits.{YieldsList-from_slice_split}
-use Rattle.xc_list.proofs.span_words.parts.Goals as goal
+use Rattle.xc_text.proofs.bytes.point_parts.Goals as goal
 
 pub returns : goal.returns
 returns c =
