@@ -1,8 +1,8 @@
 //! The digest of a problem, by which the text of a span names it.
-ghost use Rattle.std.specs.Prelude.{◌≡◌, length};
+ghost use Rattle.std.specs.Prelude.{◌≡◌};
 ghost use Rattle.std.specs.Int.{w64, to_be_bytes};
 ghost use Rattle.hex.specs.Hex.{encode_lower};
-ghost use Rattle.xc_text.specs.Hashing.{folded, taken};
+ghost use Rattle.xc_text.specs.Hashing.{taken};
 ghost use Rattle.xc_input.specs.ItemBounds.{bounds_of};
 ghost use Rattle.xc_input.specs.Named.{IsSound};
 ghost use Rattle.xc_list.specs.Digests.{problem_numbers, length_first, digest_after, digest_of};
@@ -11,6 +11,7 @@ ghost use Rattle.xc_list.specs.inner.Writing.{digest_multiplier, digest_start};
 
 use hex::encode_to_slice;
 use xc_input::{Item, Problem, Use};
+use xc_text::folded;
 
 /// 2^64 over the golden ratio, as an odd number (Knuth, The Art of Computer Programming 3, section 6.4).
 const MULTIPLIER: u64 = 0x9e37_79b9_7f4a_7c15;
@@ -18,21 +19,12 @@ const MULTIPLIER: u64 = 0x9e37_79b9_7f4a_7c15;
 /// The first 64 bits of the fraction of pi.
 pub const START: u64 = 0x243f_6a88_85a3_08d3;
 
-/// Both halves of a product with the multiplier, joined.
-#[inline(always)]
-fn folded(state: u64) -> u64
-    ensures { result ≡ folded digest_multiplier state }
-{
-    let product = u128::from(state) * u128::from(MULTIPLIER);
-    (product & 0xffff_ffff_ffff_ffff) as u64 ^ (product >> 64) as u64
-}
-
 /// The state after one more number.
 #[inline(always)]
 pub fn taken(state: u64, number: u64) -> u64
     ensures { result ≡ taken digest_multiplier state number }
 {
-    folded(state ^ number)
+    folded(MULTIPLIER, state ^ number)
 }
 
 /// The state after a name or a colour.

@@ -34,7 +34,7 @@ pub use line::write_line;
 pub use line_reader::{LineReader, Unread};
 pub use memory::Memory;
 pub use noted::Noted;
-pub use seed::{FoldingHasher, Seed};
+pub use seed::{FoldingHasher, Seed, folded};
 pub use sink::{Sink, Tray, WriteFailed};
 pub use slice_source::SliceSource;
 pub use source::{Feed, ReadFailed, Source};

@@ -67,7 +67,7 @@ impl FoldingHasher {
     fn take(&mut self, number: u64)
         ensures { self.new ≡ record self.old { state = taken self.old.multiplier self.old.state number } }
     {
-        self.state = fold(self.multiplier, self.state ^ number);
+        self.state = folded(self.multiplier, self.state ^ number);
     }
 }
 
@@ -78,7 +78,7 @@ impl Hasher for FoldingHasher {
 
     #[inline(always)]
     fn finish(&self) -> u64 {
-        fold(self.multiplier, self.state)
+        folded(self.multiplier, self.state)
     }
 
     #[inline(always)]
@@ -99,7 +99,7 @@ impl Hasher for FoldingHasher {
 
 /// Both halves of a product, joined.
 #[inline(always)]
-fn fold(multiplier: u64, state: u64) -> u64
+pub fn folded(multiplier: u64, state: u64) -> u64
     ensures { result ≡ folded multiplier state }
 {
     let product = u128::from(state) * u128::from(multiplier);
