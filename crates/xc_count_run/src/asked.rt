@@ -2,12 +2,12 @@
 ghost use Rattle.std.specs.Prelude.{◌≡◌, ◌==◌, drop, is_some, map, option_map, IfSome};
 ghost use Rattle.std.specs.List.{list_all};
 ghost use Rattle.std.specs.Str.{byte};
-ghost use Rattle.xc_tools.specs.Judges.{numbered_kind};
 ghost use Rattle.xc_count_run.specs.Words.{asked_count, asked_more, is_bound, is_positive, question_word};
 ghost use Rattle.xc_count_run.specs.inner.{bound_word, meaning, megabytes};
 
 use xc_input::Kind;
 use xc_text::{all_digits, long_number};
+use xc_tools::numbered_kind;
 
 /// How many megabytes the states may take if no word says so.
 const MEGABYTES: u64 = 512;
@@ -33,18 +33,6 @@ fn bound_word(word: &[u8]) -> Option<u64>
 {
     match word {
         [b'b', number @ ..] => long_number(number),
-        _ => None,
-    }
-}
-
-/// The kind of problem that a word means.
-fn numbered_kind(word: &[u8]) -> Option<Kind>
-    ensures { result ≡ numbered_kind word.now }
-{
-    match word {
-        b"1" => Some(Kind::Plain),
-        b"2" => Some(Kind::Colours),
-        b"3" => Some(Kind::Bounds),
         _ => None,
     }
 }

@@ -9,12 +9,12 @@ ghost use Rattle.xc_count_run.specs.Each.{DidTellEach, PrintsBoth, option_line, 
 ghost use Rattle.xc_count_run.specs.LastLine.{count_text};
 
 use crate::messages::{count_line, write_gave_up};
-use crate::running::{FAILED, write_last};
+use crate::running::write_last;
 use natural::Natural;
 use std::alloc::{AllocError, Global};
 use xc_count::{each_by_search, each_by_turns};
 use xc_input::Problem;
-use xc_streams::status::{flushed, out_of_memory, write_failed};
+use xc_streams::status::{FAILED, flushed, out_of_memory, write_failed};
 use xc_text::{Sink, write_all};
 
 /// Adds the line of an option.

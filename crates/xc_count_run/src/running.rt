@@ -1,9 +1,8 @@
 //! A whole run.
-ghost use Rattle.std.specs.Prelude.{◌≡◌, ◌⊎◌, ◌*◌, ◌^◌, ◌-◌, map, min, length, codes};
-ghost use Rattle.xc_input.specs.Named.{Named};
+ghost use Rattle.std.specs.Prelude.{◌≡◌, ◌⊎◌, ◌*◌, ◌^◌, ◌-◌, map, min, length};
 ghost use Rattle.xc_search.specs.Cover.{members};
-ghost use Rattle.xc_text.specs.Texts.{seen, WasTold};
-ghost use Rattle.xc_tools.specs.WholeRuns.{no_problem, sinks};
+ghost use Rattle.xc_text.specs.Texts.{seen};
+ghost use Rattle.xc_tools.specs.WholeRuns.{sinks};
 ghost use Rattle.xc_count_run.specs.Alone.{DidPerhapsAlone};
 ghost use Rattle.xc_count_run.specs.Counts.{DidAnswer, DidCountWords, DidWarnAndAnswer};
 ghost use Rattle.xc_count_run.specs.LastLine.{Concludes};
@@ -17,43 +16,11 @@ use natural::Natural;
 use std::alloc::Global;
 use std::cell::Cell;
 use xc_count::{Counting, LoneSearch, count_by_turns};
-use xc_input::{InputError, Problem, Read, read_problem_by};
+use xc_input::{Problem, Read, read_problem_by};
 use xc_list::warnings;
-use xc_streams::status::out_of_memory;
+use xc_streams::status::{BAD_WORDS, COMPLETE, FAILED, out_of_memory, refuse};
 use xc_text::{Seed, Sink, Source, write_all};
-use xc_tools::input_error;
-
-/// The number was printed.
-const COMPLETE: u8 = 0;
-/// The words were refused.
-const BAD_WORDS: u8 = 1;
-/// The input has a fault.
-const BAD_INPUT: u8 = 2;
-/// A read or a write failed.
-pub const FAILED: u8 = 3;
-/// There was no memory.
-const NO_MEMORY: u8 = 4;
-
-/// Reports why there is no count, as far as that goes, and returns its status.
-pub fn refuse<E: Sink>(status: u8, text: &[u8], err: &mut E) -> u8
-    ensures { (result ≡ status) × WasTold (E.state err.old) (E.state err.new) text.now }
-{
-    let _ = write_all(err, text);
-    status
-}
-
-/// Reports why no problem was read, as far as that goes, and returns its status.
-fn no_problem<E: Sink>(error: &InputError, err: &mut E) -> u8
-    ensures { (result ≡ (no_problem error.now).0)
-        × WasTold (E.state err.old) (E.state err.new) (no_problem error.now).1 }
-{
-    let _ = input_error(error, err);
-    match *error {
-        InputError::Fault { line: _, kind: _ } => BAD_INPUT,
-        InputError::Device => FAILED,
-        InputError::Memory => NO_MEMORY,
-    }
-}
+use xc_tools::no_problem;
 
 /// Writes the last line.
 pub fn write_last<E: Sink>(line: &[u8], err: &mut E) -> u8

@@ -11,7 +11,6 @@ ghost use Rattle.xc_count_run.specs.Alone.{DidPerhapsAlone};
 ghost use Rattle.xc_count_run.specs.Solutions.{DidFind, fewer_text};
 
 use crate::messages::{fewer_line, line_of, write_gave_up};
-use crate::running::{FAILED, refuse};
 use natural::{Natural, parse};
 use std::alloc::Global;
 use std::cell::Cell;
@@ -19,13 +18,8 @@ use xc_count::{Finding, LoneSearch, nth_by_turns};
 use xc_input::Problem;
 use xc_list::write_choices;
 use xc_search::Choice;
-use xc_streams::status::{flushed, out_of_memory, write_failed};
+use xc_streams::status::{COMPLETE, FAILED, FEWER, flushed, out_of_memory, refuse, write_failed};
 use xc_text::{Sink, SinkFault, write_all};
-
-/// The solution was printed.
-const COMPLETE: u8 = 0;
-/// There are fewer solutions.
-const FEWER: u8 = 5;
 
 /// Reports that there are fewer solutions, as far as that goes, and returns its status; or that memory is out.
 fn tell_fewer<E: Sink>(alloc: Global, number: &Natural, err: &mut E) -> u8

@@ -21,6 +21,8 @@ pub const NO_MEMORY: u8 = 4;
 pub const NOT_ALL_COVERS: u8 = 5;
 /// The ends of spans don't meet, or they are of more than one problem.
 pub const GAP: u8 = 5;
+/// There are fewer solutions than the number that was asked for.
+pub const FEWER: u8 = 5;
 
 /// Writes a line in place of the last one, as far as that goes, and returns its status.
 pub fn refuse<E: Sink>(status: u8, text: &[u8], err: &mut E) -> u8

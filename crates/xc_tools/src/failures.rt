@@ -41,7 +41,7 @@ fn error_status(error: &InputError) -> u8
 }
 
 /// Reports why no problem was read, as far as that goes, and returns its status.
-pub(crate) fn no_problem<E: Sink>(error: &InputError, err: &mut E) -> u8
+pub fn no_problem<E: Sink>(error: &InputError, err: &mut E) -> u8
     ensures status { result ≡ (no_problem error.now).0 }
     ensures told { WasTold (E.state err.old) (E.state err.new) ((no_problem error.now).1) }
 {

@@ -23,7 +23,7 @@ use xc_streams::status::{
 use xc_text::{Seed, Sink, SinkFault, Source, Unread, read_text, write_all, write_number};
 
 /// The kind of problem that a number stands for.
-pub(crate) fn numbered_kind(word: &[u8]) -> Option<Kind>
+pub fn numbered_kind(word: &[u8]) -> Option<Kind>
     ensures { result ≡ numbered_kind word.now }
 {
     match word {

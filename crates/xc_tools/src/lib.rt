@@ -23,9 +23,9 @@ mod span_lines;
 mod span_run;
 mod span_words;
 
-pub use failures::{input_error, listing_fault};
+pub use failures::{input_error, listing_fault, no_problem};
 pub use joining::{asked_join, join_spans};
-pub use judging::{asked_kind, judge, judge_by};
+pub use judging::{asked_kind, judge, judge_by, numbered_kind};
 pub use programs::{exit_code, run_solver};
 pub use solving::{solve, solve_by};
 pub use span_run::{solve_span, solve_span_by};

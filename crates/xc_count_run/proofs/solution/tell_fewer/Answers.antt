@@ -4,6 +4,6 @@ use Rattle.xc_count_run.proofs.solution.tell_fewer.Goals as goal
 
 pub returns : goal.returns
 returns g c = inl (
-  c.refuse.ensures.0,
-  subst (WasTold _ _) (c.as_slice.ensures.value ∙ c.in-Ok.ensures) c.refuse.ensures.1,
+  c.refuse.ensures.status,
+  subst (WasTold _ _) (c.as_slice.ensures.value ∙ c.in-Ok.ensures) c.refuse.ensures.told,
 )
