@@ -21,7 +21,7 @@ ENDS = [bytes((a, b)) for a in LETTERS for b in LETTERS]
 WORDS = 9000
 MOST = 3
 
-# `Seed::FIXED`, and how it hashes: crates/xc_input/src/seed.rt. A table takes the low 32 bits of both halves together.
+# `Seed::FIXED`, and how it hashes: crates/xc_text/src/seed.rt. A table takes the low 32 bits of both halves together.
 STATE, MULTIPLIER = 0x243F_6A88_85A3_08D3, 0x9E37_79B9_7F4A_7C15
 LOW = 2**64 - 1
 
