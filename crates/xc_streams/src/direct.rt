@@ -7,7 +7,7 @@ ghost use Rattle.xc_streams.specs.declared.system.Answer.TheVariants.{Flushed};
 
 use crate::system::{System, SystemWriter};
 use std::io::Write;
-use xc_text::{Sink, Tally, WriteFailed};
+use xc_text::{Sink, Tally as Flushes, WriteFailed};
 
 /// A writer of the system as a sink that passes on each text at once. After a failure nothing is called
 /// of it.

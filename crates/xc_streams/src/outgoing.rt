@@ -10,7 +10,7 @@ use crate::outgoing::held::Held;
 use crate::system::{System, SystemWriter};
 use std::alloc::{AllocError, Global};
 use std::io::Write;
-use xc_text::Tally;
+use xc_text::Tally as Flushes;
 
 /// A writer of the system as a sink that holds some bytes back until it is flushed. The first failure
 /// of the system is its own at that call, and after it the system isn't called.

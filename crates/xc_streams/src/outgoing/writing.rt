@@ -24,7 +24,7 @@ ghost use Rattle.xc_streams.specs.Streams.{BrokeLast, FlushedLast, early, ends_l
 use crate::outgoing::Outgoing;
 use crate::outgoing::held::ROOM;
 use crate::system::SystemWriter;
-use xc_text::{Sink, Tally, WriteFailed};
+use xc_text::{Sink, Tally as Flushes, WriteFailed};
 
 /// Passes on the bytes, and returns how many of them that were. A failed write isn't tried again.
 fn pass_on<W: SystemWriter>(writer: &mut W, bytes: &[u8]) -> usize
