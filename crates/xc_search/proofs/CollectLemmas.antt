@@ -201,7 +201,8 @@ more_on p t i {gone} {n} {m} {y} {into} {out} next a o count list same own lt is
 
 -- at the item's own node all were met
 pub taken_all : (p : Puzzle) (t : List Move) (done : List ℕ) (i : ℕ) {n : ℕ} {into : List ℕ} {place : ℕ} → IsItem p i
-    → AreTakenTo p t i (collected p t done) n into place → place ≡ i → AreTaken p t (collected p t (done ++ i ∷ [])) n into
+    → AreTakenTo p t i (collected p t done) n into place → place ≡ i
+    → AreTaken p t (collected p t (done ++ i ∷ [])) n into
 taken_all p t done i {n} {into} {place} item a own =
     let none : next_above a.last (listed_numbers p t i) ≡ None = by_option (next_above a.last (listed_numbers p t i))
     (λ none. none)

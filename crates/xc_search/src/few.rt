@@ -98,9 +98,9 @@ impl Few {
         self.from = depth.saturating_add((beside / self.each).max(1));
     }
 
-    /// Notes that a count below so many levels, over so many options, took so many nodes. Where these are few, moves would
-    /// have taken as long: then a level higher is tried, and where that was too much, the next tries are passed over,
-    /// four times as many as before and three, up to 255.
+    /// Notes that a count below so many levels, over so many options, took so many nodes. Where these are few, moves
+    /// would have taken as long: then a level higher is tried, and where that was too much, the next tries are passed
+    /// over, four times as many as before and three, up to 255.
     fn weigh(&mut self, depth: usize, nodes: u64, options: usize) {
         if nodes >= options as u64 / 2 {
             self.pause = 0;
