@@ -208,7 +208,8 @@ module _ (n : ℕ) (r : Residual) (is os : List ℕ) (w : BoundedWords) (p : IsP
         elim free.1 [
           | inl most ↦
               let least = length-filter-le (λ (o : Numbered). chosen t o.number) (holding v.item r.options) in
-              let same = ap length (filter_both (λ (o : Numbered). chosen t o.number) (λ o. holds o v.item) r.options) in
+              let held : Numbered → Bool = λ o. holds o v.item in
+              let same = ap length (filter_both (λ (o : Numbered). chosen t o.number) held r.options) in
               omega (arith, least, same, most)
           | inr u ↦
               let met = bit_met t f inside fair u.0 u.1 u.2 in

@@ -145,9 +145,9 @@ impl<'a, D: Dance> Position<'a, D> {
         self.enter_option(level, place, begun)
     }
 
-    /// Makes the moves of a branch at an item: commits the other uses of its option, or covers the
-    /// item where it takes none. `WAY`: on the way to a row, where speed matters less. `FEW`: in the loop that counts by
-    /// words, since it is too large to be taken in where two loops call it.
+    /// Makes the moves of a branch at an item: commits the other uses of its option, or covers the item where it takes
+    /// none. `WAY`: on the way to a row, where speed matters less. `FEW`: in the loop that counts by words, since it is
+    /// too large to be taken in where two loops call it.
     #[inline(always)]
     pub fn commit_branch<const WAY: bool, const FEW: bool>(&mut self, item: u32, place: u32)
         requires can { CanBranch self.old.puzzle item (option_at self.old.puzzle item place) self.old.trail }

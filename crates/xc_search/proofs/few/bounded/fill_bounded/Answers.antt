@@ -94,7 +94,8 @@ loop-i-preserved g c =
           (c.up_to_most.ensures ∙ ap (λ n. min n 64) c.bounds_left-bounds.ensures.low) c.loop-i.invariant.low;
       high = written ws.high i high (λ z v. v ≡ min (high_left p t (get_or is z 0)) 64)
           (omega (arith, sizes.3, here))
-          (c.up_to_most-in-loop-i.ensures ∙ ap (λ n. min n 64) c.bounds_left-bounds.ensures.high) c.loop-i.invariant.high;
+          (c.up_to_most-in-loop-i.ensures ∙ ap (λ n. min n 64) c.bounds_left-bounds.ensures.high)
+          c.loop-i.invariant.high;
       holders = λ k y h. written ws.holders i w (λ z v. (bit_at v y == 1) ≡ held_at p os (get_or is z 0) y)
           (omega (arith, sizes.0, here)) (told y) (λ z l. c.loop-i.invariant.holders z y l) k h;
       many = λ k y below. c.note_in_each.ensures.noted y k (omega (arith, below, c.requires.few_options))

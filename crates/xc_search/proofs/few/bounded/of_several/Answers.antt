@@ -13,5 +13,6 @@ returns-then-high-eq1 c = λ y.
 
 pub returns : goal.returns
 returns c = λ y.
-    sym (ap (λ b. (bit_at c.args.of y == 1) && not b) (ne_eqb c.args.high 1 (λ e. omega (arith, e, c.if-high-eq1.false)))
+    sym (ap (λ b. (bit_at c.args.of y == 1) && not b)
+    (ne_eqb c.args.high 1 (λ e. omega (arith, e, c.if-high-eq1.false)))
     ∙ and-true (bit_at c.args.of y == 1))
