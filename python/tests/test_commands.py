@@ -140,6 +140,7 @@ class Commands(InFolder):
 
     # A machine that does other things too finds none in a second or two.
     @mock.patch.object(solving, "_REASON_SECONDS", 99.0)
+    @mock.patch.object(sums, "search", lambda problem, _, search=sums.search: search(problem, 100.0))
     @mock.patch("helgrothy.lint.search", lambda problem, _: sums.search(problem, 100.0))
     def test_no_solution_has_its_reason(self):
         wanted = "Altogether 0 solutions.\ncan't all be held: B\nit is in no option\n"
