@@ -575,6 +575,11 @@ class FewWorkers(unittest.TestCase):
         with self.dying_threads(0), self.assertRaisesRegex(SearchFault, "the system gives no more threads"):
             self.problem.count(jobs=4)
 
+    def test_threads_without_room(self):
+        with mock.patch.object(threads, "_ROOM", 1 << 60):
+            with self.assertRaisesRegex(SearchFault, "the system gives no more threads"):
+                self.problem.count(jobs=4)
+
     def test_a_thread_that_begins_too_late_does_nothing(self):
         late, acts, begun = [], [], []
         with mock.patch.multiple(threads, start_new_thread=lambda run, words: late.append(run), _PATIENCE=0):
