@@ -33,6 +33,8 @@ _PROBLEM, _OPTIONS = "problem.lp", "options"
 _LINKED = "/dev/stdin"
 # An engine whose answer is what it writes to its third file.
 _ANSWER, _APART = "/dev/fd/3", ["/bin/sh", "-c", 'exec "$@" 3>&1 > /dev/null', "sh"]
+# OpenBLAS begins a thread for each processor, and where a limit of memory leaves no room for them cbc never ends.
+_ONE_THREAD = ["/bin/sh", "-c", 'OPENBLAS_NUM_THREADS=1 exec "$@"', "sh"]
 # Of its time, after which an engine says what it has found by then.
 _SHARE = 0.9
 
@@ -122,7 +124,8 @@ def _command(engine: Engine, folder: str, seconds: float) -> list[str]:
         return [*_APART, engine.path, "--lp", _LINKED, "--tmlim", whole, "-w", _ANSWER]
     os.symlink(_LINKED, os.path.join(folder, _PROBLEM))
     if engine.name == "cbc":
-        return [engine.path, _PROBLEM, "log", "0", "timeMode", "elapsed", "sec", whole, "solve", "solution", "-"]
+        words = ["log", "0", "timeMode", "elapsed", "sec", whole, "solve", "solution", "-"]
+        return [*_ONE_THREAD, engine.path, _PROBLEM, *words]
     with open(os.path.join(folder, _OPTIONS), "w", encoding="ascii") as file:
         file.write(f"time_limit = {whole}\nmip_rel_gap = 0\n")
     words = ["--model_file", _PROBLEM, "--options_file", _OPTIONS, "--solution_file", _ANSWER]
