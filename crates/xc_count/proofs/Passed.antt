@@ -13,16 +13,17 @@ use Rattle.xc_input.specs.declared.problem.Use.{Use}
 use Rattle.xc_input.specs.Problem.{Puzzle, IsValid}
 use Rattle.xc_text.proofs.ListLemmas.{by_bool, by_option}
 use Rattle.xc_input.proofs.OptionLemmas.{numbered_from}
+use Rattle.xc_search.specs.Listing.{Residual, listing}
 use Rattle.xc_count.specs.declared.layer.State.{State}
 use Rattle.xc_count.specs.declared.plan.Plan.{Plan}
 use Rattle.xc_count.specs.declared.plan.Step.{Step}
-use Rattle.xc_count.specs.inner.Held.{Held, HoldsOnce, left_by}
+use Rattle.xc_count.specs.inner.Held.{Held, HoldsOnce, below, left_by}
 use Rattle.xc_count.specs.inner.Keys.{mark_says}
 use Rattle.xc_count.specs.inner.Passed.{AreMore, step_item, taken_here, with_same, worth_left, worth_passed}
 use Rattle.xc_count.specs.inner.Passed.{worth_taken}
 use Rattle.xc_count.specs.inner.Plans.{IsPlan, options_with}
-use Rattle.xc_count.specs.inner.Worth.{EachKey, holds_first, key_below, says, with_number, worth_by}
-use Rattle.xc_count.proofs.Below.{one_left}
+use Rattle.xc_count.specs.inner.Worth.{EachKey, holds_first, key_below, says, with_number, worth, worth_by}
+use Rattle.xc_count.proofs.Below.{one_left, split_once}
 use Rattle.xc_count.proofs.Having.{having, having_none, having_split}
 use Rattle.xc_count.proofs.PlanLemmas.{all_held, order_at}
 
@@ -49,6 +50,17 @@ worth_parts f g h e (s ∷ ss) =
     let here : s.ways * f s.key.items ≡ s.ways * g s.key.items + s.ways * h s.key.items =
     rw (e s.key.items) (omega arith) in
     omega (arith, all, one, two, rest, here)
+
+-- each key that passes a test is worth as much by another
+worth_same : (f g : List ℕ → ℕ) (q : List ℕ → Bool) → ((key : List ℕ) → q key ≡ true → f key ≡ g key)
+    → (ss : List State) → AllByRecursion (λ s. q s.key.items ≡ true) ss → worth_by f ss ≡ worth_by g ss
+worth_same f g q same [] a = refl
+worth_same f g q same (s ∷ ss) a =
+    let one = sum_by-cons (λ (t : State). t.ways * f t.key.items) s ss in
+    let two = sum_by-cons (λ (t : State). t.ways * g t.key.items) s ss in
+    let rest = worth_same f g q same ss a.1 in
+    let here : s.ways * f s.key.items ≡ s.ways * g s.key.items = ap (λ n. s.ways * n) (same s.key.items a.0) in
+    omega (arith, one, two, rest, here)
 
 -- no key is worth anything
 worth_none : (f : List ℕ → ℕ) (q : List ℕ → Bool) → ((key : List ℕ) → q key ≡ true → f key ≡ 0) → (ss : List State)
@@ -94,7 +106,7 @@ module _ (p : Puzzle) (plan : Plan) (is : IsPlan p plan) (once : HoldsOnce p) (v
 
   pub layer_parts : (step : Step) → step.place < length plan.order.items → (ss : List State)
       → worth_left (having x) p plan step.from ss
-      ≡ sum_by (λ s. s.ways * worth_passed (having x) p plan step s.key.items) ss
+      ≡ worth_by (worth_passed (having x) p plan step) ss
       + worth_by (taken_here p plan step x) ss
   layer_parts step within = worth_parts (λ key. having x (left_by p (says plan step.from key)))
       (worth_passed (having x) p plan step) (taken_here p plan step x) (key_parts step within)
@@ -107,7 +119,37 @@ module _ (p : Puzzle) (plan : Plan) (is : IsPlan p plan) (once : HoldsOnce p) (v
       (λ key h. having_none p v once (says plan from key) x
       (λ i primary e. all_held p plan is from key h i primary e)) ss (recursion_from_All _ _ held)
 
+-- how many covers there are of what is left
+abbrev pub covers_left : Residual → ℕ
+covers_left r = length (listing r)
+
 module _ (p : Puzzle) (plan : Plan) (is : IsPlan p plan) (once : HoldsOnce p) (v : IsValid p) where
+  -- the covers below a key are those below what it becomes
+  key_passed : (step : Step) → step.place < length plan.order.items → (key : List ℕ)
+      → worth_passed covers_left p plan step key ≡ key_below p plan step.from key
+  key_passed step within key =
+      let s : Held = says plan step.from key in
+      let i : ℕ = step_item plan step in
+      let later : ℕ = sum_by (worth_taken covers_left p s) (options_with p i) in
+      by_option (s i)
+      (λ e. ap (λ b. cond b (below p s) later) (ap is_some e)
+      ∙ sym (split_once p once v s i (order_at p plan is step.place within) e))
+      (λ c e. ap (λ b. cond b (below p s) later) (ap is_some e))
+
+  pub layer_below : (step : Step) → step.place < length plan.order.items → (ss : List State)
+      → EachKey (holds_first plan step.place step.from) ss
+      → worth_by (worth_passed covers_left p plan step) ss ≡ worth p plan step.from ss
+  layer_below step within ss held = worth_same (worth_passed covers_left p plan step) (key_below p plan step.from)
+      (holds_first plan step.place step.from) (λ key h. key_passed step within key) ss (recursion_from_All _ _ held)
+
+  -- at the end there is one below each state
+  pub ends_worth : (from : ℕ) (ss : List State) → EachKey (holds_first plan (length plan.order.items) from) ss
+      → worth p plan from ss ≡ worth_by (λ key. 1) ss
+  ends_worth from ss held = worth_same (key_below p plan from) (λ key. 1)
+      (holds_first plan (length plan.order.items) from)
+      (λ key h. one_left p once v (says plan from key) (all_held p plan is from key h)) ss
+      (recursion_from_All _ _ held)
+
   -- one cover is below each state there
   pub ends_below : (from : ℕ) (ns : List ℕ) (ss : List State) → length ns ≡ length ss → All (λ n. n ≡ 1) ns
       → EachKey (holds_first plan (length plan.order.items) from) ss
@@ -233,3 +275,8 @@ module _ (p : Puzzle) (s : Held) (ways : ℕ) (os : List ℕ) (k : ℕ) (h : k <
 pub unmarked : (m : ℕ) (o : Option ℕ) → mark_says (Some m) ≡ o → m ≡ 0 → o ≡ None
 unmarked zero o e h = sym e
 unmarked (suc m) o e h = absurd (omega (arith, h))
+
+-- and one of an item that is held
+pub marked : (m : ℕ) (o : Option ℕ) → mark_says (Some m) ≡ o → 0 < m → is_some o ≡ true
+marked zero o e h = absurd (omega (arith, h))
+marked (suc m) o e h = sym (ap is_some e)

@@ -180,6 +180,15 @@ module _ (p : Puzzle) (plan : Plan) (is : IsPlan p plan) where
         gone (past_primary (step.place + 1))
         (λ j c. some_not_none _ (first_held (step.place + 1) step.from key held j c)) over (λ i item. moved_says i)
 
+    -- the step's item is held as well as those before
+    pub holds_next : holds_first plan step.place step.from key ≡ true
+        → is_some (says plan step.from key (get_or plan.order.items step.place 0)) ≡ true
+        → holds_first plan (step.place + 1) step.from key ≡ true
+    holds_next held here = list_all-each _ past (λ j m. elim (take_next plan.order.items step.place j at.within m) [
+      | inl a ↦ first_held step.place step.from key held j (contains-in _ _ a)
+      | inr b ↦ subst (λ i. is_some (says plan step.from key i) ≡ true) b here
+    ])
+
     pub key_moved : IsValid p → holds_first plan (step.place + 1) step.from key ≡ true
         → key_below p plan step.next (drop (step.next - step.from) key) ≡ key_below p plan step.from key
     key_moved v held = ap (λ r. length (listing r)) (left_moved v held)

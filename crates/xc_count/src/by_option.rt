@@ -3,21 +3,23 @@
 //! A mark of an item is replaced by the least that says as much, and a state is dropped once a lower bound can't be met
 //! any more. Both are proved to leave the number of ways.
 
-ghost use Rattle.std.specs.Prelude.{ℕ, ◌≡◌, ◌+◌, ◌-◌, ◌*◌, ◌≤◌, List, [], ◌∷◌, length, All, IfOk, OnOk};
-ghost use Rattle.xc_input.specs.Problem.{IsItem, IsOption, IsValid};
+ghost use Rattle.std.specs.Prelude.{ℕ, ◌≡◌, ◌+◌, ◌*◌, ◌≤◌, List, [], ◌∷◌, true, length, All, IfOk, OnOk};
+ghost use Rattle.xc_input.specs.Problem.{IsItem, IsValid, uses_of};
 ghost use Rattle.xc_input.specs.Limits.{most_uses};
 ghost use Rattle.xc_search.specs.Cover.{members};
 ghost use Rattle.xc_count.specs.inner.ByOption.{AtMost, ways, ways_from, ways_taken};
 ghost use Rattle.xc_count.specs.inner.Plans.{IsPlan};
 ghost use Rattle.xc_count.specs.inner.Worth.{worth_by};
 
+use crate::beside::Beside;
 use crate::errors::{CountError, Halted};
-use crate::layer::{Layer, State, pop_state};
+use crate::layer::{Layer, State, layer_of, pop_state};
 use crate::marks::{are_met, forget, take_uses};
 use crate::options::{holders_left, options_in_order, remove_uses};
 use crate::order::filled;
 use crate::plan::Plan;
 use crate::rival::Rival;
+use crate::sweeping::{PassOn, pass};
 use natural::Natural;
 use std::alloc::Global;
 use xc_input::{Problem, Use};
@@ -90,38 +92,41 @@ fn take(
     add_left(problem, left, uses, layer, scratch, &state.ways)
 }
 
-/// What the states of a layer become once an option is passed over or taken.
-fn choose(
-    alloc: Global,
-    problem: &Problem,
-    left: &[u32],
-    option: u32,
-    layer: Layer,
-    bound: usize,
-    rival: &mut Rival,
-) -> Result<Layer, Halted>
-    requires { IsOption problem.now.puzzle option }
-    ensures worth { (os : List ℕ) → AtMost problem.now.puzzle os left.now → IfOk result (λ l.
-        worth_by (ways_from problem.now.puzzle os) l.states.items
-        ≡ worth_by (ways_from problem.now.puzzle (option ∷ os)) layer.states.items) }
-    ensures room { IfOk result (λ l. l.bytes ≤ bound - layer.bytes) }
-    ensures same { rival.new.puzzle ≡ rival.old.puzzle }
-{
-    let uses = problem.option(option);
-    let mut next = Layer::new(alloc, problem, layer.beside(bound));
-    let mut scratch = Vec::new(alloc);
-    let mut states = layer.states;
-    let tries = USE_WORK.saturating_mul(uses.len() as u64);
-    while let Some(state) = pop_state(&mut states) {
-        let before = next.work();
-        leave(problem, left, uses, &mut next, &mut scratch, &state)?;
-        take(problem, left, uses, &mut next, &mut scratch, &state)?;
-        let added = next.work().wrapping_sub(before);
-        if rival.after(added.saturating_add(tries)) {
+/// A step of a sweep that passes over an option or takes it. So many options after it hold each item.
+#[derive(Drop)]
+pub struct Choosing<'p> {
+    pub problem: &'p Problem,
+    pub option: u32,
+    pub uses: &'p [Use],
+    pub left: &'p [u32],
+}
+
+impl<'p> PassOn for Choosing<'p> {
+    ghost is_step = { λ m. (m.uses.now ≡ uses_of m.problem.now.puzzle m.option)
+        × All (λ u. IsItem m.problem.now.puzzle u.item × (u.colour ≤ most_uses)) m.uses.now };
+
+    ghost takes = { λ m key. true };
+
+    ghost makes = { λ m key. true };
+
+    ghost weighs = { λ m f g. (os : List ℕ) × AtMost m.problem.now.puzzle os m.left.now
+        × (f ≡ ways_from m.problem.now.puzzle (m.option ∷ os)) × (g ≡ ways_from m.problem.now.puzzle os) };
+
+    fn pass_on<B: Beside>(
+        &self,
+        state: &State,
+        next: &mut Layer,
+        scratch: &mut Vec<u32>,
+        beside: &mut B,
+    ) -> Result<(), Halted> {
+        leave(self.problem, self.left, self.uses, next, scratch, state)?;
+        take(self.problem, self.left, self.uses, next, scratch, state)?;
+        let tried = USE_WORK.saturating_mul(self.uses.len() as u64);
+        if beside.ends_first(tried, next.work()) {
             return Err(Halted::Overtaken);
         }
+        Ok(())
     }
-    Ok(next)
 }
 
 /// The first layer: one state, in which no item is held.
@@ -130,9 +135,7 @@ fn first_layer(alloc: Global, problem: &Problem, bound: usize) -> Result<Layer, 
         ≡ ways problem.now.puzzle os (λ i. 0)) }
 {
     let key = filled(alloc, problem.items() as usize + 1, 0)?;
-    let mut layer = Layer::new(alloc, problem, bound);
-    layer.add(key.as_slice(), &Natural::from_u64(alloc, 1))?;
-    Ok(layer)
+    layer_of(alloc, problem, key.as_slice(), bound)
 }
 
 /// The ways to the states in which all lower bounds are met.
@@ -167,16 +170,16 @@ pub fn sweep_options(
     let mut left = holders_left(alloc, problem, order.as_slice())?;
     let mut layer = first_layer(alloc, problem, bound)?;
     for k in 0..order.len() {
-        remove_uses(&mut left, problem.option(order[k]));
-        layer = choose(
-            alloc,
+        let uses = problem.option(order[k]);
+        remove_uses(&mut left, uses);
+        let choosing = Choosing {
             problem,
-            left.as_slice(),
-            order[k],
-            layer,
-            bound,
-            rival,
-        )?;
+            option: order[k],
+            uses,
+            left: left.as_slice(),
+        };
+        let room = layer.beside(bound);
+        layer = pass(alloc, problem, &choosing, layer.states, room, rival)?;
     }
     Ok(total(alloc, problem, layer)?)
 }

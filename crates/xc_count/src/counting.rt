@@ -8,11 +8,11 @@ ghost use Rattle.xc_count.specs.inner.Held.{HoldsOnce};
 
 use crate::by_option::sweep_options;
 use crate::errors::Halted;
+use crate::left::sweep;
 use crate::lone::{LoneSearch, leave_alone};
 use crate::plan::Plan;
 use crate::planning::planning_work;
 use crate::rival::{FIRST_WORK, Rival};
-use crate::sweeping::sweep;
 use natural::Natural;
 use std::alloc::Global;
 use std::cell::Cell;

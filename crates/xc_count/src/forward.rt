@@ -1,22 +1,24 @@
 //! A sweep that keeps its layers.
-ghost use Rattle.std.specs.Prelude.{ℕ, ◌≡◌, ◌≤◌, ◌+◌, ◌*◌, All, length, sum_by, IfOk};
+ghost use Rattle.std.specs.Prelude.{ℕ, ◌≡◌, ◌≤◌, ◌+◌, All, length, sum_by, IfOk};
 ghost use Rattle.xc_input.specs.Problem.{IsValid};
 ghost use Rattle.xc_search.specs.Listing.{Residual};
 ghost use Rattle.xc_count.specs.Occurrences.{occurrences_of};
 ghost use Rattle.xc_count.specs.inner.Held.{HoldsOnce};
 ghost use Rattle.xc_count.specs.inner.Passed.{IsKept, taken_by, worth_left, worth_passed};
 ghost use Rattle.xc_count.specs.inner.Plans.{IsPlan, IsStep};
-ghost use Rattle.xc_count.specs.inner.Worth.{EachKey, holds_first};
+ghost use Rattle.xc_count.specs.inner.Worth.{EachKey, holds_first, worth_by};
 
-use crate::errors::CountError;
+use crate::beside::Nothing;
+use crate::errors::{CountError, Halted};
+use crate::holding::Holding;
 use crate::kept::{Kept, Swept};
-use crate::layer::Layer;
+use crate::layer::{Layer, layer_of};
 use crate::plan::{Plan, Step};
-use crate::sweeping::{first_layer, hold};
+use crate::sweeping::pass;
 use std::alloc::Global;
 use xc_input::Problem;
 
-/// What the states of a layer become once the step's item is held. They take no more than so many bytes.
+/// What the states of a layer that is kept become once the step's item is held. They take no more than so many bytes.
 fn next_layer(
     alloc: Global,
     problem: &Problem,
@@ -25,23 +27,33 @@ fn next_layer(
     layer: &Layer,
     room: usize,
 ) -> Result<Layer, CountError>
-    requires once { HoldsOnce problem.now.puzzle }
     requires plan { IsPlan problem.now.puzzle plan.now }
     requires step { IsStep problem.now.puzzle plan.now step }
     requires valid { IsValid problem.now.puzzle }
     requires held { EachKey (holds_first plan.now step.place step.from) layer.now.states.items }
     ensures worth { IfOk result (λ l. (h : Residual → ℕ) → worth_left h problem.now.puzzle plan.now step.next
-        l.states.items ≡ sum_by (λ s. s.ways * worth_passed h problem.now.puzzle plan.now step s.key.items)
-        layer.now.states.items) }
+        l.states.items ≡ worth_by (worth_passed h problem.now.puzzle plan.now step) layer.now.states.items) }
     ensures held { IfOk result (λ l. EachKey (holds_first plan.now (step.place + 1) step.next) l.states.items) }
     ensures room { IfOk result (λ l. l.bytes ≤ room) }
 {
-    let mut next = Layer::new(alloc, problem, room);
-    let mut scratch = Vec::new(alloc);
-    for state in &layer.states {
-        hold(problem, plan, step, &mut next, &mut scratch, state)?;
+    let holding = Holding {
+        problem,
+        plan,
+        step,
+    };
+    match pass(
+        alloc,
+        problem,
+        &holding,
+        layer.states.as_slice(),
+        room,
+        &mut Nothing,
+    ) {
+        Ok(next) => Ok(next),
+        Err(Halted::Failed(error)) => Err(error),
+        // Nothing is beside it that could end first.
+        Err(Halted::Overtaken) => Err(CountError::Lost),
     }
-    Ok(next)
 }
 
 /// The layers of a sweep. Their states take no more than so many bytes.
@@ -62,7 +74,7 @@ pub fn keep_layers(
     ensures room { IfOk result (λ s. sum_by (λ k. k.layer.bytes) s.kept.items + s.last.bytes ≤ bound) }
 {
     let mut kept = Vec::new(alloc);
-    let mut layer = first_layer(alloc, problem, plan, bound)?;
+    let mut layer = layer_of(alloc, problem, &[], bound)?;
     let mut room = bound;
     let mut from = 0;
     for place in 0..plan.order.len() {

@@ -427,3 +427,19 @@ impl Layer {
         self.push(state, bytes)
     }
 }
+
+/// A layer of one state, to which there is one way.
+pub fn layer_of(
+    alloc: Global,
+    problem: &Problem,
+    key: &[u32],
+    bound: usize,
+) -> Result<Layer, CountError>
+    ensures worth { IfOk result (λ l. (f : List ℕ → ℕ) → worth_by f l.states.items ≡ f key.now) }
+    ensures keys { IfOk result (λ l. (q : List ℕ → Bool) → q key.now ≡ true → EachKey q l.states.items) }
+    ensures room { IfOk result (λ l. l.bytes ≤ bound) }
+{
+    let mut layer = Layer::new(alloc, problem, bound);
+    layer.add(key, &Natural::from_u64(alloc, 1))?;
+    Ok(layer)
+}

@@ -2,38 +2,32 @@
 
 ghost use Rattle.std.specs.Prelude.{◌≡◌, ◌≤◌, ◌+◌, length, true, IfOk};
 ghost use Rattle.xc_input.specs.Problem.{IsValid};
+ghost use Rattle.xc_search.specs.Cover.{members};
 ghost use Rattle.xc_count.specs.inner.Held.{HoldsOnce};
 ghost use Rattle.xc_count.specs.inner.Plans.{IsPlan, IsStep};
-ghost use Rattle.xc_count.specs.inner.Worth.{EachKey, holds_first, key_below, worth};
+ghost use Rattle.xc_count.specs.inner.Worth.{holds_first, key_below, worth_by};
 
 use crate::errors::{CountError, Halted};
+use crate::holding::Holding;
 use crate::keys::{mark_of, without_first};
-use crate::layer::Layer;
+use crate::layer::{Layer, layer_of, pop_state};
 use crate::plan::{Plan, Step};
 use crate::rival::Rival;
-use crate::sweeping::{pass, total};
+use crate::sweeping::pass;
 use natural::Natural;
 use std::alloc::Global;
 use xc_input::Problem;
 
-/// A layer of one state, in whose key the items of the first places are held.
-fn layer_of(
-    alloc: Global,
-    problem: &Problem,
-    plan: &Plan,
-    place: usize,
-    from: usize,
-    key: &[u32],
-    bound: usize,
-) -> Result<Layer, CountError>
-    requires held { holds_first plan.now place from key.now ≡ true }
-    ensures worth { IfOk result (λ l. worth problem.now.puzzle plan.now from l.states.items
-        ≡ key_below problem.now.puzzle plan.now from key.now) }
-    ensures held { IfOk result (λ l. EachKey (holds_first plan.now place from) l.states.items) }
+/// The ways to all states of a layer.
+fn total(alloc: Global, layer: Layer) -> Result<Natural, CountError>
+    ensures { IfOk result (λ n. n ≡ worth_by (λ key. 1) layer.states.items) }
 {
-    let mut layer = Layer::new(alloc, problem, bound);
-    layer.add(key, &Natural::from_u64(alloc, 1))?;
-    Ok(layer)
+    let mut states = layer.states;
+    let mut sum = Natural::zero(alloc);
+    while let Some(state) = pop_state(&mut states) {
+        sum.add_assign(&state.ways)?;
+    }
+    Ok(sum)
 }
 
 /// Where the count of what a key leaves begins: the first place of the order whose item is free, the rank from which on
@@ -89,6 +83,64 @@ fn start_of<'a>(problem: &Problem, plan: &Plan, key: &'a [u32]) -> Start<'a>
     }
 }
 
+/// How many covers there are below a key, unless the search beside it ends first. The states take no more than so many
+/// bytes at once.
+fn count_from(
+    alloc: Global,
+    problem: &Problem,
+    plan: &Plan,
+    start: Start,
+    bound: usize,
+    rival: &mut Rival,
+) -> Result<Natural, Halted>
+    requires once { HoldsOnce problem.now.puzzle }
+    requires plan { IsPlan problem.now.puzzle plan.now }
+    requires valid { IsValid problem.now.puzzle }
+    requires place { start.place ≤ length plan.now.order.items }
+    requires held { holds_first plan.now start.place start.from start.key.now ≡ true }
+    ensures count { IfOk result (λ n. n ≡ key_below problem.now.puzzle plan.now start.entry.from
+        start.entry.key.now) }
+    ensures same { rival.new.puzzle ≡ rival.old.puzzle }
+{
+    let mut layer = layer_of(alloc, problem, start.key, bound)?;
+    let mut from = start.from;
+    for place in start.place..plan.order.len() {
+        let step = plan.step(place, from);
+        let room = layer.beside(bound);
+        let holding = Holding {
+            problem,
+            plan,
+            step,
+        };
+        layer = pass(alloc, problem, &holding, layer.states, room, rival)?;
+        from = step.next;
+    }
+    Ok(total(alloc, layer)?)
+}
+
+/// How many covers a problem has whose primary items are each to be held exactly once, unless the search beside it ends
+/// first. Its states take no more than so many bytes at once.
+pub fn sweep(
+    alloc: Global,
+    problem: &Problem,
+    plan: &Plan,
+    bound: usize,
+    rival: &mut Rival,
+) -> Result<Natural, Halted>
+    requires once { HoldsOnce problem.now.puzzle }
+    requires plan { IsPlan problem.now.puzzle plan.now }
+    requires valid { IsValid problem.now.puzzle }
+    ensures count { IfOk result (λ n. n ≡ length (members problem.now.puzzle)) }
+    ensures same { rival.new.puzzle ≡ rival.old.puzzle }
+{
+    let start = Start {
+        place: 0,
+        from: 0,
+        key: &[],
+    };
+    count_from(alloc, problem, plan, start, bound, rival)
+}
+
 /// How many covers there are of what a key leaves that has a mark for each item, unless the search beside it ends
 /// first. The states take no more than so many bytes at once.
 pub fn count_left(
@@ -106,17 +158,10 @@ pub fn count_left(
     ensures same { rival.new.puzzle ≡ rival.old.puzzle }
 {
     let start = start_of(problem, plan, key);
-    let mut from = start.from;
-    let mut layer = layer_of(alloc, problem, plan, start.place, from, start.key, bound)?;
-    let mut tried = 0;
-    for place in start.place..plan.order.len() {
-        let step = plan.step(place, from);
-        layer = pass(alloc, problem, plan, step, layer, bound, &mut tried, rival)?;
-        from = step.next;
-    }
+    let covers = count_from(alloc, problem, plan, start, bound, rival)?;
     // Of the many counts that a number takes, each may be less work than a look at the search.
-    if rival.after(tried) {
+    if rival.after_layers() {
         return Err(Halted::Overtaken);
     }
-    Ok(total(alloc, problem, plan, from, layer)?)
+    Ok(covers)
 }

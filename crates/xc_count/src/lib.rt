@@ -2,6 +2,7 @@
 #![tactic(auto)]
 
 mod backward;
+mod beside;
 mod branches;
 mod by_option;
 mod by_states;
@@ -10,6 +11,7 @@ mod errors;
 mod finding;
 mod forward;
 mod holders;
+mod holding;
 mod kept;
 mod keys;
 mod layer;
@@ -27,6 +29,7 @@ mod plan;
 mod planning;
 mod ranking;
 mod rival;
+mod states;
 mod sweeping;
 mod taken;
 mod times;

@@ -4,11 +4,12 @@
 //! in the progress reports of Knuth's programs. On sixteen problems of the benchmark that is, after a tenth of the
 //! work, from a sixth of it to four times as much. While the sweep did little of this, it keeps pace with the search,
 //! so that it takes twice as long as alone where it ends first; from there on it adds hardly a state between two turns.
-ghost use Rattle.std.specs.Prelude.{◌≡◌, ◌<◌, ◌≤◌, ◌-◌, ◌^◌, length, option_map, true, false, IfOk, IfSome};
+ghost use Rattle.std.specs.Prelude.{◌≡◌, ◌<◌, ◌≤◌, ◌-◌, ◌^◌, length, option_map, true, false, IfOk, IfSome, Some};
 ghost use Rattle.xc_input.specs.Problem.{numbered_get};
 ghost use Rattle.xc_search.specs.Cover.{members};
 ghost use Rattle.xc_count.specs.inner.Searching.{HadTurn};
 
+use crate::beside::Beside;
 use crate::members::all_members;
 use crate::metered::{Metered, SAMPLE};
 use crate::passing::nth_left;
@@ -24,6 +25,8 @@ use xc_text::Memory;
 
 /// The work of the sweep before the search has its first turn.
 pub const FIRST_WORK: u64 = 10_000_000;
+/// So much work is at least between two looks at whether the search has a turn.
+const CHECK_WORK: u64 = 10_000;
 /// The work of a turn of the search, about.
 const TURN_WORK: u64 = 4_000_000;
 /// And more for each item and option. At its end a turn looks at the open items, and progress at each level.
@@ -71,6 +74,8 @@ pub struct Rival<'a> {
     left: u64,
     /// How much it does in all until then.
     swept: u64,
+    /// How much work the sweep did since the last look, beside that of adding to the layer that isn't whole. It wraps.
+    tried: u64,
     /// How much work its turns were.
     done: u64,
 }
@@ -173,6 +178,7 @@ impl<'a> Rival<'a> {
             branches: FIRST_BRANCHES,
             left: FIRST_WORK,
             swept: FIRST_WORK,
+            tried: 0,
             done: 0,
         })
     }
@@ -271,6 +277,15 @@ impl<'a> Rival<'a> {
         has_ended
     }
 
+    /// Has a turn if one is due after the layers that are whole. Returns whether it has ended.
+    pub fn after_layers(&mut self) -> bool
+        ensures { self.new.puzzle ≡ self.old.puzzle }
+    {
+        let work = self.tried;
+        self.tried = 0;
+        self.after(work)
+    }
+
     /// Goes on alone to the cover of a number, from 1, and returns it; none where there are fewer. Nothing if it has
     /// passed that cover.
     pub fn find(
@@ -292,6 +307,7 @@ impl<'a> Rival<'a> {
             branches: _,
             left: _,
             swept: _,
+            tried: _,
             done: _,
         } = self;
         let before = Natural::from_u64(alloc, passed);
@@ -321,6 +337,7 @@ impl<'a> Rival<'a> {
             branches: _,
             left: _,
             swept: _,
+            tried: _,
             done: _,
         } = self;
         let mut count = Natural::from_u64(alloc, passed);
@@ -332,5 +349,24 @@ impl<'a> Rival<'a> {
                 Halt::Member | Halt::Steps => {}
             }
         }
+    }
+}
+
+impl<'a> Beside for Rival<'a> {
+    ghost searched = { λ r. Some r.puzzle };
+
+    #[inline(always)]
+    fn ends_first(&mut self, tried: u64, added: u64) -> bool {
+        self.tried = self.tried.wrapping_add(tried);
+        let work = self.tried.wrapping_add(added);
+        if work < CHECK_WORK {
+            return false;
+        }
+        self.tried = self.tried.wrapping_sub(work);
+        self.after(work)
+    }
+
+    fn note_layer(&mut self, added: u64) {
+        self.tried = self.tried.wrapping_add(added);
     }
 }

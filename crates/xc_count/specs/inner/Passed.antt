@@ -11,9 +11,13 @@ use Rattle.xc_count.specs.inner.Held.{Held, agree, left_by, holding_uses}
 use Rattle.xc_count.specs.inner.Plans.{IsStep, options_with}
 use Rattle.xc_count.specs.inner.Worth.{EachKey, holds_first, key_below, says, with_number, worth_by}
 
--- the states by what is left of them, whatever that is worth
+-- a key by what is left, whatever that is worth
+abbrev pub left_worth : (Residual → ℕ) → Puzzle → Plan → ℕ → List ℕ → ℕ
+left_worth h p plan from key = h (left_by p (says plan from key))
+
+-- the states by what is left of them
 abbrev pub worth_left : (Residual → ℕ) → Puzzle → Plan → ℕ → List State → ℕ
-worth_left h p plan from ss = worth_by (λ key. h (left_by p (says plan from key))) ss
+worth_left h p plan from ss = worth_by (left_worth h p plan from) ss
 
 -- what is left once option o is taken, if it fits
 abbrev pub worth_taken : (Residual → ℕ) → Puzzle → Held → ℕ → ℕ

@@ -1,7 +1,9 @@
-use Rattle.std.proofs.Common.{ℕ, arith, ◌≡◌, ◌*◌, ap, length, get_or, ltb-true, ltb-false}
+use Rattle.std.proofs.Common.{ℕ, ◌≡◌, ◌∙◌, List, ap, length, get_or, ltb-true, ltb-false}
 use Rattle.std.specs.Prelude.{nat_lt}
 use Rattle.std.proofs.lemmas.List.{get_or_past}
+use Rattle.std.proofs.lemmas.Result.{IfOk-weaker}
 use Rattle.xc_text.proofs.ListLemmas.{by_bool}
+use Rattle.xc_count.specs.declared.layer.Layer.{Layer}
 use Rattle.xc_count.specs.inner.ByOption.{marks_in, ways, ways_from}
 use Rattle.xc_count.specs.inner.Worth.{worth_by}
 use Rattle.xc_count.proofs.Forgetting.{ways_same}
@@ -15,9 +17,8 @@ returns c = λ os.
     let f = ways_from p os in
     let zero : (i : ℕ) → get_or key i 0 ≡ 0 = λ i. by_bool (nat_lt i (length key))
     (λ e. c.in_ok-key.ensures.each i 0 (ltb-true _ _ e)) (λ e. get_or_past key i 0 (ltb-false _ _ e)) in
-    let none : worth_by f c.new-layer.result.states.items ≡ 0 = ap (worth_by f) c.new-layer.ensures.none in
     let same : f key ≡ ways p os (λ i. 0) = ways_same p os (marks_in key) (λ i. 0) zero in
     let here : f read ≡ f key = ap f c.as_slice.ensures.value in
-    let one = ap (λ n. n * f read) c.from_u64.ensures in
-    let more = c.in_ok-add.ensures.worth f in
-    omega (arith, none, more, one, here, same)
+    IfOk-weaker c.layer_of.result
+    (λ (l : Layer). (f : List ℕ → ℕ) → worth_by f l.states.items ≡ f read)
+    (λ (l : Layer). worth_by f l.states.items ≡ ways p os (λ i. 0)) (λ l e. e f ∙ here ∙ same) c.layer_of.ensures.worth

@@ -1,4 +1,5 @@
-use Rattle.std.proofs.Common.{suc, arith, refl, ◌≡◌, ◌+◌, ◌-◌, ◌∙◌, ◌∷◌, [], sym, ap, subst, get_or, drop, drop-cons}
+use Rattle.std.proofs.Common.{Some, suc, arith, refl, ◌≡◌, ◌+◌, ◌-◌, ◌∙◌, ◌∷◌, [], sym, ap, subst, get_or, drop}
+use Rattle.std.proofs.Common.{drop-cons}
 use Rattle.std.specs.Prelude.{unwrap_or}
 use Rattle.std.proofs.lemmas.List.{drop_all, get_or_default}
 use Rattle.xc_input.specs.Problem.{IsSoundOption, uses_of}
@@ -23,7 +24,7 @@ loop-k-init c =
 pub remove_uses-requires-clause-distinct : goal.remove_uses-requires-clause-distinct
 remove_uses-requires-clause-distinct c =
     (at_number (IsSoundOption c.args.problem.now.puzzle) c.args.problem.now.puzzle.options c.index.result.now
-    c.option.result.now c.option.ensures.whole.valid.options c.option.ensures.value).distinct
+    c.option-uses.result.now c.option-uses.ensures.whole.valid.options c.option-uses.ensures.value).distinct
 
 pub loop-k-preserved : goal.loop-k-preserved
 loop-k-preserved c =
@@ -37,20 +38,24 @@ loop-k-preserved c =
     let first : c.index.result.now ≡ o = c.index.ensures ∙ get_or_default os k c.index.result.now 0 (omega arith) in
     let again : c.index-in-loop-k.result.now ≡ o =
     c.index-in-loop-k.ensures ∙ get_or_default os k c.index-in-loop-k.result.now 0 (omega arith) in
-    let uses : uses_of p o ≡ c.option.result.now =
-    ap (λ n. uses_of p n) (sym first) ∙ ap (λ z. unwrap_or z []) c.option.ensures.value in
+    let uses : uses_of p o ≡ c.option-uses.result.now =
+    ap (λ n. uses_of p n) (sym first) ∙ ap (λ z. unwrap_or z []) c.option-uses.ensures.value in
     let fewer : AtMost p rest c.remove_uses.new.left.items =
     at_most_less p o rest c.loop-k.left.items c.remove_uses.new.left.items
     (subst (λ z. AtMost p z c.loop-k.left.items) here c.loop-k.invariant.left)
     (λ i. subst (λ us. get_or c.remove_uses.new.left.items i 0 ≡ get_or c.loop-k.left.items i 0 - held_by us i)
     (sym uses) (c.remove_uses.ensures.less i)) in
     record {
-      worth = c.in_ok-layer-2.ensures.worth rest (subst (AtMost p rest) (sym c.as_slice-in-loop-k.ensures.value) fewer)
+      worth = c.in_ok-layer-2.ensures.worth (ways_from p (c.index-in-loop-k.result.now ∷ rest)) (ways_from p rest)
+          (rest, subst (AtMost p rest) (sym c.as_slice-in-loop-k.ensures.value) fewer, refl, refl)
           ∙ ap (λ z. worth_by (ways_from p z) c.loop-k.layer.states.items) (ap (λ n. n ∷ rest) again ∙ sym here)
           ∙ c.loop-k.invariant.worth;
       left = fewer;
       len = c.remove_uses.ensures.len ∙ c.loop-k.invariant.len;
-      same = c.in_ok-layer-2.ensures.same ∙ c.loop-k.invariant.same;
+      same =
+          let one : Some c.pass.new.beside.puzzle ≡ Some c.loop-k.rival.puzzle = c.pass.ensures.same in
+          let two : c.pass.new.beside.puzzle ≡ c.loop-k.rival.puzzle = cc in
+          two ∙ c.loop-k.invariant.same;
     }
 
 pub returns-clause-count : goal.returns-clause-count

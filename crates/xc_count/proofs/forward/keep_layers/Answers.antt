@@ -1,13 +1,15 @@
-use Rattle.std.proofs.Common.{arith, ◌≡◌, ◌<◌, ◌+◌, ◌*◌, ◌∙◌, ◌∷◌, ◌++◌, [], ap, length, subst, sym}
+use Rattle.std.proofs.Common.{arith, ◌≡◌, ◌<◌, ◌+◌, ◌*◌, ◌∙◌, ◌∷◌, ◌++◌, [], ap, length, refl, subst, sym}
 use Rattle.std.specs.Prelude.{All, sum_by}
 use Rattle.std.proofs.lemmas.List.Elements.{All-push}
 use Rattle.std.proofs.lemmas.List.Sums.{sum_by_push}
 use Rattle.xc_count.specs.Occurrences.{occurrences_of}
 use Rattle.xc_count.specs.declared.kept.Kept.{Kept}
 use Rattle.xc_count.specs.declared.plan.Step.{Step}
-use Rattle.xc_count.specs.inner.Passed.{IsKept, taken_by, taken_here, worth_left, worth_passed}
-use Rattle.xc_count.specs.inner.Worth.{EachKey, holds_first, worth_by}
+use Rattle.xc_count.specs.inner.Passed.{IsKept, left_worth, taken_by, taken_here, worth_left, worth_passed}
+use Rattle.xc_count.specs.inner.Worth.{EachKey, holds_first, says, worth_by}
+use Rattle.xc_count.proofs.Below.{all_left}
 use Rattle.xc_count.proofs.Having.{having}
+use Rattle.xc_count.proofs.KeyLemmas.{nothing_held}
 use Rattle.xc_count.proofs.Passed.{layer_end, layer_parts}
 use Rattle.xc_count.proofs.forward.keep_layers.Goals as goal
 
@@ -19,13 +21,14 @@ loop-place-init c =
     record {
       taken = λ x.
           let first : worth_left (having x) p plan 0 c.in_ok-layer.layer.states.items ≡ occurrences_of p x =
-          c.in_ok-layer.ensures.left (having x) in
+          c.in_ok-layer.ensures.worth (left_worth (having x) p plan 0)
+          ∙ ap (having x) (all_left p (says plan 0 []) (nothing_held plan.ranking.ranks.items)) in
           let none : sum_by (taken_by p plan x) c.new-kept.result.items ≡ 0 = ap (sum_by (taken_by p plan x)) empty in
           omega (arith, first, none);
       kept = λ k d h.
           let none : length c.new-kept.result.items ≡ 0 = ap length empty in
           absurd (omega (arith, none, h));
-      held = c.in_ok-layer.ensures.held;
+      held = c.in_ok-layer.ensures.keys (holds_first plan 0 0) refl;
       room = let none : sum_by (λ (k : Kept). k.layer.bytes) c.new-kept.result.items ≡ 0 =
           ap (sum_by (λ (k : Kept). k.layer.bytes)) empty in omega (arith, none);
       within = c.in_ok-layer.ensures.room;
@@ -55,7 +58,7 @@ loop-place-preserved c =
           let parts = layer_parts p plan c.requires.plan c.requires.once c.requires.valid x step within
           layer.states.items in
           let next : worth_left (having x) p plan step.next c.in_ok-more.more.states.items
-          ≡ sum_by (λ s. s.ways * worth_passed (having x) p plan step s.key.items) layer.states.items =
+          ≡ worth_by (worth_passed (having x) p plan step) layer.states.items =
           c.in_ok-more.ensures.worth (having x) in
           let same = ap (λ f. worth_left (having x) p plan f layer.states.items) is_step.from in
           omega (arith, push, parts, next, same, c.loop-place.invariant.taken x);
