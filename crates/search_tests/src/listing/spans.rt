@@ -77,13 +77,14 @@ const SPANS: [(Kind, &[u8], Span); 9] = [
             b"from 4 until - solutions 0 steps 0 problem 12589a6a85a80440 text 5f1eb8efd42bd684\n",
         ),
     ),
-    // Rows of two choices.
+    // Rows of two choices. Solutions are printed: those that are only counted take no steps over linked tables.
     (
         Kind::Bounds,
         TWICE,
         Span(
-            &[b"m0", b"3", b"1.2", b"-"],
-            b"from 1.2 until 2.1 of 2.1 solutions 1 steps 3 problem 18dfe1040992a59e text d4e9df4c561b578b\n",
+            &[b"m1", b"3", b"1.2", b"-"],
+            b"from 1.2 problem 18dfe1040992a59e\n1:\n A (1 of 2)\n null A (2 of 2)\n B (1 of 1)\n\
+            from 1.2 until 2.1 of 2.1 solutions 1 steps 3 problem 18dfe1040992a59e text 8e2f9bf25033bb3a\n",
         ),
     ),
 ];
