@@ -47,8 +47,8 @@ def runs(text: str) -> list[Run]:
 SETS = {
     "all": runs(
         "dominoes2x30 t60000, matchings14 t135135, latin5 t12000, langford11 t6000, planes3 t9000, sudoku_many t15000,"
-        " queens12 t3000, pentominoes6x10 t12, prism20 t12000, squares4 t60, factorizations8 t4, bounded_queens11 t1000,"
-        " two_factors6x8 t20000, tetrominoes5x8 t400, dominating_queens t100, coverings8 t100"
+        " queens12 t3000, pentominoes6x10 t12, prism20 t12000, squares4 t60, factorizations8 t4,"
+        " bounded_queens11 t1000, two_factors6x8 t20000, tetrominoes5x8 t400, dominating_queens t100, coverings8 t100"
     ),
     "plain": runs(
         "dominoes2x30 t40000, matchings14 t60000, latin5 t6000, langford11 t4000, sudoku_many t4000, pentominoes6x10 t4"
