@@ -211,13 +211,6 @@ ring_open p t i legal le = grind (arith, le-leb, open_or_covered, primary_pure, 
 
 -- ---- the node by which an option uses an item, the option of a node, and the links downwards by option numbers
 
--- ---- an item's own node
-
--- an own node is of no option
-pub at_own : (p : Puzzle) (i x : ℕ) → i ≤ item_count p → i ≡ link_place p i x → x ≡ 0
-at_own p i zero le at = refl
-at_own p i (suc m) le at = absurd (omega (arith, at, le))
-
 -- ---- the node of an option
 
 -- one of an option's nodes, on the way from the first one to that of item i

@@ -70,11 +70,6 @@ found_use [] k u d e = cc
 found_use (v ∷ us) zero u d e = grind (arith, same_Some, eq-eqb v.item v.item refl)
 found_use (v ∷ us) (suc k) u d e = grind (arith, found_use us k u d.1 e, ne_eqb, false≢true)
 
--- ---- the table from a spacer on
-
-abbrev pub front : Puzzle → List Node
-front p = unused ∷ map own (range_with_len 1 (item_count p))
-
 -- ---- the items' own nodes
 
 pub range_get : (a n k : ℕ) → k < n → slice_get (range_with_len a n) k ≡ Some (a + k)

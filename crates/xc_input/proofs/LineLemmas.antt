@@ -186,10 +186,6 @@ counts old new line count next f g h = grind (arith, common_steps)
 module _ (kind : Kind) (old new : List (List ℕ)) (line : List ℕ) (f : new ≡ old ++ line ∷ []) (o : Option InputError)
     (g : o ≡ None) (h : IsStateOf kind old o) (d : ProblemBuilder)
     (s : MatchOption o (IsBuilder d × (stage_of_builder d ≡ stage_of kind old)) (λ _. Unit {0})) where
-  pub sound-builder : IsBuilder d × (stage_of_builder d ≡ stage_of kind old)
-  sound-builder =
-      subst (λ q. MatchOption q (IsBuilder d × (stage_of_builder d ≡ stage_of kind old)) (λ _. Unit {0})) g s
-
   fault-is : line_fault kind new ≡ option_map (λ k. (line_number (length new), k))
       (first (staged_line_checks kind (stage_of_builder d) line))
   fault-is = grind (arith, nat_tests, next-fault, length-append old (line ∷ []))

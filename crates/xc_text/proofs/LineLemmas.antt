@@ -33,11 +33,6 @@ ended-append (l ∷ ls) ms = grind (arith, ended-append ls ms, append_assoc l (1
 pub before_end : (whole front : List ℕ) (b : ℕ) → whole ≡ front ++ b ∷ [] → take (length whole - 1) whole ≡ front
 before_end whole front b e = grind (arith, common_steps, length-append front (b ∷ []))
 
--- a piece is cut at its first line feed
-pub line-cut : (piece end others : List ℕ) → end ≡ before 10 piece → (has 10 piece ≡ true) × (others ≡ after 10 piece)
-    → (piece ≡ end ++ 10 ∷ others) × (has 10 end ≡ false)
-line-cut piece end others e h = grind (arith, nat_tests, cut-is 10 piece h.0)
-
 -- a line and its line feed at the front
 lines_of-line : (l rest : List ℕ) → has 10 l ≡ false → lines_of (l ++ 10 ∷ rest) ≡ l ∷ lines_of rest
 lines_of-line [] rest h = refl

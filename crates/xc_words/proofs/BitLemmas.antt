@@ -83,9 +83,6 @@ bits_cleared m some fits =
     first_bit 0 64 m (cleared m) (trailing_zeros w64 m) (omega arith) t.0 (λ i l h. t.2 i h) t.1
     (lowest_gone m _ t.1 t.2) (λ i l apart. others_stay m _ t.1 t.2 i apart)
 
-pub cleared_less : (m : ℕ) → 0 < m → cleared m < m
-cleared_less m some = omega (arith, and_le_r m (m - 1), some)
-
 -- what is in a set without some is in the set
 pub from_without : (a b i : ℕ) → bit_at (bit_and a b) i ≡ 1 → bit_at a i ≡ 1
 from_without a b i e = omega (arith, bit_at_and a b i, bit_at-lt a i, e)
