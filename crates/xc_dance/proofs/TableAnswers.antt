@@ -1,4 +1,7 @@
--- What the tables return to a search.
+-- What the tables return to a search, by the moves on the trail alone. First a walk over an option's nodes: `IsAlong`
+-- says which of its uses were committed, `Behind` and `Before` what stands at the next place, and `IsCommitting` keeps
+-- this over the walk's steps (`one_more`, `whole`). Then one lemma or record for each answer: bounds, states, the ring
+-- of open items, the option of a node (`Seeks`), and the links downwards by option numbers (`OwnNode`, `use_down`).
 use Rattle.std.proofs.Common.{drop-cons, ℕ, ◌≡◌, ◌+◌, ◌-◌, ◌<◌, ◌≤◌, List, length, drop, get_or, Some, refl, sym, arith}
 use Rattle.std.proofs.Common.{subst, length-drop, ◌∙◌, zero, suc, Bool, true, not, cond, eqb, [], ◌∷◌, filter, ap₂}
 use Rattle.std.proofs.Common.{eqb-true, ne_eqb, le-leb, ◌≢◌, ◌⊎◌, inl, inr, ap}
@@ -176,8 +179,6 @@ module _ {Held : ℕ → Type 0} {off : ℕ → ℕ} {vs : ℕ → List Use} {s 
 -- ======== What the tables answer: the node by which an option uses an item, the option of a node, and the links
 -- downwards.
 
--- ---- what the tables answer, against what the moves make of the lists
-
 -- ---- bounds
 
 pub spent_within : (p : Puzzle) (t : List Move) (i : ℕ) → AreLegal p t → spends i t ≤ high_at p i
@@ -208,8 +209,6 @@ same_filter f g a (suc n) h =
 pub ring_open : (p : Puzzle) (t : List Move) (i : ℕ) → AreLegal p t → i ≤ primary_count p
     → ring_of p t i ≡ open_items p t
 ring_open p t i legal le = grind (arith, le-leb, open_or_covered, primary_pure, same_filter)
-
--- ---- the node by which an option uses an item, the option of a node, and the links downwards by option numbers
 
 -- ---- the node of an option
 

@@ -1,4 +1,6 @@
--- What a dance finds next in an item's list, by places.
+-- What a dance finds next in an item's list, by places. First the list alone: the number behind n is one of the list's
+-- (`next_contained`). Then places: the items' own nodes are below those of options (`own_place`, `option_place`), so a
+-- place tells which option stands there. `next_of_own` and `next_of_option` put both together.
 use Rattle.std.proofs.Common.{ℕ, ◌≡◌, ◌<◌, ◌≤◌, List, Some, refl, sym, arith, subst, zero, suc, true, false, cond, []}
 use Rattle.std.proofs.Common.{◌∷◌, None, ne_eqb, inl, inr, ltb, eq-eqb}
 use Rattle.std.specs.Prelude.{is_some, unwrap_or, Contains, Option}

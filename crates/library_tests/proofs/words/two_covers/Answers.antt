@@ -1,3 +1,6 @@
+-- The holders are four small numbers and otherwise 0, so the members of each are found by cases of the bit:
+-- `first_holders` and `first_alone` are the table's first rows, `past` says that a small number has no bit from the
+-- fourth on, and `other` that the further rows are empty. `own` goes through all pairs of an item and an option.
 use Rattle.std.proofs.Common.{ℕ, zero, suc, ◌≡◌, List, arith, sym, ap, ◌∙◌, subst, refl, ◌<◌, set}
 use Rattle.std.proofs.Common.{get_or-set_other}
 use Rattle.std.specs.Prelude.{replicate, slice_index}

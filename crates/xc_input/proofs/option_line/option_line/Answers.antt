@@ -1,3 +1,7 @@
+-- The invariant is `IsBehind`: the tokens before `rest` have no fault, their items are marked, and the tables hold
+-- their uses and colours behind those of the options before. It begins with no token (`unmarked-few`), and a good token
+-- more keeps it (`behind_more`). A token at fault is the line's first one (`stopped`), and at the end of the line all
+-- are judged and added (`all_judged`, `all_added`).
 use Rattle.std.proofs.lemmas.Grind.{common_steps}
 use Rattle.xc_input.proofs.OptionLemmas.{unmarked-few, behind_few, behind_more, all_added, all_judged, late_marked}
 use Rattle.std.proofs.Common.{◌∙◌, ap, arith, append-nil, ◌++◌, ◌∷◌, []}

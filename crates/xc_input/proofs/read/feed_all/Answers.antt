@@ -1,3 +1,7 @@
+-- The invariant `reading`: the reader was fed all that the source gave so far but for the bytes that `lines` holds
+-- unread, and no call of the source failed. A line more keeps it (`fed-on`, `gave_then`), and the bytes that are left
+-- become fewer (`shorter`). The three ways out: a read that fails (`part-unread`), a line at fault, which spoils all
+-- that begins so (`part-spoiled`), and the end of the source, where the unread bytes are the rest (`all_then`).
 use Rattle.std.proofs.Common.{◌++◌, ◌∙◌, [], ap, sym, subst, refl, append_assoc}
 use Rattle.std.proofs.lemmas.Result.{err_from_is_err_and}
 use Rattle.xc_text.specs.inner.LineFeeds.{ended}

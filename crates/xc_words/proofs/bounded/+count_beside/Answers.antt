@@ -1,10 +1,15 @@
+-- Induction on the budget, as each call takes one of it. Both loops keep that the sum so far and the fair sets that are
+-- left make up those that there were at first, for all items for which the set, what is left and what is unmet are
+-- right (`IsRight`). The inner loop takes away an option of the branch with the sets that have it (`one_on`, with
+-- `right_next` for the call). Behind it one set is left where no item needs an option (`all_met`), none where too few
+-- options are left for the need (`lacking`), and else each option of the branch that is left has to be taken
+-- (`last_on`). `first_of` says that the first bit is one of a set and below 64.
 use Rattle.std.proofs.Common.{◌<◌, ◌+◌, ◌^◌}
 use Rattle.std.proofs.Common.{arith, ap, ◌∙◌}
 use Rattle.xc_words.proofs.TakingLemmas.{first_of, right_closed, all_met, lacking, branch_closed, right_next, one_on}
 use Rattle.xc_words.proofs.TakingLemmas.{last_on, no_more, fewer_left}
 use Rattle.xc_words.proofs.bounded.+count_beside.Goals as goal
 
--- src/bounded.rt:165:5
 pub loop-budget-init : goal.loop-budget-init
 loop-budget-init t c = (
   omega arith,
@@ -13,7 +18,6 @@ loop-budget-init t c = (
   λ items right. (right, omega arith),
 )
 
--- src/bounded.rt:171:9
 pub loop-left-init : goal.loop-left-init
 loop-left-init t c =
     let inv = c.loop-budget.invariant in (
@@ -30,47 +34,38 @@ loop-left-init t c =
           ),
     )
 
--- src/bounded.rt:173:13
 pub without-left-requires : goal.without-left-requires
 without-left-requires t c =
     (first_of c.fewest_of-branch.result.options c.loop-left.left
     (omega (arith, c.loop-left.auto.left-fits)) (omega (arith, c.loop-left-test.true))).0
 
--- src/bounded.rt:174:17
 pub with-taken-requires : goal.with-taken-requires
 with-taken-requires t c =
     (first_of c.fewest_of-branch.result.options c.loop-left.left
     (omega (arith, c.loop-left.auto.left-fits)) (omega (arith, c.loop-left-test.true))).0
 
--- src/bounded.rt:175:17
 pub beside-stay-requires : goal.beside-stay-requires
 beside-stay-requires t c =
     (first_of c.fewest_of-branch.result.options c.loop-left.left
     (omega (arith, c.loop-left.auto.left-fits)) (omega (arith, c.loop-left-test.true))).0
 
--- src/bounded.rt:176:25
 pub count_beside-requires : goal.count_beside-requires
 count_beside-requires t c = (omega (arith, c.loop-left.invariant.1, c.decreases), tt)
 
--- src/bounded.rt:176:25
 pub returns-in_err-found-clause-spent : goal.returns-in_err-found-clause-spent
 returns-in_err-found-clause-spent t c = omega (arith, c.count_beside.ensures.spent, c.loop-left.invariant.1)
 
--- src/bounded.rt:177:24
 pub overflow_sub-most : goal.overflow_sub-most
 overflow_sub-most t c = c.loop-left.invariant.0
 
--- src/bounded.rt:178:17
 pub returns-then-found-most-clause-spent : goal.returns-then-found-most-clause-spent
 returns-then-found-most-clause-spent t c = omega (arith, c.count_beside.ensures.spent, c.loop-left.invariant.1)
 
--- src/bounded.rt:171:9
 pub loop-left-smaller : goal.loop-left-smaller
 loop-left-smaller t c = c.without-left.ensures.less
     (first_of c.fewest_of-branch.result.options c.loop-left.left
     (omega (arith, c.loop-left.auto.left-fits)) (omega (arith, c.loop-left-test.true))).2
 
--- src/bounded.rt:171:9
 pub loop-left-preserved : goal.loop-left-preserved
 loop-left-preserved t c =
     let inv = c.loop-left.invariant in
@@ -93,7 +88,6 @@ loop-left-preserved t c =
           c.beside-stay.ensures)),
     )
 
--- src/bounded.rt:183:13
 pub returns-then-sum-most-clause-counted : goal.returns-then-sum-most-clause-counted
 returns-then-sum-most-clause-counted t c = λ items right.
     let inv = c.loop-left.invariant in
@@ -106,15 +100,12 @@ returns-then-sum-most-clause-counted t c = λ items right.
     (omega (arith, c.if-branch-eq0.true)) (omega (arith, c.loop-left-test.false)) in
     ap (λ n. c.loop-left.sum + n) one ∙ at.1
 
--- src/bounded.rt:183:13
 pub returns-then-sum-most-clause-spent : goal.returns-then-sum-most-clause-spent
 returns-then-sum-most-clause-spent t c = omega (arith, c.loop-left.invariant.1)
 
--- src/bounded.rt:183:13
 pub returns-else-sum-most-clause-spent : goal.returns-else-sum-most-clause-spent
 returns-else-sum-most-clause-spent t c = omega (arith, c.loop-left.invariant.1)
 
--- src/bounded.rt:186:13
 pub returns-then-branch-left-clause-counted : goal.returns-then-branch-left-clause-counted
 returns-then-branch-left-clause-counted t c = λ items right.
     let inv = c.loop-left.invariant in
@@ -127,37 +118,30 @@ returns-then-branch-left-clause-counted t c = λ items right.
     c.loop-left.left (omega (arith, c.loop-left.auto.left-fits)) (omega (arith, c.if-branch-left.true)) in
     no_more c.loop-left.sum _ _ none at.1
 
--- src/bounded.rt:186:13
 pub returns-then-branch-left-clause-within : goal.returns-then-branch-left-clause-within
 returns-then-branch-left-clause-within t c = c.loop-left.invariant.0
 
--- src/bounded.rt:186:13
 pub returns-then-branch-left-clause-spent : goal.returns-then-branch-left-clause-spent
 returns-then-branch-left-clause-spent t c = omega (arith, c.loop-left.invariant.1)
 
--- src/bounded.rt:189:9
 pub with-set-requires : goal.with-set-requires
 with-set-requires t c =
     (first_of c.fewest_of-branch.result.options c.loop-left.left
     (omega (arith, c.loop-left.auto.left-fits)) (omega (arith, c.if-branch-eq0.false, c.if-branch-left.false))).0
 
--- src/bounded.rt:190:30
 pub without-requires : goal.without-requires
 without-requires t c =
     (first_of c.fewest_of-branch.result.options c.loop-left.left
     (omega (arith, c.loop-left.auto.left-fits)) (omega (arith, c.if-branch-eq0.false, c.if-branch-left.false))).0
 
--- src/bounded.rt:190:9
 pub beside-left-requires : goal.beside-left-requires
 beside-left-requires t c =
     (first_of c.fewest_of-branch.result.options c.loop-left.left
     (omega (arith, c.loop-left.auto.left-fits)) (omega (arith, c.if-branch-eq0.false, c.if-branch-left.false))).0
 
--- src/bounded.rt:165:5
 pub loop-budget-smaller : goal.loop-budget-smaller
 loop-budget-smaller t c = omega (arith, c.loop-left.invariant.3, c.if-budget-eq0.false)
 
--- src/bounded.rt:165:5
 pub loop-budget-preserved : goal.loop-budget-preserved
 loop-budget-preserved t c =
     let inv = c.loop-left.invariant in

@@ -1,3 +1,7 @@
+-- The invariant goes by the items of x that were looked at: each option that stays is left, isn't apart from x, and
+-- holds none of them that is full (`Stays`); each option that goes is apart from x or holds a full item of x (`Goes`).
+-- Of a step there are two cases, an item that is full (`stays_full`, `goes_full`) and one that isn't (`stays_free`). At
+-- the end all were looked at, which is what `IsBeside` says.
 use Rattle.std.proofs.Common.{◌≡◌, ◌<◌, ◌^◌, slice_index, w64}
 use Rattle.std.specs.Int.{bit_at}
 use Rattle.std.proofs.Common.{arith, ap, ◌∙◌, inl, refl}
@@ -7,7 +11,6 @@ use Rattle.xc_words.proofs.BitLemmas.{from_without}
 use Rattle.xc_words.proofs.FewestLemmas.{stays_free, stays_full, goes_full, in_both, in_other}
 use Rattle.xc_words.proofs.bounded.beside.Goals as goal
 
--- src/bounded.rt:117:5
 pub loop-rest-init : goal.loop-rest-init
 loop-rest-init c = (
   λ y l b. let two = in_both c.args.left (slice_index c.args.words.now.apart c.args.x) _ y c.minus-stay.ensures l b in
@@ -17,7 +20,6 @@ loop-rest-init c = (
   λ i b. b,
 )
 
--- src/bounded.rt:117:5
 pub loop-rest-preserved-then-of-set : goal.loop-rest-preserved-then-of-set
 loop-rest-preserved-then-of-set c =
     let some : 0 < c.loop-rest.rest = omega (arith, c.loop-rest-test.true) in
@@ -33,7 +35,6 @@ loop-rest-preserved-then-of-set c =
       λ i b. inv.2 i (from_without _ _ i b),
     )
 
--- src/bounded.rt:117:5
 pub loop-rest-preserved : goal.loop-rest-preserved
 loop-rest-preserved c =
     let some : 0 < c.loop-rest.rest = omega (arith, c.loop-rest-test.true) in
@@ -44,7 +45,6 @@ loop-rest-preserved c =
       λ i b. inv.2 i (from_without _ _ i b),
     )
 
--- src/bounded.rt:110:1
 pub returns : goal.returns
 returns c =
     let inv = c.loop-rest.invariant in record {

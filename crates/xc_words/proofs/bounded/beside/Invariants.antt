@@ -7,6 +7,5 @@ abbrev pub invariant-loop-rest : goal.invariant-loop-rest
 invariant-loop-rest l = Stays l.words l.left l.set l.x l.rest l.stay × Goes l.words l.left l.set l.x l.stay
     × ((i : ℕ) → bit_at l.rest i ≡ 1 → bit_at (slice_index l.words.many l.x) i ≡ 1)
 
--- proposed from the loop's first test
 abbrev pub decreases-loop-rest : goal.decreases-loop-rest
 decreases-loop-rest l = l.rest

@@ -1,3 +1,7 @@
+-- The invariant: the branch so far is that of an unmet item that was looked at, or none that was looked at needs an
+-- option (`IsFound`); an item that is no longer unmet was so at first and is met; and what is still to be looked at was
+-- unmet at first. Of a step there are three cases, an item that is met (`found_met`), a better branch, and a worse one
+-- (`found_before`). The loop ends at a branch of at most one (`found_one`) or when all were looked at (`found_all`).
 use Rattle.std.proofs.Common.{◌<◌, ◌≤◌, slice_index, bit_and, w64}
 use Rattle.std.specs.Int.{bit_at}
 use Rattle.xc_words.specs.Bounded.{times_in}
@@ -11,12 +15,10 @@ use Rattle.xc_words.proofs.FairLemmas.{by_bool, not_same}
 use Rattle.xc_words.proofs.FewestLemmas.{found_met, found_before, found_all, found_one}
 use Rattle.xc_words.proofs.bounded.fewest_of.Goals as goal
 
--- src/bounded.rt:68:5
 pub loop-rest-init : goal.loop-rest-init
 loop-rest-init c =
     (inl (refl, refl, refl, λ i l b gone. absurd (omega (arith, b, gone))), λ i l b. b, λ i l b. inl b, λ i b. b)
 
--- src/bounded.rt:68:5
 pub loop-rest-preserved-then-low-held : goal.loop-rest-preserved-then-low-held
 loop-rest-preserved-then-low-held c =
     let some : 0 < c.loop-rest.rest = omega (arith, c.loop-rest-test.true) in
@@ -40,7 +42,6 @@ loop-rest-preserved-then-low-held c =
       λ i b. inv.3 i (from_without _ _ i b),
     )
 
--- src/bounded.rt:68:5
 pub loop-rest-preserved-then-branches-least : goal.loop-rest-preserved-then-branches-least
 loop-rest-preserved-then-branches-least c =
     let some : 0 < c.loop-rest.rest = omega (arith, c.loop-rest-test.true) in
@@ -59,7 +60,6 @@ loop-rest-preserved-then-branches-least c =
       λ i b. inv.3 i (from_without _ _ i b),
     )
 
--- src/bounded.rt:68:5
 pub loop-rest-preserved : goal.loop-rest-preserved
 loop-rest-preserved c =
     let inv = c.loop-rest.invariant in
@@ -79,30 +79,24 @@ loop-rest-preserved c =
       λ i b. inv.3 i (from_without _ _ i b),
     )
 
--- src/bounded.rt:55:1
 pub returns-else-least-gt1-clause-branch : goal.returns-else-least-gt1-clause-branch
 returns-else-least-gt1-clause-branch c =
     found_one c.args.words.now c.args.unmet.now c.args.set c.loop-rest.rest c.loop-rest.least c.loop-rest.branch
     (omega (arith, c.if-least-gt1.false)) c.loop-rest.invariant.0
 
--- src/bounded.rt:55:1
 pub returns-else-least-gt1-clause-less : goal.returns-else-least-gt1-clause-less
 returns-else-least-gt1-clause-less c = c.loop-rest.invariant.1
 
--- src/bounded.rt:55:1
 pub returns-else-least-gt1-clause-closed : goal.returns-else-least-gt1-clause-closed
 returns-else-least-gt1-clause-closed c = c.loop-rest.invariant.2
 
--- src/bounded.rt:55:1
 pub returns-after-loop-rest-clause-branch : goal.returns-after-loop-rest-clause-branch
 returns-after-loop-rest-clause-branch c =
     found_all c.args.words.now c.args.unmet.now c.args.set c.loop-rest.rest c.loop-rest.least c.loop-rest.branch
     (omega (arith, c.loop-rest-test.false)) c.loop-rest.invariant.0
 
--- src/bounded.rt:55:1
 pub returns-after-loop-rest-clause-less : goal.returns-after-loop-rest-clause-less
 returns-after-loop-rest-clause-less c = c.loop-rest.invariant.1
 
--- src/bounded.rt:55:1
 pub returns-after-loop-rest-clause-closed : goal.returns-after-loop-rest-clause-closed
 returns-after-loop-rest-clause-closed c = c.loop-rest.invariant.2

@@ -11,6 +11,5 @@ invariant-loop-rest l = IsFound l.words l.fn.unmet l.set l.rest l.least l.branch
     → (bit_at l.unmet i ≡ 1) ⊎ (slice_index l.words.low i ≤ times_in l.words l.set i))
     × ((i : ℕ) → bit_at l.rest i ≡ 1 → bit_at l.fn.unmet i ≡ 1)
 
--- proposed from the loop's first test
 abbrev pub decreases-loop-rest : goal.decreases-loop-rest
 decreases-loop-rest l = l.rest

@@ -1,3 +1,7 @@
+-- Induction on the open items, which a choice makes fewer (`first_closes`, `fewer_open`). All is said of any `count`
+-- that goes by branches (`CountsBranches`). The outer loop keeps the count of what is left equal to that at first, as
+-- long as the item with the fewest options has one (`one_left`); with none the count is 0 (`none_left`). The inner loop
+-- keeps that the sum so far and the counts below the options still to come make up the whole (`begun`, `one_on`).
 use Rattle.std.proofs.Common.{◌<◌, arith, w64, sym, ◌∙◌}
 use Rattle.std.proofs.lemmas.Nat.{and_le_l}
 use Rattle.std.specs.Int.{bit_not, trailing_zeros}

@@ -1,3 +1,7 @@
+-- The invariant is `IsCommitting`: of the option at `place`, the uses whose nodes stand before q were committed, in
+-- their order. `led` says that the spacer's ULINK is the option's first node, where the walk begins (`along_first`).
+-- `next` says that the node at q is that of the next use, which may be committed (`may`) and then is (`one_more`). When
+-- q comes to `place`, all uses before it were committed (`whole`).
 use Rattle.xc_dance.proofs.TableAnswers.{along_first, before_at, Leads, leads, IsNext, nodes_told, whole, may, one_more}
 use Rattle.std.proofs.Common.{◌≡◌, ◌-◌, ℕ, get_or, ap, ◌∙◌, arith, refl}
 use Rattle.std.proofs.lemmas.List.{length-map}

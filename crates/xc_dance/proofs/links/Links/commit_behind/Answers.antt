@@ -1,3 +1,7 @@
+-- The invariant is `IsCommitting`: of the option at `place`, the uses behind it whose nodes stand before q were
+-- committed, in their order. `found` says what stands at q by the walk so far: where TOP is small, the next use
+-- (`next`), which may be committed (`may`) and then is (`one_more`); else the spacer, and then all were committed
+-- (`whole`). The walk ends, as q rises and stays within the nodes (`loop-self-smaller`).
 use Rattle.xc_dance.specs.inner.Walks.{IsFitted}
 use Rattle.xc_dance.specs.inner.Tables.{spans_of, Nodes, nodes_after, IsLaid, uses_behind}
 use Rattle.std.proofs.Common.{◌≡◌, ◌<◌, ◌+◌, ℕ, length, get_or, ap, subst, ◌∙◌, arith, refl}

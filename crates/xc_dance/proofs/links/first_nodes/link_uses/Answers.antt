@@ -1,3 +1,6 @@
+-- The invariant: the table is the first one (`nodes_from`) of the options whose nodes stand before q. `step` says by
+-- what stands at q that a node with a small TOP is that of a use, which is entered (`use_step`), and another one a
+-- spacer, which changes nothing (`spacer_step`). At the end all options are in (`all_entered`).
 use Rattle.xc_dance.proofs.WholeTables.{nodes_same, held_none, spacer_step, lines_of, UseStep, use_step, spacer_top}
 use Rattle.xc_dance.proofs.WholeTables.{all_entered}
 use Rattle.std.proofs.Common.{arith, ◌≡◌, ◌≤◌, ◌<◌, ◌∙◌, ◌+◌, ap, take, Some, [], ℕ}

@@ -1,3 +1,7 @@
+-- The walk goes up from p to the spacer, and then on from the option's first node to p. The invariant is `Underway`:
+-- the steps at the places between p and q were made, and those from q up to the spacer are to come. `told` says what
+-- TOP at q means: a place to hide, where a step can be made (`step_on`), or the spacer. There `rest` says that the
+-- places before p are what is left of the walk (`met`), and its field `round` puts both halves together.
 use Rattle.std.proofs.Common.{◌≡◌, ℕ, ◌+◌, ◌<◌, ◌≤◌, List, fold, get_or, ap, refl, arith}
 use Rattle.xc_dance.specs.inner.Tables.{Nodes, lent, Span}
 use Rattle.xc_dance.specs.inner.Walks.{hidden, CanHide, CanHideAll, CanHideNode, places, span_at, others_of}

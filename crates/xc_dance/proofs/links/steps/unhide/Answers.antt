@@ -1,3 +1,7 @@
+-- As the proof of `hide`, from the last step back: down from p to the spacer, and then from the option's last node down
+-- to p. The invariant is `Underway` over the places in reverse. `told` says what TOP at q means: a place where a step
+-- can be made (`step_on`), or the spacer. There `rest` says that the places behind p are what is left of the walk
+-- (`met`), and its field `round` puts both halves together.
 use Rattle.std.proofs.Common.{◌≡◌, ℕ, ◌+◌, ◌-◌, ◌<◌, ◌≤◌, ◌++◌, List, ◌∷◌, fold, reverse, ap, arith}
 use Rattle.std.proofs.lemmas.List.{reverse-append}
 use Rattle.xc_dance.specs.inner.Tables.{Nodes, lent, Span}

@@ -1,3 +1,7 @@
+-- By cases of the place: at the item's own node the first option of its list is next (`next_of_own`), at an option's
+-- node the one above its number (`next_of_option`). `next_is` puts both in one sentence, the list's first number above
+-- x; the answers below it turn that number into a place (`node_place`), or into the item's own node where there is
+-- none.
 use Rattle.std.proofs.Common.{arith, ◌≡◌, ℕ, ◌∙◌}
 use Rattle.std.specs.Prelude.{Contains}
 use Rattle.xc_moves.specs.Moves.{next_above}
