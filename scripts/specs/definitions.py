@@ -6,16 +6,21 @@ from pathlib import Path
 
 from specs.entries import NAME, Entry, Key, Scope, joined
 
+# The last line of a file's head: whether public contracts rest on the file, so that readers must believe it.
+BELIEVED = "-- Public contracts rest on this file: readers must believe it."
+NOT_BELIEVED = "-- No public contract rests on this file."
 HEAD = re.compile(rf"(?:(?:abbrev|unfoldable) (?:pub )?|(?:pub )?(?:record|data) )({NAME})")
 
 
 @dataclass
 class Module:
-    """A file of definitions: its first sentence, its definitions, and the constructors of its data types by name."""
+    """A file of definitions: what its head says and the last line of that, its definitions, and the constructors of its
+    data types by name."""
 
     name: str
     path: str
     sentence: str
+    last_line: str
     scope: Scope
     definitions: list[Entry] = field(default_factory=list)
     constructors: dict[str, str] = field(default_factory=dict)
@@ -41,7 +46,9 @@ def read_crate(top: Path, crate: str) -> Iterator[Module]:
 def read_module(path: Path, shown: str, name: str) -> Module:
     lines = path.read_text(encoding="utf-8").splitlines()
     first = next((at for at, line in enumerate(lines) if not line.startswith("--")), len(lines))
-    module = Module(name, shown, joined(lines[:first]), Scope())
+    last = lines[first - 1] if first else ""
+    said = [line for line in lines[:first] if line not in (BELIEVED, NOT_BELIEVED)]
+    module = Module(name, shown, joined(said), last, Scope())
     module.scope.take_imports(lines)
     for above, start, end in cut_definitions(lines, shown):
         key = (name, defined_by(lines[start]))

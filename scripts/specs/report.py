@@ -1,7 +1,7 @@
 """What is reported of the calls: their figures, all that one reaches, and what is wrong with the definitions."""
 from collections.abc import Iterator
 
-from specs.definitions import is_table
+from specs.definitions import BELIEVED, NOT_BELIEVED, Module, is_table
 from specs.entries import Entry, Figures, figures
 from specs.repository import Repository
 
@@ -56,9 +56,21 @@ def wrong(repository: Repository) -> Iterator[str]:
     """What is wrong with the definitions, a line each."""
     reached = {one.key for one in repository.reached(repository.calls)}
     for module in repository.modules.values():
+        yield from faults_of_head(module, any(one.key in reached for one in module.definitions))
         for one in module.definitions:
             for fault in faults_of(one, one.key in reached):
                 yield f"{one.path}:{one.line}: {one.name}: {fault}"
+
+
+def faults_of_head(module: Module, is_reached: bool) -> Iterator[str]:
+    """What is wrong with the head of a file, which `Lib.antt` has none of."""
+    if module.path.endswith("/specs/Lib.antt"):
+        return
+    if not module.sentence:
+        yield f"{module.path}:1: no sentence stands at its head"
+    wanted = BELIEVED if is_reached else NOT_BELIEVED
+    if module.last_line != wanted:
+        yield f"{module.path}:1: the last line of its head isn't: {wanted}"
 
 
 def faults_of(entry: Entry, is_reached: bool) -> Iterator[str]:

@@ -1,4 +1,5 @@
 -- What the lines of a listing stand for, its first fault, and when a listed solution is a cover.
+-- Public contracts rest on this file: readers must believe it.
 use Rattle.std.specs.Prelude.{ℕ, is_some, filter_map, ◌+◌, ◌-◌, ◌^◌, ◌≡◌, ◌↔◌, Bool, false, not, ◌&&◌, ◌||◌, ◌==◌, min}
 use Rattle.std.specs.Prelude.{List, [], ◌∷◌, codes, length, map, filter, take, Option, Some, None, IsTrue}
 use Rattle.std.specs.Prelude.{if◌then◌else◌}

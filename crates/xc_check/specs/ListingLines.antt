@@ -1,4 +1,5 @@
 -- The lines of a listing: headers, and choice lines with their bodies.
+-- Public contracts rest on this file: readers must believe it.
 use Rattle.std.specs.Prelude.{ℕ, ◌-◌, Bool, false, not, ◌&&◌, ◌==◌, nat_le, List, [], ◌∷◌, codes, length, take, drop}
 use Rattle.std.specs.Prelude.{Option, Some, None, is_some, option_and_then, slice_get, if◌then◌else◌}
 use Rattle.std.specs.List.{list_all, list_any, slice_split}

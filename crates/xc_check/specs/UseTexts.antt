@@ -1,4 +1,5 @@
 -- The words of uses, and uses from one on.
+-- Public contracts rest on this file: readers must believe it.
 use Rattle.std.specs.Prelude.{ℕ, ◌==◌, List, [], ◌++◌, take, drop, codes, unwrap_or, if◌then◌else◌}
 use Rattle.xc_input.specs.declared.problem.Use.{Use}
 use Rattle.xc_input.specs.UsePlaces.{place_in}

@@ -1,4 +1,5 @@
--- What only contracts of private functions cite: the classes of options, and what the checker has read.
+-- What contracts of private functions cite: the classes of options, and what the checker has read.
+-- No public contract rests on this file.
 pub mod Checking
 pub mod Classes
 pub mod Listings

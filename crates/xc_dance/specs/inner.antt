@@ -1,4 +1,5 @@
--- What no public clause cites: it helps to prove the public ones.
+-- What contracts of private functions cite: lists that lose options, the tables, and walks over them.
+-- No public contract rests on this file.
 pub mod Lists
 pub mod Tables
 pub mod Walks

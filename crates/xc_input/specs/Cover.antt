@@ -1,4 +1,5 @@
 -- Covers, by the problem alone.
+-- Public contracts rest on this file: readers must believe it.
 use Rattle.std.specs.Prelude.{ℕ, ◌<◌, ◌≤◌, ◌≡◌, ◌≢◌, List, Some, is_some, All, AllPairs, Contains, count_by}
 use Rattle.xc_input.specs.declared.problem.Bounds.{Bounds}
 use Rattle.xc_input.specs.Problem.{Puzzle, bounds_at, uses_of, colour_in, IsSecondary, IsOption}

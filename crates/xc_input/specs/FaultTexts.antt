@@ -1,4 +1,5 @@
 -- The faults in words, and why no problem was read.
+-- Public contracts rest on this file: readers must believe it.
 use Rattle.std.specs.Prelude.{ℕ, List, [], ◌∷◌, ◌++◌, codes, flat_map, if◌then◌else◌}
 use Rattle.std.specs.Fmt.{decimal}
 use Rattle.xc_input.specs.declared.fault.InputError.{InputError}

@@ -1,4 +1,5 @@
 -- The faults of the parts of a line, as checks in their order.
+-- Public contracts rest on this file: readers must believe it.
 use Rattle.std.specs.Prelude.{ℕ, ◌+◌, length, List, [], ◌∷◌, ◌++◌, Bool, true, false, ◌||◌, ◌&&◌, Option, None, Some}
 use Rattle.std.specs.Prelude.{nat_le, nat_lt, not, filter, is_none, map, unwrap_or, if◌then◌else◌}
 use Prim.Native.Char.{code}

@@ -1,4 +1,5 @@
 -- The first fault of a text.
+-- Public contracts rest on this file: readers must believe it.
 use Rattle.std.specs.Prelude.{ℕ, ◌+◌, ◌-◌, ◌^◌, min, length, List, [], ◌∷◌, ◌++◌, Bool, ◌&&◌, Option, None, Some, ◌≡◌}
 use Rattle.std.specs.Prelude.{nat_le, nat_lt, not, filter, map, sum_by, if◌then◌else◌}
 use Rattle.std.specs.List.{list_any, list_all}

@@ -1,4 +1,5 @@
 -- The bounds of items.
+-- Public contracts rest on this file: readers must believe it.
 use Rattle.xc_input.specs.declared.problem.Item.{Item}
 use Rattle.xc_input.specs.declared.problem.Bounds.{Bounds}
 

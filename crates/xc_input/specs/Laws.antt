@@ -1,5 +1,6 @@
 -- Each list of lines has a first fault or, by each seed, stands for one problem, and a token at fault has the fault of
 -- its line. What stands for one stands for it as each kind that allows more.
+-- Public contracts rest on this file: readers must believe it.
 use Rattle.std.specs.Prelude.{◌≡◌, ◌↔◌, ◌+◌, ℕ, List, [], ◌∷◌, ◌++◌, None, Some, length, slice_get, flat_map}
 use Rattle.xc_input.specs.declared.kind.Kind.{Kind}
 use Rattle.xc_input.specs.declared.kind.Kind.TheVariants.{Bounds}

@@ -1,5 +1,6 @@
 -- A problem with the names of its items, the bytes of its colours, and the seed of its tables, of which no text says
 -- anything.
+-- Public contracts rest on this file: readers must believe it.
 use Rattle.std.specs.Prelude.{ℕ, ◌≤◌, ◌≡◌, ◌≢◌, false, List, All, AllPairs, length}
 use Rattle.xc_input.specs.declared.problem.Use.{Use}
 use Rattle.xc_text.specs.declared.seed.Seed.{Seed}

@@ -1,4 +1,5 @@
 -- What a source gave, in the pieces that its reads gave it in, and what reading a problem from it promises.
+-- Public contracts rest on this file: readers must believe it.
 use Rattle.std.specs.Prelude.{◌≡◌, ◌≢◌, ◌⊎◌, ℕ, ◌≤◌, List, [], ◌∷◌, ◌++◌, false, None, length}
 use Prim.Native.Char.{code}
 use Rattle.xc_text.specs.Calls.{Rose}

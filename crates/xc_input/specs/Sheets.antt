@@ -1,4 +1,5 @@
 -- What a text writes down: items and uses.
+-- Public contracts rest on this file: readers must believe it.
 use Rattle.std.specs.Prelude.{ℕ, ◌+◌, List, [], ◌∷◌, ◌++◌, is_none, unwrap_or, if◌then◌else◌, map, fold}
 use Rattle.xc_input.specs.declared.problem.Use.{Use}
 use Rattle.xc_text.specs.Words.{place}

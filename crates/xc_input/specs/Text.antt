@@ -1,4 +1,5 @@
 -- THE GRAMMAR: which problem and which ignored lines a list of lines stands for.
+-- Public contracts rest on this file: readers must believe it.
 use Rattle.std.specs.Prelude.{◌≡◌, ◌≢◌, ℕ, ◌+◌, ◌<◌, ◌≤◌, length, List, [], ◌∷◌, ◌++◌, Bool, true, false, not, Some}
 use Rattle.std.specs.Prelude.{◌⊎◌, if◌then◌else◌, AllPairs, filter, map, flat_map}
 use Prim.Native.Char.{code}

@@ -1,4 +1,5 @@
 -- Where an item is among the uses of an option.
+-- Public contracts rest on this file: readers must believe it.
 use Rattle.std.specs.Prelude.{ℕ, ◌==◌, List}
 use Rattle.std.specs.List.{position_or_len}
 use Rattle.xc_input.specs.declared.problem.Use.{Use}

@@ -1,4 +1,5 @@
 -- Moves on the lists of options, as functions of the moves on the trail, the newest first.
+-- Public contracts rest on this file: readers must believe it.
 use Rattle.std.specs.Prelude.{ℕ, ◌+◌, ◌<◌, ◌≤◌, ◌≡◌, Bool, true, false, not, ◌&&◌, ◌||◌, ◌==◌, nat_lt, List, [], ◌∷◌}
 use Rattle.std.specs.Prelude.{length, map, filter, take, drop, Option, Some, None, IsTrue, if◌then◌else◌, ⊤, find}
 use Rattle.std.specs.Prelude.{replicate}

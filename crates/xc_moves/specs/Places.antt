@@ -1,4 +1,5 @@
 -- Where the nodes of a problem are in the linked tables, by the problem alone.
+-- Public contracts rest on this file: readers must believe it.
 use Rattle.std.specs.Prelude.{ℕ, zero, suc, ◌+◌, Bool, ◌==◌, nat_lt, List, [], ◌∷◌, ◌++◌, length, map, flat_map}
 use Rattle.std.specs.Prelude.{unwrap_or, sum_by, take}
 use Rattle.std.specs.List.{list_any, range_with_len, find}

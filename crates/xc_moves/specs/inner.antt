@@ -1,4 +1,5 @@
--- What no public clause cites: it helps to prove the public ones.
+-- What contracts of private functions cite: what moves leave, rising numbers, and where uses are.
+-- No public contract rests on this file.
 pub mod Left
 pub mod Rising
 pub mod Uses

@@ -1,4 +1,5 @@
 -- What a flush behind all that was written does.
+-- Public contracts rest on this file: readers must believe it.
 use Rattle.std.specs.Prelude.{◌≡◌, ◌+◌, IsTrue}
 use Rattle.std.specs.Io.KnownBytes.{Keeps}
 use Rattle.xc_text.specs.Calls.{Rose}

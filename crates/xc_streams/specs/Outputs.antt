@@ -1,4 +1,5 @@
 -- What a write to an output that holds bytes back does.
+-- Public contracts rest on this file: readers must believe it.
 use Rattle.std.specs.Prelude.{ℕ, ◌≡◌, ◌<◌, ◌≤◌, ◌+◌, ◌-◌, ◌⊎◌, List, [], Option, Result, MatchResult, IfOk, IsErr}
 use Rattle.std.specs.Prelude.{false, IsTrue, length, min, take}
 use Rattle.std.specs.Io.KnownBytes.{append_known, WriteAppends}

@@ -1,5 +1,6 @@
 -- The calls of the system and what they return, what is known of the adapters of its streams, and when lines are passed
 -- on.
+-- Public contracts rest on this file: readers must believe it.
 use Rattle.std.specs.Prelude.{ℕ, ◌+◌, ◌-◌, ◌/◌, ◌^◌, ◌<◌, ◌≤◌, ◌≡◌, ◌⊎◌, nat_eq, min, Bool, true, false, List, codes}
 use Rattle.std.specs.Prelude.{length, Result, Ok, Err, if◌then◌else◌}
 use Rattle.std.specs.List.{ends_with}

@@ -1,2 +1,3 @@
--- What no clause of a function cites that programs call.
+-- What contracts of private functions cite: the answers of the system.
+-- No public contract rests on this file.
 pub mod Streams

@@ -1,4 +1,5 @@
 -- What contracts see of a `Tally`.
+-- Public contracts rest on this file: readers must believe it.
 use Rattle.std.specs.Prelude.{ℕ}
 
 -- how often something was done

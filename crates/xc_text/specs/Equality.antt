@@ -1,4 +1,5 @@
 -- That `==` and `clone` say what is meant.
+-- Public contracts rest on this file: readers must believe it.
 use Rattle.std.specs.Prelude.{◌≡◌, ◌↔◌, Bool, IsTrue}
 
 -- the answers of `==` say which two values are equal

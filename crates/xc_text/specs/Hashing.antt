@@ -1,4 +1,5 @@
 -- How a seed hashes.
+-- Public contracts rest on this file: readers must believe it.
 use Rattle.std.specs.Prelude.{ℕ, ◌*◌, ◌%◌, ◌/◌, ◌^◌, bit_xor, List, length, nat_eq, if◌then◌else◌, fold}
 use Rattle.std.specs.Int.{w32, w64, from_le_bytes}
 

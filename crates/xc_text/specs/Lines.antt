@@ -1,4 +1,5 @@
 -- The lines of a byte text.
+-- Public contracts rest on this file: readers must believe it.
 use Rattle.std.specs.Prelude.{ℕ, List, [], ◌∷◌, nat_eq, if◌then◌else◌}
 use Rattle.std.specs.List.{onto_first}
 use Prim.Native.Char.{code}

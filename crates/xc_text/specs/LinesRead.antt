@@ -1,4 +1,5 @@
 -- What contracts see of a reader of lines, and what asking it for one more line comes to.
+-- Public contracts rest on this file: readers must believe it.
 use Rattle.std.specs.Prelude.{◌≡◌, ◌⊎◌, ℕ, ◌+◌, length, List, [], ◌∷◌, ◌++◌, Bool, true, false, Result, Ok, Err}
 use Prim.Native.Char.{code}
 use Rattle.xc_text.specs.Calls.{Rose}

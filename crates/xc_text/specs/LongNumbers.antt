@@ -1,4 +1,5 @@
 -- Numbers below 2^64 by their digits.
+-- Public contracts rest on this file: readers must believe it.
 use Rattle.std.specs.Prelude.{ℕ, ◌^◌, ◌&&◌, nat_lt, List, [], Option, Some, None, if◌then◌else◌}
 use Rattle.std.specs.Char.{is_ascii_digit}
 use Rattle.std.specs.List.{list_all}

@@ -1,4 +1,5 @@
 -- What a source gave, in the pieces that its reads gave it in.
+-- Public contracts rest on this file: readers must believe it.
 use Rattle.std.specs.Prelude.{◌≡◌, ℕ, ◌<◌, List, [], ◌∷◌, ◌++◌, Option, IfSome, length, All, flat_map}
 use Rattle.std.specs.Io.KnownBytes.{Consumes}
 

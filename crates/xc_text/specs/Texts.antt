@@ -1,4 +1,5 @@
 -- What is known of a sink after a text was written to it.
+-- Public contracts rest on this file: readers must believe it.
 use Rattle.std.specs.Prelude.{◌≡◌, ◌⊎◌, ℕ, ◌<◌, Bool, IsTrue, length, take, List, Result, MatchResult, Option}
 use Rattle.std.specs.Io.KnownBytes.{Appends}
 use Rattle.xc_text.specs.Calls.{Rose}

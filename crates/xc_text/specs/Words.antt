@@ -1,4 +1,5 @@
 -- Bytes of a text: where they stand, which are white space, and the numbers that digits stand for.
+-- Public contracts rest on this file: readers must believe it.
 use Rattle.std.specs.Prelude.{ℕ, ◌+◌, ◌-◌, ◌*◌, length, List, [], ◌∷◌, Bool, ◌&&◌, ◌||◌, Option, nat_eq, nat_le, fold}
 use Rattle.std.specs.Prelude.{Some, None, position, take, if◌then◌else◌}
 use Rattle.std.specs.Io.BufRead.{ends_with_byte}

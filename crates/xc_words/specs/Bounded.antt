@@ -1,4 +1,5 @@
 -- Sets of options, as words of 64 bits, that hold items within bounds.
+-- Public contracts rest on this file: readers must believe it.
 use Rattle.std.specs.Prelude.{ℕ, ◌≡◌, ◌≢◌, ◌≤◌, ◌<◌, ◌+◌, ◌^◌, ◌⊎◌, ◌==◌, ◌&&◌, ◌||◌, Bool, List, [], ◌∷◌, not, nat_le}
 use Rattle.std.specs.Prelude.{slice_index, bit_and, bit_or, count_ones, if◌then◌else◌}
 use Rattle.std.specs.Int.{bit_at}

@@ -1,4 +1,5 @@
--- No public clause cites this module. What the checker makes of the lines of a listing, one by one.
+-- What the checker makes of the lines of a listing, one by one.
+-- No public contract rests on this file.
 use Rattle.std.specs.Prelude.{ℕ, ◌+◌, ◌-◌, ◌^◌, ◌≡◌, ◌==◌, not, min, List, [], ◌∷◌, ◌++◌, filter, Option, Some, None}
 use Rattle.std.specs.Prelude.{is_some}
 use Rattle.xc_check.specs.inner.Listings.{Listing, listing_of, ReadLine, read}

@@ -1,4 +1,5 @@
--- No public clause cites this module. The classes of options, and covers by their classes.
+-- The classes of options, and covers by their classes.
+-- No public contract rests on this file.
 use Rattle.std.specs.Prelude.{ℕ, ◌<◌, ◌≤◌, ◌≡◌, ◌≢◌, Bool, false, ◌&&◌, ◌==◌, min, AllPairs, Contains, IsTrue, List}
 use Rattle.std.specs.Prelude.{length, map, count_by, slice_get, Option, Some, None, unwrap_or, ◌+◌, ◌-◌, ◌||◌, not}
 use Rattle.std.specs.Prelude.{nat_le, nat_lt, [], ◌∷◌, flat_map, slice_set, slice_index, slice_index_or, if◌then◌else◌}

@@ -1,5 +1,5 @@
--- No public clause cites this module. What a line of a listing says, what lines list, and what is known of lines
--- that were met before.
+-- What a line of a listing says, what lines list, and what is known of lines that were met before.
+-- No public contract rests on this file.
 use Rattle.std.specs.Prelude.{ℕ, List, Some, None, [], ◌∷◌, ◌≡◌, ◌⊎◌, Contains, IfSome, slice_set}
 use Rattle.xc_check.specs.ListingLines.{header_number, body_of}
 use Rattle.xc_check.specs.Listed.{Solution}

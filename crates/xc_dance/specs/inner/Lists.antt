@@ -1,5 +1,5 @@
--- No public clause cites this module. What helps to prove `Lists`: lists of option numbers that lose options and
--- get them back.
+-- What helps to prove `Lists`: lists of option numbers that lose options and get them back.
+-- No public contract rests on this file.
 use Rattle.std.specs.Prelude.{ℕ, ◌<◌, List, [], ◌∷◌, ⊤, ◌≤◌, not, ◌==◌, nat_le, filter, map, vec_capacity, length}
 use Rattle.std.specs.Prelude.{slice_set, slice_index_or, ◌≡◌, if◌then◌else◌, ◌+◌, Bool, false, ◌&&◌, ◌++◌, Option, Some}
 use Rattle.std.specs.Prelude.{None, All, IsTrue}

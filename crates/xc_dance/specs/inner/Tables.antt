@@ -1,5 +1,5 @@
--- No public clause cites this module. What helps to prove `Links`: the two tables column by column, as they are
--- first and after moves, and where nodes are.
+-- What helps to prove `Links`: the two tables column by column, as they are first and after moves, and where nodes are.
+-- No public contract rests on this file.
 use Rattle.std.specs.Prelude.{ℕ, ◌+◌, List, map, sum_by, zero, suc, ◌-◌, nat_lt, length, Option, Some, None, unwrap_or}
 use Rattle.std.specs.Prelude.{if◌then◌else◌, ◌==◌, nat_le, ◌<◌, ◌≤◌, ◌^◌, ◌≡◌, false, [], ◌∷◌, is_some, slice_get, ◌++◌}
 use Rattle.std.specs.Prelude.{take, slice_index, slice_set, Bool, not, ⊤, drop, ℤ, pos, negsuc}

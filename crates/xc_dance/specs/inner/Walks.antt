@@ -1,4 +1,5 @@
--- No public clause cites this module. What helps to prove `Links`: walks over nodes, and each move on the tables.
+-- What helps to prove `Links`: walks over nodes, and each move on the tables.
+-- No public contract rests on this file.
 use Rattle.std.specs.Prelude.{ℕ, ◌+◌, ◌<◌, ◌≡◌, List, [], ◌∷◌, length, slice_index, ◌-◌, ◌≤◌, ◌≢◌, ◌==◌, ◌++◌}
 use Rattle.std.specs.Prelude.{slice_set, if◌then◌else◌, fold, ◌^◌, reverse, Bool, false, Option, Some, None, true, map}
 use Rattle.std.specs.Prelude.{is_some, slice_get}

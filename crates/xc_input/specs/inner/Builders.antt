@@ -1,4 +1,5 @@
--- No public clause cites this module. What the parts of the reader hold, in the words of the grammar.
+-- What the parts of the reader hold, in the words of the grammar.
+-- No public contract rests on this file.
 use Rattle.std.specs.Prelude.{◌≡◌, ◌≢◌, ℕ, ◌+◌, ◌<◌, ◌≤◌, Bool, true, false, nat_eq, List, [], Option, None, Some}
 use Rattle.std.specs.Prelude.{Result, Ok, Err, All, AllPairs, map, drop, length, get_or}
 use Rattle.std.specs.List.{list_any}

@@ -1,4 +1,5 @@
--- No public clause cites this module. What is at the front of a line, and how tokens are cut.
+-- What is at the front of a line, and how tokens are cut.
+-- No public contract rests on this file.
 use Prim.Native.Char.{code}
 use Rattle.std.specs.Prelude.{◌≡◌, ℕ, List, [], ◌∷◌, ◌++◌, true, if◌then◌else◌, ◌<◌, false, length, drop, MatchOption}
 use Rattle.xc_text.specs.Words.{is_space, has, before, after, place}

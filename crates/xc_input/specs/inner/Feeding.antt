@@ -1,5 +1,5 @@
--- No clause of a public function cites this module; the invariants of `Reader` and `LineReader` do. Lines that line
--- feeds end, and a reader that is fed a text in pieces.
+-- Lines that line feeds end, and a reader that is fed a text in pieces.
+-- No public contract rests on this file.
 use Rattle.std.specs.Prelude.{◌≡◌, ℕ, List, [], ◌++◌, false, ◌≢◌, ◌≤◌, length, None, Result, OnOk, IfOk, IfErr}
 use Rattle.xc_text.specs.Words.{has}
 use Rattle.xc_input.specs.declared.kind.Kind.{Kind}

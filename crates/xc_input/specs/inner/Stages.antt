@@ -1,5 +1,6 @@
--- No public clause cites this module. The lines of a text, one after another: what they wrote down so far, what
--- the reader knows after each, and the checks of the next one by it.
+-- The lines of a text, one after another: what they wrote down so far, what the reader knows after each, and the checks
+-- of the next one by it.
+-- No public contract rests on this file.
 use Prim.Native.Char.{code}
 use Rattle.std.specs.Prelude.{ℕ, List, map, fold, ◌+◌, length, [], ◌∷◌, ◌++◌, Bool, true, false, ◌&&◌, Option, None}
 use Rattle.std.specs.Prelude.{Some, not, nat_eq, nat_lt, is_none, is_some, unwrap_or, if◌then◌else◌}

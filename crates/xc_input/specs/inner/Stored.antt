@@ -1,4 +1,5 @@
--- No public clause cites this module. How options, names and whole problems are stored.
+-- How options, names and whole problems are stored.
+-- No public contract rests on this file.
 use Rattle.std.specs.Prelude.{ℕ, ◌≤◌, ◌≡◌, List, [], ◌∷◌, slice_range, suc, Option, Vec, map, ◌-◌, Some, take, length}
 use Rattle.std.specs.Prelude.{slice_get, ◌+◌, ◌*◌, ◌<◌, get_or}
 use Rattle.std.specs.Option.{option_map}

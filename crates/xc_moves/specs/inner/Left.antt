@@ -1,4 +1,5 @@
--- No public clause cites this module. The options that moves leave.
+-- The options that moves leave.
+-- No public contract rests on this file.
 use Rattle.std.specs.Prelude.{not, List, [], ◌∷◌, filter, take, if◌then◌else◌}
 use Rattle.xc_moves.specs.declared.dance.Move.{Move}
 use Rattle.xc_moves.specs.declared.dance.Move.TheVariants.{Cover, Purify, Tweak, Spend}

@@ -1,4 +1,5 @@
--- No public clause cites this module. The uses of options, and where their nodes are.
+-- The uses of options, and where their nodes are.
+-- No public contract rests on this file.
 use Rattle.std.specs.Prelude.{ℕ, List, ◌==◌, Bool, ◌+◌, Option, Some, None, if◌then◌else◌, ◌<◌, ◌≡◌, ◌⊎◌, true, is_some}
 use Rattle.std.specs.Prelude.{[], ◌∷◌, map}
 use Rattle.std.specs.List.{list_any}

@@ -1,4 +1,5 @@
--- What is said of the system's answers. No clause of a function that programs call cites this module.
+-- What is said of the system's answers.
+-- No public contract rests on this file.
 use Rattle.std.specs.Prelude.{ℕ, nat_eq, if◌then◌else◌}
 use Rattle.xc_streams.specs.declared.system.Answer.{Answer}
 use Rattle.xc_streams.specs.declared.system.Answer.TheVariants.{Whole, Part, Failed}

@@ -1,5 +1,5 @@
--- No clause of a public function cites this module; the invariant of `LineReader` does. Lines that line feeds end, and
--- how a reader of lines comes to the next one.
+-- Lines that line feeds end, and how a reader of lines comes to the next one.
+-- No public contract rests on this file.
 use Prim.Native.Char.{code}
 use Rattle.std.specs.Prelude.{◌≡◌, ℕ, List, [], ◌∷◌, ◌++◌, false, length, Result, ◌+◌, ◌<◌, Bool, true, Ok, Err}
 use Rattle.std.specs.Io.KnownBytes.{Consumes, IsAtEnd, Keeps}

@@ -1,4 +1,5 @@
 -- Where a search for fair sets stands.
+-- No public contract rests on this file.
 use Rattle.std.specs.Prelude.{ℕ, ◌≡◌, ◌≢◌, ◌≤◌, ◌<◌, ◌+◌, ◌-◌, ◌^◌, ◌⊎◌, min, slice_index, bit_or}
 use Rattle.std.specs.Int.{bit_at}
 use Rattle.xc_words.specs.declared.bounded.BoundedWords.{BoundedWords}
