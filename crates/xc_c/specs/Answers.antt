@@ -1,4 +1,5 @@
 -- What the calls answer.
+-- Public contracts rest on this file: readers must believe it.
 use Rattle.std.specs.Prelude.{◌≡◌, ◌≢◌, ◌⊎◌, ℕ, List, [], ◌++◌, length, take, drop, min, nat_lt, Option, None, Some}
 use Rattle.std.specs.Prelude.{MatchOption, if◌then◌else◌}
 use Rattle.natural.specs.Numerals.{numeral}

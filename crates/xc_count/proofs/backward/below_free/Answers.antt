@@ -1,3 +1,7 @@
+-- The invariant: the sum so far and the covers below the options from k on are all covers below the state, and of each
+-- option x the count has become more by the state's ways times its covers below the options before k (`AreMore`). At
+-- first the covers below the state are split by its options (`split_once`). An option that doesn't fit adds nothing
+-- (`same_passed`), another its covers (`sum_less`, `same_added`).
 use Rattle.std.proofs.Common.{arith, ◌≡◌, ◌*◌, ap, ◌∙◌, sym, get_or, subst, refl, drop, take}
 use Rattle.std.specs.Prelude.{sum_by, Contains}
 use Rattle.std.proofs.lemmas.Option.{slice_get-get_or}

@@ -1,3 +1,8 @@
+-- The invariant: the number of the solution that is looked for, less the covers of the branches before `place`, is its
+-- number among the members of the branches from `place` on (`solution`), and k is the number of these branches. At
+-- first they are all members (`fork_listing`). An option that doesn't agree has no branch (`at_none`). Of the others,
+-- the number is either within the branch (`at_taken`; `at_last` for the last one, which isn't counted) or behind it
+-- (`at_passed`). In the first case `solution_with` and `less_with` say what is taken and that less is left.
 use Rattle.std.proofs.Common.{◌≡◌, ◌≤◌, ◌+◌, Some, arith, ap, ◌∙◌, drop, length, refl, subst, sym, get_or}
 use Rattle.std.proofs.lemmas.List.{drop_all}
 use Rattle.std.proofs.lemmas.Map.Keys.{le_from_is_le}

@@ -1,3 +1,6 @@
+-- The invariant: `many`, and how many of the options from k on agree with the key, are together all that agree. A step
+-- takes one option more by the test (`agree_step`), and no more than k were counted, so the sum doesn't wrap. At the
+-- end none is left, and those that agree are those that hold the item (`options_that_fit`).
 use Rattle.std.proofs.Common.{◌≡◌, ◌≤◌, true, false, [], arith, ap, ap₂, ◌∙◌, length, subst, sym, drop, get_or}
 use Rattle.std.specs.Prelude.{Contains, unwrap_or}
 use Rattle.std.proofs.lemmas.List.{drop_all}

@@ -1,3 +1,7 @@
+-- The invariant: the states of the layer, each worth what the options from k on make of its key (`ways_from`), are
+-- worth all members; and `left` says of each item how many of these options hold it (`AtMost`). At first that is so by
+-- `ways_many`. A pass takes one option away from both (the contract of `pass`, and `at_most_less`), and at the end,
+-- with no option left, the worth is what `total` adds up.
 use Rattle.std.proofs.Common.{Some, suc, arith, refl, ◌≡◌, ◌+◌, ◌-◌, ◌∙◌, ◌∷◌, [], sym, ap, subst, get_or, drop}
 use Rattle.std.proofs.Common.{drop-cons}
 use Rattle.std.specs.Prelude.{unwrap_or}

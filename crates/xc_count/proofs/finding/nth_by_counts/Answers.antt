@@ -1,3 +1,7 @@
+-- The invariant: the solution of the number is the choices so far and then, of what the key leaves, the solution of the
+-- number `rest`. At first the key leaves all (`all_left`). A branch more keeps it (`after_more`), and less is left,
+-- which is why the loop ends. Without a branch what the key leaves has one solution, the empty one: with 1 it is found
+-- (`at_leaf`), with another number there is none (`past_leaf`).
 use Rattle.std.proofs.Common.{◌≡◌, ◌≢◌, [], ◌∙◌, Some, None, ap, ap₂, refl, sym, subst, eqb-true, eq-eqb}
 use Rattle.xc_input.specs.Problem.{numbered_get}
 use Rattle.xc_search.specs.Listing.{listing, whole}

@@ -1,3 +1,6 @@
+-- `mark` reads the mark of the step's item as what the key says of it. If the item is held, the key without its front
+-- leaves the same problem (`holds_next`, `left_moved`), and its worth goes to the next layer as it is. If it is free,
+-- `split` adds what the key becomes by each of the item's options, which is the worth passed on by definition.
 use Rattle.std.proofs.Common.{arith, ◌≡◌, ◌+◌, ◌*◌, ◌-◌, ◌∙◌, ap, ap₂, sym, cond, drop, get_or, Some, true}
 use Rattle.std.specs.Prelude.{is_some, sum_by}
 use Rattle.std.proofs.lemmas.List.{get_or_default}

@@ -1,3 +1,7 @@
+-- `is` says what the marked key says of each item: what the state's key said, with the uses of the option held
+-- (`taken_says`). So it holds the items up to the step's (`held_taken`), also without its front (`held_moved`), and it
+-- leaves what the state leaves once the option is taken (`left_moved`, `left_taken`). Both clauses are then what `add`
+-- says of the layer; an option that doesn't fit adds nothing.
 use Rattle.std.proofs.Common.{ℕ, arith, ◌≡◌, ◌+◌, ◌*◌, ◌∙◌, ◌++◌, [], ap, ap₂, true}
 use Rattle.std.proofs.lemmas.Result.{on_ok_weaker}
 use Rattle.std.specs.Prelude.{unwrap_or}

@@ -1,3 +1,7 @@
+-- The invariant's `reach`: in any slots that only filled empty ones of these, a place that is found from `slot` on, in
+-- the tries that are left, is found by its hash. A slot that is full leads on to the next one (`leads_before`,
+-- `full_still`). The first empty one is filled, and leads to the place (`fills_here`); what was found before is found
+-- still (`finds_still`), as no full slot changes (`grew_set`).
 use Rattle.std.proofs.Common.{arith, refl, ◌≡◌, ◌-◌, ◌+◌, ◌/◌, ◌^◌, ◌∙◌, sym, ap, subst, length, Some}
 use Rattle.std.specs.Prelude.{slice_get, slice_set}
 use Rattle.std.proofs.lemmas.Option.{slice_get_read}

@@ -1,3 +1,5 @@
+-- The invariant: the marks from `place` on, hashed behind the state so far, come to the hash of the whole key. Two
+-- marks more are one number (`two_marks`); a last one is hashed by itself (`last_mark`), or there is none (`no_mark`).
 use Rattle.std.proofs.Common.{arith, ◌≡◌, ◌+◌, ◌*◌, ◌∙◌, ap, ap₂, drop, get_or}
 use Rattle.std.specs.Prelude.{fold}
 use Rattle.std.specs.Hash.{le_bytes}

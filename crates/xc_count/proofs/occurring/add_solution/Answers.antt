@@ -1,3 +1,6 @@
+-- The invariant: of each option, its number so far and one more if it is among the choices still to come are its number
+-- at the end. `first_taken` takes one choice away: with an option, which is counted (`then_counted`, and `then_known`
+-- and `then_distinct` for the choices behind it), or without one, which changes nothing (`none_first`).
 use Rattle.std.proofs.Common.{ℕ, ◌≡◌, ◌+◌, ◌-◌, ◌∙◌, ◌≤◌, ◌≢◌, arith, ap, subst}
 use Rattle.std.proofs.Common.{get_or, drop, Some, None, length, length-set}
 use Rattle.std.specs.Prelude.{All, AllPairs}

@@ -1,3 +1,7 @@
+-- The invariant: `found` members are written as far as they are printed, the others are to come, the walk stands at the
+-- last, and it made few moves. `at` says where a pass to the next printed member comes to (`Reaches`), and with it a
+-- step keeps the invariant (`stands`, `takes`, `ends_on`). The ways out: a write that fails (`stops`), the end of the
+-- members (`ends`, `none_left`), and the limit, of which `returns-clause-run` tells.
 use Rattle.std.proofs.lemmas.Bool.{le-ltb}
 use Rattle.std.proofs.Math.Nat.{le_antisymm}
 use Rattle.xc_list.specs.Known.{IsKnownChoice}

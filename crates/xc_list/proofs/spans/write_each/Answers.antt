@@ -1,3 +1,7 @@
+-- The invariant: the first members of the span were written and noted, those that are left stand before the search, and
+-- `steps` were used. `went` says what one call of `go_on` came to (`Called`), and `next` that the member it halts at is
+-- the first of those left. That member more keeps the invariant (`to_member`, `few_next`, `texts_next`). A call that
+-- halts elsewhere ends the text, at the span's end (`to_end`) or where the steps are used (`to_steps`).
 use Rattle.std.proofs.Common.{◌≡◌, ◌-◌, ◌^◌, ◌∷◌, refl, ap, arith, drop, inl, inr}
 use Rattle.std.specs.Prelude.{All}
 use Rattle.xc_search.specs.InSpan.{left_of}

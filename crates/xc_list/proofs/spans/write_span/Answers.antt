@@ -1,3 +1,7 @@
+-- A span's text is its listing, its front and its closing, written one after another. `of_span` puts what was written
+-- of these together, whether all was (`Took`) or the last part broke off (`BrokeOff`), so that each answer of clause
+-- `wrote` is one call of it, but for a listing that broke off (`of_broken`). `digest` says that the digest in the
+-- closing is that of all that stands before it, since the same was noted as was written.
 use Rattle.std.proofs.Common.{◌≡◌, ◌++◌, take}
 use Rattle.xc_search.specs.InSpan.{left_of}
 use Rattle.xc_list.specs.Digests.{digest_of, text_digest}

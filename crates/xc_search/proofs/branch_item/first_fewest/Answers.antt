@@ -1,3 +1,8 @@
+-- The invariant is `WalksTo`: of the open items up to `at`, `item` is the first with the fewest branches. It begins at
+-- the first open item (`walk_first`), and an item more keeps it, whether that has fewer branches or not (`walk_on`). Of
+-- the answers, those of clause `choice` are about a walk to its end (`walk_ends`) or to an item without branches
+-- (`walk_none`), those of `early` about one that stops at few branches (`walk_enough`), and those of `open` are fields
+-- of the invariant.
 use Rattle.std.proofs.Common.{arith, sym, inl}
 use Rattle.xc_search.proofs.ResidualLemmas.{WalksTo, once_more, choice_none, nearer, walk_first, walk_on, walk_none}
 use Rattle.xc_search.proofs.ResidualLemmas.{walk_enough, walk_ends}

@@ -1,3 +1,8 @@
+-- `opened` says what `descend` made of the search: a level of `item` was opened (`Opens`). The loop passes over
+-- branches that are left out: the invariant's `step` (`Stepped`) says so of those before the one entered last, and
+-- `pays` what the first one costs. By outcome: no item is left (`solved`), too few branches (`ends_at_once`,
+-- `pays_nothing`), or a branch is entered (`enters_at`). Clauses with `pays` are about moves, the others about what is
+-- still to come.
 use Rattle.std.proofs.Common.{arith, ◌≡◌, refl, ap}
 use Rattle.xc_search.proofs.BranchLemmas.{opens_moved, early_leads}
 use Rattle.xc_search.proofs.MoveLemmas.{plain_above, plain_after_spend}

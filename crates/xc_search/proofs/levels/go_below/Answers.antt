@@ -1,3 +1,8 @@
+-- No loop: the answers go by what is below. Where it is counted at once, by the last choice (`skip_rest`) or by words
+-- (`count_rest`), all solutions there are passed over (`over_below`, `falls_over`). Where a branch is entered or there
+-- is none, the clauses are those of `deepen`, of which `as_many` says that nothing was counted before. At a solution
+-- one is passed over (`over_one`), or it is where the search stands. Clauses with `pays` say what moves this takes
+-- (`pays_over`, `pays_one`), and `moved` that there was one.
 use Rattle.std.proofs.Common.{arith, ◌≡◌, ◌∙◌, refl}
 use Rattle.std.proofs.lemmas.List.{length-reverse}
 use Rattle.xc_search.proofs.BranchLemmas.{levels_moved, solved_moved, early_next}

@@ -1,3 +1,7 @@
+-- The invariant: what the levels that are left have still to give is what all levels had (`GoesOn`), and the same of
+-- their paths, rows and moves. A level without a further branch ends, and has nothing to give (`back`, by `finished`);
+-- `visits` becomes smaller. A level with one enters it: `entered` says what the search has then, of which each clause
+-- of `resumed` takes a part.
 use Rattle.xc_search.proofs.LoopSteps.{finished, GoesOn-trans, goes_on_to, unwound, enters_next}
 use Rattle.std.proofs.Common.{◌<◌, ◌≤◌, ◌∷◌, ◌∙◌, drop, true, false, refl, ap, arith}
 use Rattle.xc_search.specs.inner.Levels.{Levels, AreStacked}

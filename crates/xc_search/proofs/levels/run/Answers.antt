@@ -1,3 +1,8 @@
+-- The invariant says, of each row `u` that the search may have to leave out, that it went on by `begun` branches
+-- (`stands`), and of what is left whether it may be counted at once (`rest`). A step keeps it by `stands_more`: what is
+-- left is before the row `until` (`rest_before`), may reach it (`rest_about`), or there is none (`rest_of_all`). Each
+-- way out has a lemma: a member (`runs_to_member`), no branch (`runs_to_end`), the row (`runs_to_row`), no step
+-- (`runs_to_steps`).
 use Rattle.std.proofs.Common.{ℕ, ◌≡◌, ◌+◌, ◌<◌, true, false, not, refl, sym, ap, ◌∙◌, arith, inl, inr, List, Option}
 use Rattle.std.specs.Prelude.{nat_eq, option_map}
 use Rattle.std.proofs.lemmas.Bool.Decides.{nat_tests}

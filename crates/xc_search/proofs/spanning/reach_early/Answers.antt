@@ -1,3 +1,7 @@
+-- The invariant: the levels' row is what of `from` was read so far, and no member was passed on the way (`Reaching`).
+-- `next` says what the next number asks for, and `ran` what one step of the search did by it. By the outcomes: no level
+-- is left (`reaches_none`); the row is no longer one of `from`, and so comes after it (`row_past`, `row_past_zero`); or
+-- it grew by the number (`row_more`, `row_grows`), and the loop goes on.
 use Rattle.std.proofs.lemmas.Grind.{common_steps}
 use Rattle.std.proofs.lemmas.List.{length-reverse}
 use Rattle.std.proofs.Common.{ℕ, ◌≡◌, ◌+◌, ◌<◌, ◌⊎◌, Some, None, true, false, length, take, get_or}

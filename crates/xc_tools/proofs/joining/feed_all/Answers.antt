@@ -1,3 +1,7 @@
+-- The invariant `reading`: the lines so far were taken, `Gave` says that they and the unread bytes are all that the
+-- source gave, and what they add was written (`Adds`). A line more keeps it (`fed-on`, `adds-then`), and the bytes that
+-- are left become fewer (`shorter`). The three ways out: a read that fails (`stops-unread`), a line that stops the run
+-- (`stops-reading`), and the end of the source, where the unread bytes are the rest (`all_then`).
 use Rattle.std.proofs.Common.{◌++◌, ◌∙◌, ap, sym, append_assoc, subst}
 use Rattle.std.proofs.lemmas.Result.{err_from_is_err_and}
 use Rattle.xc_text.specs.inner.LineFeeds.{ended}

@@ -1,3 +1,8 @@
+-- Two walks, one in the other. The outer invariant is `AreTakenUpTo`: the options of the open items up to `at` were
+-- taken, each at its first primary item. The inner one is `AreTakenWithin`: of item i too, those up to `place`. `here`
+-- says which option is at the place (`there`); a step takes it (`more_on`) or passes on (`passed_on`), and comes nearer
+-- to the list's end (`option_nearer`). At the end of a list the outer invariant holds for i (`options_on`), and behind
+-- the last open item all were taken (`options_end`).
 use Rattle.std.proofs.Common.{◌≢◌, arith, sym, subst, ◌∙◌, refl, inl}
 use Rattle.xc_input.specs.Problem.{IsValid, IsItem}
 use Rattle.xc_moves.specs.Moves.{IsOpenPrimary}

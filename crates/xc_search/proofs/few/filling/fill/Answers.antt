@@ -1,3 +1,8 @@
+-- One invariant for each loop, a fact for each array of words, of the places before x or i: `apart` and `alone` from
+-- the first loop, `holders` and `alone` from the second. A step writes one place of each, and `written` says that it
+-- holds there what was written and elsewhere what was there. What is written is right by `share_told` (options apart)
+-- and by `noted_more` (the items of an option). `returns` reads the facts at the ends of both loops, by the items and
+-- options themselves in place of their numbers (`get_or_from_slice_get`).
 use Rattle.std.proofs.Common.{◌≡◌, length-set, get_or, ◌∙◌, ap, refl, arith, ◌==◌, ◌&&◌, ◌||◌, is_some}
 use Rattle.std.proofs.lemmas.List.Elements.{All-get_or}
 use Rattle.std.specs.Int.{bit_at}

@@ -1,3 +1,7 @@
+-- The first two loops clear the word of each colour that an option gives an item; the last two set the bits. The
+-- invariants `loop-x` and `loop-u-2` say which options each such word has: those before x that give the item the
+-- colour, and x itself if one of its uses so far does. A use with a colour adds one (`given_on`), and one without
+-- changes nothing (`gives_none`). `room` says that the place of a colour is within the words, for the bounds.
 use Rattle.std.proofs.Common.{◌≢◌, ◌<◌, ◌==◌, ◌||◌, ◌&&◌, length, get_or, set, ◌∙◌, ap, sym, arith, nat_lt}
 use Rattle.std.specs.Int.{bit_at}
 use Rattle.std.proofs.lemmas.List.Elements.{All-get_or}

@@ -1,3 +1,7 @@
+-- `at` and `ran` say where the search stood and what `go_over` made of it (`RanTo`). By where it stopped, each answer
+-- is one lemma about such a run: at a member (`went_to_member`), at the span's end (`went_to_end`), or where its steps
+-- were used (`went_to_row`). The two subtractions don't wrap, since no more members were passed than asked for
+-- (`all_passed`, `fewer_passed`).
 use Rattle.std.proofs.Common.{◌≡◌, false, [], inl, ap, sym, ◌∙◌, arith}
 use Rattle.std.specs.Prelude.{option_map}
 use Rattle.xc_search.specs.inner.Spanning.{RanTo}

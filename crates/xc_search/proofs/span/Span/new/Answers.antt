@@ -1,3 +1,7 @@
+-- The search goes from no level to the first row (`reach`), so all that the clauses say is of where it stands then,
+-- `at`. `ended` and `within` give the two tests in words of the definitions, `all` says that at first all members were
+-- to come. With these `invariant_of-result` is `reach`'s contract field by field, and the clauses `left`, `row` and
+-- `node` are `first_left`, `first_row` and `first_node`.
 use Rattle.std.proofs.Common.{ℕ, List, Option, ◌≡◌, true, false, not, sym, ap, ◌∙◌, arith}
 use Rattle.std.specs.Prelude.{option_map, ◌||◌}
 use Rattle.std.proofs.lemmas.Bool.Decides.{nat_tests}

@@ -1,3 +1,6 @@
+-- The invariant: the row so far has the numbers and branches of the levels so far. `told` adds the last number where
+-- the search stands at a solution, for numbers and for branches alike. `numbers` and `branches` are then what the
+-- definitions say of a row (`numbers_told`, `branches_told`), and `told_row` puts them into the clauses.
 use Rattle.std.proofs.lemmas.Grind.{common_steps}
 use Rattle.std.proofs.Common.{ℕ, ◌≡◌, List, [], ◌∷◌, ◌++◌, map, take, cond, reverse}
 use Rattle.std.proofs.Common.{Vec, Global, ap₂, refl, sym, ap, ◌∙◌, arith}

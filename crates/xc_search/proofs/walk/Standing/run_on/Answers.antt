@@ -1,3 +1,6 @@
+-- `has` says how many members the run is to pass, `ran` what `run` did. By its two outcomes: it stands at a member
+-- (`member_behind`, then `went_over` and `pays_stands`), or all levels have ended (`comes_to_end`, then `went_past` and
+-- `pays_ends`). `moved` is that a solution takes a move at least (`solved_moved`).
 use Rattle.std.proofs.Common.{arith, true, false, None, subst, refl, ap, inl}
 use Rattle.xc_moves.specs.Dancing.{Dancing}
 use Rattle.xc_search.specs.inner.Ahead.{Pays}
