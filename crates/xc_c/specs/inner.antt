@@ -1,4 +1,5 @@
--- No public clause cites this module. What the steps of a call answer, and how much work a count is.
+-- What the steps of a call answer, and how much work a count is.
+-- No public contract rests on this file.
 use Rattle.std.specs.Prelude.{ℕ, nat_lt, Option, None, Some, if◌then◌else◌, ◌+◌, ◌*◌, ◌≤◌, length}
 use Rattle.xc_input.specs.declared.fault.InputError.{InputError}
 use Rattle.xc_input.specs.declared.fault.InputError.TheVariants.{Fault}

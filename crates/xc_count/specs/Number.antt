@@ -1,4 +1,5 @@
 -- How many covers a problem has.
+-- Public contracts rest on this file: readers must believe it.
 use Rattle.std.specs.Prelude.{ℕ, ◌≡◌, List, All, AllPairs, Contains, length}
 use Rattle.xc_input.specs.Problem.{Puzzle}
 use Rattle.xc_input.specs.Cover.{IsCover}

@@ -1,4 +1,5 @@
 -- In how many solutions each option is.
+-- Public contracts rest on this file: readers must believe it.
 use Rattle.std.specs.Prelude.{ℕ, Bool, ◌==◌, List, map, count_by}
 use Rattle.std.specs.List.{list_any}
 use Rattle.xc_input.specs.Problem.{Puzzle, numbered_options}

@@ -1,4 +1,5 @@
 -- What a sweep and a search that have turns came to.
+-- Public contracts rest on this file: readers must believe it.
 use Rattle.std.specs.Prelude.{ℕ, ◌≡◌, ◌<◌, length, option_map}
 use Rattle.xc_input.specs.Problem.{Puzzle, numbered_get}
 use Rattle.xc_search.specs.Cover.{members}

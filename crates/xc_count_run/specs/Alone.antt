@@ -1,4 +1,5 @@
 -- The line before a search that goes on alone.
+-- Public contracts rest on this file: readers must believe it.
 use Rattle.std.specs.Prelude.{◌≡◌, ◌⊎◌, ℕ, List, codes}
 use Rattle.xc_text.specs.Texts.{Seen, SinkState, Took, BrokeOff}
 use Rattle.xc_tools.specs.WholeRuns.{Sinks}

@@ -1,4 +1,5 @@
 -- What a whole run that counts covers does.
+-- Public contracts rest on this file: readers must believe it.
 use Rattle.std.specs.Prelude.{◌≡◌, ◌⊎◌, ℕ, List, MatchOption, codes, length, flat_map}
 use Rattle.std.specs.Str.Parse.{digits_value}
 use Rattle.xc_input.specs.Named.{Named}

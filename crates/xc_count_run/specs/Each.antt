@@ -1,4 +1,5 @@
 -- What is printed of how many solutions each option is in.
+-- Public contracts rest on this file: readers must believe it.
 use Rattle.std.specs.Prelude.{◌≡◌, ◌⊎◌, ℕ, List, ◌++◌, codes, length, flat_map}
 use Rattle.std.specs.List.{enumerate_from}
 use Rattle.natural.specs.Numerals.{numeral}

@@ -1,4 +1,5 @@
 -- The last line of a count.
+-- Public contracts rest on this file: readers must believe it.
 use Rattle.std.specs.Prelude.{◌≡◌, ◌⊎◌, ℕ, ◌==◌, List, ◌++◌, codes, if◌then◌else◌}
 use Rattle.natural.specs.Numerals.{numeral}
 use Rattle.xc_text.specs.Texts.{SinkState, Took, BrokeOff}

@@ -1,4 +1,5 @@
 -- What is printed of the solution of a number.
+-- Public contracts rest on this file: readers must believe it.
 use Rattle.std.specs.Prelude.{◌⊎◌, ℕ, ◌==◌, List, ◌++◌, MatchOption, codes, flat_map, if◌then◌else◌}
 use Rattle.natural.specs.Numerals.{numeral}
 use Rattle.xc_input.specs.Named.{Named}

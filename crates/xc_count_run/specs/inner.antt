@@ -1,5 +1,5 @@
--- No public clause cites this module. What a question means, how much memory words allow, and what is reported of a
--- count.
+-- What a question means, how much memory words allow, and what is reported of a count.
+-- No public contract rests on this file.
 use Rattle.std.specs.Prelude.{ℕ, ◌≡◌, ◌⊎◌, ◌==◌, List, [], ◌∷◌, Option, None, codes, length, unwrap_or, if◌then◌else◌}
 use Rattle.std.specs.Str.{byte}
 use Rattle.xc_text.specs.LongNumbers.{long_number}

@@ -1,4 +1,5 @@
 -- Choices whose names are known.
+-- Public contracts rest on this file: readers must believe it.
 use Rattle.std.specs.Prelude.{◌≡◌, true, IfSome, is_some}
 use Rattle.xc_search.specs.declared.choice.Choice.{Choice}
 use Rattle.xc_input.specs.Problem.{Puzzle, IsPrimary, IsOption, uses_of, colour_in}

@@ -1,4 +1,5 @@
 -- The messages beside a listing.
+-- Public contracts rest on this file: readers must believe it.
 use Rattle.std.specs.Prelude.{ℕ, List, ◌++◌, decimal, codes, ◌==◌, if◌then◌else◌}
 use Rattle.xc_list.specs.declared.ends.End.{End}
 use Rattle.xc_list.specs.declared.words.WordFault.{WordFault}

@@ -1,4 +1,5 @@
 -- What a run writes, and its end.
+-- Public contracts rest on this file: readers must believe it.
 use Rattle.std.specs.Prelude.{ℕ, ◌+◌, ◌-◌, ◌*◌, ◌≤◌, ◌≡◌, Bool, true, nat_lt, List, [], length, Some}
 use Rattle.std.specs.Prelude.{Result, MatchResult, if◌then◌else◌}
 use Rattle.xc_text.specs.Texts.{Seen, SinkState, Took, BrokeOff, Behind}

@@ -1,4 +1,5 @@
 -- Spans as they were searched.
+-- Public contracts rest on this file: readers must believe it.
 use Rattle.std.specs.Prelude.{ℕ, ◌^◌, ◌<◌, ◌≡◌, false, All, Bool, List, length, Option, IfSome}
 use Rattle.xc_input.specs.Named.{Named}
 use Rattle.xc_search.specs.declared.choice.Choice.{Choice}

@@ -1,4 +1,5 @@
 -- What the words of a command line mean.
+-- Public contracts rest on this file: readers must believe it.
 use Rattle.std.specs.Prelude.{ℕ, fold, ◌-◌, ◌^◌, List, [], ◌∷◌, ◌==◌, Some, None, Result, Ok, Err}
 use Rattle.std.specs.Prelude.{if◌then◌else◌}
 use Rattle.std.specs.List.{enumerate_from}

@@ -1,4 +1,5 @@
 -- How far a run over a span comes, and what it wrote.
+-- Public contracts rest on this file: readers must believe it.
 use Rattle.std.specs.Prelude.{ℕ, ◌^◌, ◌-◌, ◌<◌, ◌≤◌, ◌≡◌, ◌⊎◌, ◌==◌, false, List, Option, Some, None, IfSome, length}
 use Rattle.std.specs.Prelude.{◌+◌, ◌*◌, true, Result, Ok, Err, if◌then◌else◌, [], ◌∷◌}
 use Rattle.xc_input.specs.Problem.{Puzzle}

@@ -1,4 +1,5 @@
 -- What the words of a run over a span mean.
+-- Public contracts rest on this file: readers must believe it.
 use Rattle.std.specs.Prelude.{ℕ, ◌^◌, ◌==◌, Bool, true, false, not, List, [], ◌∷◌, Option, Some, None, codes}
 use Rattle.std.specs.Prelude.{nat_lt, option_map, option_and_then, if◌then◌else◌, ◌&&◌, is_some}
 use Rattle.std.specs.List.{slice_split}

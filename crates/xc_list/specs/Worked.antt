@@ -1,4 +1,5 @@
 -- Worked problems with their names.
+-- Public contracts rest on this file: readers must believe it.
 use Rattle.std.specs.Prelude.{[], ◌∷◌, codes}
 use Rattle.xc_text.specs.declared.seed.TheConstants.Seed.{FIXED}
 use Rattle.xc_input.specs.Named.{Named}

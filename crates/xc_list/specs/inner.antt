@@ -1,2 +1,3 @@
--- What only contracts of private functions cite: the layout of options, how far a search went.
+-- What contracts of private functions cite: the layout of options, how far a search went.
+-- No public contract rests on this file.
 pub mod Writing

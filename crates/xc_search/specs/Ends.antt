@@ -1,4 +1,5 @@
 -- The ends of a search's tree, each a solution or a dead end.
+-- Public contracts rest on this file: readers must believe it.
 use Rattle.std.specs.Prelude.{ℕ, zero, suc, ◌+◌, Bool, true, false, List, [], ◌∷◌, length, flat_map, Option, Some, None}
 use Rattle.xc_search.specs.Listing.{Wanted, Residual, branch_item, branches_of}
 

@@ -1,4 +1,5 @@
 -- What a call of `Span::go_on` comes to.
+-- Public contracts rest on this file: readers must believe it.
 use Rattle.std.specs.Prelude.{ℕ, ◌+◌, ◌<◌, ◌≤◌, ◌≡◌, ◌⊎◌, true, false, [], ◌++◌, length, None, IfSome, IsSome}
 use Rattle.std.specs.Prelude.{IsSomeAnd}
 use Rattle.xc_search.specs.declared.went.Halt.TheVariants.{Member, End, Steps}

@@ -1,4 +1,5 @@
 -- What a search of a span stands for.
+-- Public contracts rest on this file: readers must believe it.
 use Rattle.std.specs.Prelude.{ℕ, ◌+◌, ◌*◌, ◌-◌, ◌≤◌, List, [], ◌∷◌, length, Option, Some, None, unwrap_or, option_map}
 use Rattle.std.specs.Prelude.{slice_get}
 use Rattle.xc_search.specs.declared.choice.Choice.{Choice}

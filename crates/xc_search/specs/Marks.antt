@@ -1,4 +1,5 @@
 -- The marks of a solution, by which two of its choices are known to be the same.
+-- Public contracts rest on this file: readers must believe it.
 use Rattle.std.specs.Prelude.{IfSome}
 use Rattle.xc_input.specs.Problem.{Puzzle, IsItem}
 use Rattle.xc_moves.specs.Commits.{IsUseAt, option_at}

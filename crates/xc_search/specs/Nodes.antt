@@ -1,4 +1,5 @@
 -- The rows at which a search of a span may be.
+-- Public contracts rest on this file: readers must believe it.
 use Rattle.std.specs.Prelude.{ℕ, zero, suc, ◌+◌, ◌≤◌, ◌≡◌, true, List, [], ◌∷◌, length, sum_by, Option, Some, None}
 use Rattle.xc_input.specs.Problem.{Puzzle}
 use Rattle.xc_search.specs.Listing.{Wanted, Residual, whole, branch_item, branches_of}

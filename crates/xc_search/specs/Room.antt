@@ -1,4 +1,5 @@
 -- How many moves of a search are on the trail at most.
+-- Public contracts rest on this file: readers must believe it.
 use Rattle.std.specs.Prelude.{ℕ}
 use Rattle.xc_input.specs.Problem.{Puzzle}
 use Rattle.xc_moves.specs.Dancing.{search_room}

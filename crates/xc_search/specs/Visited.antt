@@ -1,4 +1,5 @@
 -- What is known of calls with one solution after another.
+-- Public contracts rest on this file: readers must believe it.
 use Rattle.std.specs.Prelude.{Bool, true, false, ◌≡◌, List, [], ◌∷◌, MatchBool}
 use Rattle.xc_search.specs.declared.choice.Choice.{Choice}
 

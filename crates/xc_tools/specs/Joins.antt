@@ -1,4 +1,5 @@
 -- What a whole run that joins spans does.
+-- Public contracts rest on this file: readers must believe it.
 use Rattle.std.specs.Prelude.{ℕ, ◌≡◌, ◌⊎◌, All, Bool, true, false, List, [], ◌∷◌, ◌++◌, Option, Some}
 use Rattle.std.specs.Prelude.{None}
 use Rattle.std.specs.Prelude.{MatchOption, drop, map, flat_map, codes, decimal, if◌then◌else◌, take, sum_by, nat_lt}

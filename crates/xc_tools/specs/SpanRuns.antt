@@ -1,4 +1,5 @@
 -- What a whole run over a span of a listing does.
+-- Public contracts rest on this file: readers must believe it.
 use Rattle.std.specs.Prelude.{ℕ, ◌^◌, ◌<◌, ◌≡◌, ◌⊎◌, List, [], ◌∷◌, Option, None, MatchOption, codes, option_map}
 use Rattle.std.specs.Prelude.{option_and_then}
 use Rattle.std.specs.Prelude.{All, Bool, false, flat_map, is_some, ◌&&◌, IsTrue}

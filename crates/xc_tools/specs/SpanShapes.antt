@@ -1,4 +1,5 @@
 -- The shape of the text of a span: what can be seen of it without its problem.
+-- Public contracts rest on this file: readers must believe it.
 use Rattle.std.specs.Prelude.{ℕ, ◌^◌, ◌<◌, ◌≡◌, All, Bool, true, false, List, [], ◌∷◌, ◌++◌, IsTrue, IfSome, Some}
 use Rattle.std.specs.Prelude.{length}
 use Rattle.std.specs.Prelude.{◌==◌, ◌&&◌, ◌||◌, nat_le, map, flat_map, decimal, codes, if◌then◌else◌}

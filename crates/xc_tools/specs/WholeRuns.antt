@@ -1,4 +1,5 @@
 -- What the whole runs of all programs have in common.
+-- Public contracts rest on this file: readers must believe it.
 use Rattle.std.specs.Prelude.{◌≡◌, ◌⊎◌, ℕ, ◌+◌, List, ◌++◌, IsTrue, codes, decimal}
 use Rattle.std.specs.Io.KnownBytes.{Appends}
 use Rattle.xc_text.specs.Calls.{Rose}

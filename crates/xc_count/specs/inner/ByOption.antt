@@ -1,4 +1,5 @@
 -- Covers counted option by option.
+-- No public contract rests on this file.
 use Rattle.std.specs.Prelude.{ℕ, ◌≡◌, ◌≢◌, ◌<◌, ◌≤◌, ◌-◌, ◌⊎◌, ◌+◌, ◌==◌, ◌&&◌, ◌||◌, Bool, List, []}
 use Rattle.std.specs.Prelude.{◌∷◌, ◌++◌, All, AllPairs, Contains}
 use Rattle.std.specs.Prelude.{nat_lt, nat_le, map, length, is_some, count_by, slice_index, if◌then◌else◌}

@@ -1,4 +1,5 @@
 -- What is left of a problem whose items are held by some of its options.
+-- No public contract rests on this file.
 use Rattle.std.specs.Prelude.{ℕ, ◌≡◌, ◌==◌, Bool, List, Option, Some, is_none, filter, length, if◌then◌else◌}
 use Rattle.std.specs.List.{list_all}
 use Rattle.std.specs.Option.{option_or}

@@ -1,4 +1,5 @@
 -- What keys say.
+-- No public contract rests on this file.
 use Rattle.std.specs.Prelude.{ℕ, suc, ◌-◌, List, Option, Some, None, slice_get, slice_index, nat_lt, if◌then◌else◌}
 use Rattle.xc_count.specs.inner.Held.{Held}
 

@@ -1,4 +1,5 @@
 -- What the states of a layer take, and how its slots find them.
+-- No public contract rests on this file.
 use Rattle.std.specs.Prelude.{ℕ, zero, suc, ◌≡◌, ◌+◌, ◌*◌, ◌^◌, ◌/◌, ◌%◌, ◌==◌, ◌&&◌, ◌||◌, Bool, true, false, not}
 use Rattle.std.specs.Prelude.{List, [], ◌∷◌, Option, Some, None, fold, length, map, sum_by, slice_get, if◌then◌else◌}
 use Rattle.std.specs.Hash.{le_bytes}

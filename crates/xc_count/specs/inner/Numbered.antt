@@ -1,4 +1,5 @@
 -- The solution of a number, among those of what a key leaves.
+-- No public contract rests on this file.
 use Rattle.std.specs.Prelude.{ℕ, ◌<◌, ◌+◌, ◌∷◌, List, Option, Some, None, option_map, length, nat_lt, if◌then◌else◌}
 use Rattle.xc_input.specs.Problem.{Puzzle, numbered_get}
 use Rattle.xc_search.specs.declared.choice.Choice.{Choice}

@@ -1,4 +1,5 @@
 -- What the states of a layer pass on to the next, and what each option has of the covers there.
+-- No public contract rests on this file.
 use Rattle.std.specs.Prelude.{ℕ, ◌≡◌, ◌+◌, ◌==◌, List, length, map, is_some, sum_by, slice_index, if◌then◌else◌}
 use Rattle.xc_input.specs.Problem.{Puzzle, uses_of}
 use Rattle.xc_search.specs.Listing.{Residual}

@@ -1,4 +1,5 @@
 -- What a sweep goes by.
+-- No public contract rests on this file.
 use Rattle.std.specs.Prelude.{ℕ, ◌≡◌, ◌≢◌, ◌<◌, ◌≤◌, ◌+◌, List, [], ◌∷◌, Some, true, All, AllPairs, Contains}
 use Rattle.std.specs.Prelude.{length, map, take, is_some, slice_index, if◌then◌else◌}
 use Rattle.xc_input.specs.Problem.{Puzzle, IsPrimary, IsItem, item_count, numbered_get, numbered_options, holding}

@@ -1,4 +1,5 @@
 -- A search that has turns beside a sweep.
+-- No public contract rests on this file.
 use Rattle.std.specs.Prelude.{ℕ, ◌≡◌, ◌<◌, ◌^◌, ◌-◌, ◌⊎◌}
 use Rattle.xc_input.specs.Problem.{Puzzle}
 

@@ -1,4 +1,5 @@
 -- What the states of a sweep are worth.
+-- No public contract rests on this file.
 use Rattle.std.specs.Prelude.{ℕ, ◌≡◌, ◌*◌, Bool, true, List, is_some, All, sum_by, take, if◌then◌else◌}
 use Rattle.std.specs.List.{list_all}
 use Rattle.xc_input.specs.Problem.{Puzzle, uses_of}

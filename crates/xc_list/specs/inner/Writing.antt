@@ -1,4 +1,5 @@
--- No public clause cites this module. What is written: options, pages, members and spans.
+-- What is written: options, pages, members and spans.
+-- No public contract rests on this file.
 use Rattle.std.specs.Prelude.{ℕ, ◌==◌, List, [], ◌++◌, decimal, codes, if◌then◌else◌, ◌≡◌, ◌≤◌, ◌∷◌, length, map}
 use Rattle.std.specs.Prelude.{flat_map, ◌+◌, take, drop, Result, MatchResult, ◌*◌, ◌^◌, Some, ◌-◌, ◌⊎◌, true, false}
 use Rattle.std.specs.Prelude.{Option, None, IfSome, IsSomeAnd, unwrap_or, Bool, IsSome, option_map}

@@ -1,4 +1,5 @@
--- No public clause cites this module. What a search has ahead: its work, its paths and its moves.
+-- What a search has ahead: its work, its paths and its moves.
+-- No public contract rests on this file.
 use Rattle.std.specs.Prelude.{ℕ, zero, suc, ◌+◌, ◌<◌, ◌≤◌, ◌≡◌, Bool, true, false, List, [], ◌∷◌, drop, length, None}
 use Rattle.std.specs.Prelude.{◌-◌, ◌⊎◌, Option, Some, slice_get, map, reverse, Contains, ◌*◌, ◌++◌, flat_map}
 use Rattle.xc_input.specs.Problem.{Puzzle}

@@ -1,4 +1,5 @@
--- No public clause cites this module. What is left of a problem, as lists of numbers and as words of bits.
+-- What is left of a problem, as lists of numbers and as words of bits.
+-- No public contract rests on this file.
 use Rattle.std.specs.Prelude.{ℕ, ◌≡◌, ◌<◌, ◌≤◌, ◌≢◌, ◌^◌, Bool, List, AllPairs, Some, filter, map, not}
 use Rattle.std.specs.Prelude.{◌==◌, slice_get, slice_index, length, is_some, flat_map}
 use Rattle.std.specs.Int.{bit_at}

@@ -1,4 +1,5 @@
--- No public clause cites this module. What is left of a problem whose items have bounds, as words of bits.
+-- What is left of a problem whose items have bounds, as words of bits.
+-- No public contract rests on this file.
 use Rattle.std.specs.Prelude.{ℕ, ◌≡◌, ◌≢◌, ◌<◌, ◌≤◌, ◌-◌, ◌==◌, ◌&&◌, ◌||◌, ◌⊎◌, Bool, List, Option, Some, not, nat_lt}
 use Rattle.std.specs.Prelude.{min, slice_get, slice_index, length, is_some, All, Contains, IfSome}
 use Rattle.std.specs.Int.{bit_at}

@@ -1,4 +1,5 @@
--- No public clause cites this module. The words of items and options on the way to `Few.AreUseWords`.
+-- The words of items and options on the way to `Few.AreUseWords`.
+-- No public contract rests on this file.
 use Rattle.std.specs.Prelude.{ℕ, ◌≡◌, ◌≤◌, ◌+◌, ◌*◌, ◌⊎◌, Bool, not, List, ◌==◌, ◌&&◌, ◌||◌, length, is_some}
 use Rattle.std.specs.Prelude.{slice_index}
 use Rattle.std.specs.Int.{bit_at}

@@ -1,4 +1,5 @@
--- No public clause cites this module. The levels of a search, their moves, and what these leave of a problem.
+-- The levels of a search, their moves, and what these leave of a problem.
+-- No public contract rests on this file.
 use Rattle.std.specs.Prelude.{ℕ, ◌+◌, length, ◌==◌, List, Option, Some, None, find, ◌-◌, ◌≤◌, ◌≡◌, Bool, true, false}
 use Rattle.std.specs.Prelude.{◌&&◌, [], ◌∷◌, ◌++◌, drop, if◌then◌else◌, replicate, suc, ◌⊎◌, ◌<◌, All, IfSome, nat_lt}
 use Rattle.std.specs.Prelude.{min, map, reverse, option_map, unwrap_or, slice_get, flat_map, sum_by, count_by, nat_le}

@@ -1,4 +1,5 @@
--- No public clause cites this module. A search, step by step, of all or of a span.
+-- A search, step by step, of all or of a span.
+-- No public contract rests on this file.
 use Rattle.std.specs.Prelude.{ℕ, ◌+◌, ◌*◌, ◌<◌, ◌≡◌, ◌≢◌, Bool, true, false, List, [], ◌∷◌, ◌++◌, length, Option, ◌-◌}
 use Rattle.std.specs.Prelude.{◌≤◌, ◌⊎◌, ◌^◌, filter, not}
 use Rattle.std.specs.List.{AllByRecursion}

@@ -1,4 +1,5 @@
--- No public clause cites this module. How far a run that joins spans came.
+-- How far a run that joins spans came.
+-- No public contract rests on this file.
 use Rattle.std.specs.Prelude.{ℕ, ◌≡◌, ◌⊎◌, Bool, true, false, List, [], ◌++◌, None, Result, Ok, Err}
 use Rattle.xc_text.specs.Calls.{Rose}
 use Rattle.xc_text.specs.Words.{has}

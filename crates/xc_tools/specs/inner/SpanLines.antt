@@ -1,5 +1,5 @@
--- No public clause cites this module. What is made of the lines of the texts of spans, word by word and one by
--- one.
+-- What is made of the lines of the texts of spans, word by word and one by one.
+-- No public contract rests on this file.
 use Rattle.std.specs.Prelude.{ℕ, ◌+◌, ◌==◌, ◌&&◌, ◌||◌, not, nat_lt, Bool, true, false, ◌≡◌, List, [], ◌∷◌, ◌++◌}
 use Rattle.std.specs.Prelude.{length, take, drop, nat_le, slice_get, Option, Some, None, if◌then◌else◌, ◌-◌, ◌*◌, min}
 use Rattle.std.specs.Prelude.{map, fold, decimal, codes, option_map, Result, Ok, Err}
