@@ -27,7 +27,7 @@ use Rattle.xc_input.specs.declared.kind.Kind.{Kind}
 use Rattle.xc_input.specs.declared.fault.FaultKind.{FaultKind}
 use Rattle.xc_text.specs.declared.seed.Seed.{Seed}
 use Rattle.xc_input.specs.declared.fault.FaultKind.TheVariants.{NoItems}
-use Rattle.xc_text.specs.Words.{has, place, are_digits, number, before, after, is_space}
+use Rattle.xc_text.specs.Words.{has, place, are_digits, number, after, is_space}
 use Rattle.xc_input.specs.Tokens.{parts, is_skipped, is_bar, tokens, split_bars}
 use Rattle.xc_input.specs.Faults.{first, Context, has_primary, context_of}
 use Rattle.xc_input.specs.FirstFault.{line_number, content, line_checks, line_fault, first_fault}

@@ -10,7 +10,7 @@ use Rattle.std.proofs.Math.Seq.{take-append-add}
 use Rattle.std.proofs.lemmas.Bool.{or_parts, or_from}
 use Rattle.std.proofs.lemmas.List.Folds.{list_any-append}
 use Rattle.std.specs.Io.KnownBytes.{Consumes, IsAtEnd, Keeps}
-use Rattle.xc_text.specs.Words.{has, before, after}
+use Rattle.xc_text.specs.Words.{has, after}
 use Rattle.xc_text.specs.inner.LineFeeds.{AreWhole, ended, ended_carry}
 use Rattle.xc_text.specs.Lines.{lines_of}
 use Rattle.xc_text.specs.LinesRead.{IsLine, Came, LastOf}
