@@ -68,47 +68,57 @@ some_and : (P : List ℕ → Type 0) (o : Option (List ℕ)) → IsSome o → If
 some_and P None some h = absurd (cc some)
 some_and P (Some x) some h = h
 
--- each part of what is told, by where it halts
-pub went_on : (many most : ℕ) (w : Went) (s n : InSpan) (from : List ℕ) → s.row ≡ Some from
-    → n ≡ record s { row = n.row; shown = n.shown; made = n.made; begun = n.begun }
-    → Comes s.puzzle from s.until n.row w.members → (w.steps ≤ most) × (w.members ≤ many)
-    → (more : ℕ) × (n.begun ≡ s.begun + w.steps + more) × (more ≤ 1)
-    × (w.steps < most → more ≡ 0)
-    → MovesFew s n → HaltsThere w.halt many most w s n
-    → (0 < many → 0 < most → IfSome n.row (λ row. precedes from row ≡ true)) → (most ≡ 0 → n.row ≡ s.row)
+-- What a call came to from row `from` on: another row, by so many members, in so many steps, with so many branches and
+-- moves; and what is so where it halted.
+record CameTo (many most : ℕ) (w : Went) (s n : InSpan) (from : List ℕ) : Type 0 where
+  pub row : s.row ≡ Some from
+  pub still : n ≡ record s { row = n.row; shown = n.shown; made = n.made; begun = n.begun }
+  pub came : Comes s.puzzle from s.until n.row w.members
+  pub within : (w.steps ≤ most) × (w.members ≤ many)
+  pub more : ℕ
+  pub begun : n.begun ≡ s.begun + w.steps + more
+  pub one_more : more ≤ 1
+  pub no_more : w.steps < most → more ≡ 0
+  pub moves : MovesFew s n
+  pub halts : HaltsThere w.halt many most w s n
+  pub later : 0 < many → 0 < most → IfSome n.row (λ row. precedes from row ≡ true)
+  pub stays : most ≡ 0 → n.row ≡ s.row
+
+-- each part of what is said of a call, by where it halted
+went_on : (many most : ℕ) (w : Went) (s n : InSpan) (from : List ℕ) → CameTo many most w s n from
     → WentOnBy many most w s n
-went_on many most w s n from at still came few begun moves halts later stays =
+went_on many most w s n from to =
     let there : (h : Halt) → w.halt ≡ h → HaltsThere h many most w s n =
-    λ h e. subst (λ v. HaltsThere v many most w s n) e halts in
+    λ h e. subst (λ v. HaltsThere v many most w s n) e to.halts in
     let told : WentOnBy many most w s (record s { row = n.row; shown = n.shown; made = n.made; begun = n.begun }) =
     record {
       still = refl;
       passes = record {
-        passed = rw at came.all;
-        count = rw at came.count;
-        within = few;
-        begun = begun;
-        moves = moves;
+        passed = rw to.row to.came.all;
+        count = rw to.row to.came.count;
+        within = to.within;
+        begun = (to.more, to.begun, to.one_more, to.no_more);
+        moves = to.moves;
       };
       halts = record {
         member = λ h. let t = there Member h in (t.0, t.1);
         end = λ h. let t = there End h in (t.2, t.1);
         fewer = λ some h. (there End h).0 some;
         ran_out = λ h. let t = there Steps h in (t.2, t.1, t.3, t.0);
-        ended = λ h. absurd (cc (h, at));
+        ended = λ h. absurd (cc (h, to.row));
       };
       comes = record {
-        node = came.node;
-        later = λ a b. rw at (later a b);
-        stays = stays;
+        node = to.came.node;
+        later = λ a b. rw to.row (to.later a b);
+        stays = to.stays;
         stands = λ h. elim h [
-          | inl i ↦ some_and _ n.row (there Member i).2 came.within
-          | inr i ↦ some_and _ n.row (there Steps i).2 came.within
+          | inl i ↦ some_and _ n.row (there Member i).2 to.came.within
+          | inr i ↦ some_and _ n.row (there Steps i).2 to.came.within
         ];
-        before = λ some h. rw still at (there Steps h).4 some;
+        before = λ some h. rw to.still at (there Steps h).4 some;
       };
     } in
-    subst (WentOnBy many most w s) (sym still) told
+    subst (WentOnBy many most w s) (sym to.still) told
 
 -- a search that came to its end stays there
 pub at_its_end : (many most : ℕ) (s : InSpan) → s.row ≡ None
@@ -176,14 +186,25 @@ module _ (d : Dancing) (ls : Levels) {down : Bool} {until : Option (List ℕ)}
         (in_state d ls down until now)
     stayed many most halt now halts idle =
         went_on many most (record { halt = halt; members = 0; steps = 0 }) (in_state d ls down until shown)
-        (in_state d ls down until now) (row_from d.puzzle ls.levels down) refl refl (record {
-          all = rw (nothing_between d.puzzle (row_from d.puzzle ls.levels down)) refl;
-          count = ap length (nothing_between d.puzzle (row_from d.puzzle ls.levels down));
-          node = is_row d.puzzle d.trail ls.levels down a.led a.solved;
-          within = end_not_from until d.puzzle ls.levels down before;
-        }) (omega arith, omega arith) (0, omega arith, omega arith, λ _. refl)
-        (few_moves d.puzzle 0 ls.begun ls.begun (moves_made d) (moves_made d) (omega arith) (omega arith)) halts
-        (λ x y. absurd (idle x y)) (λ _. refl)
+        (in_state d ls down until now) (row_from d.puzzle ls.levels down) (record {
+          row = refl;
+          still = refl;
+          came = record {
+            all = rw (nothing_between d.puzzle (row_from d.puzzle ls.levels down)) refl;
+            count = ap length (nothing_between d.puzzle (row_from d.puzzle ls.levels down));
+            node = is_row d.puzzle d.trail ls.levels down a.led a.solved;
+            within = end_not_from until d.puzzle ls.levels down before;
+          };
+          within = (omega arith, omega arith);
+          more = 0;
+          begun = omega arith;
+          one_more = omega arith;
+          no_more = λ _. refl;
+          moves = few_moves d.puzzle 0 ls.begun ls.begun (moves_made d) (moves_made d) (omega arith) (omega arith);
+          halts = halts;
+          later = λ x y. absurd (idle x y);
+          stays = λ _. refl;
+        })
 
     -- or ran
     module _ {e : Dancing} {ks : Levels} {many most n left : ℕ} {stop : Stop}
@@ -204,14 +225,21 @@ module _ (d : Dancing) (ls : Levels) {down : Bool} {until : Option (List ℕ)}
             (ap (λ (d : Dancing). d.puzzle) still) (ap (λ (d : Dancing). d.room) still) in
             went_on many most (record { halt = halt; members = by; steps = most - left })
             (in_state d ls down until shown) (record (in_state e ks true until now) { row = row })
-            (row_from d.puzzle ls.levels down) refl moved came (omega (arith, ran.bounded), few) (
-              ran.more,
-              omega (arith, ran.bounded, ran.counted),
-              ran.few,
-              λ h. ran.none (omega (arith, ran.bounded, h)),
-            ) (few_moves d.puzzle (ran.begun + ran.more) ls.begun ks.begun (moves_made d) (moves_made e)
-            (omega (arith, ran.made)) (omega (arith, ran.counted)))
-            halts (λ _ _. later) (λ h. absurd (omega (arith, h, steps)))
+            (row_from d.puzzle ls.levels down) (record {
+              row = refl;
+              still = moved;
+              came = came;
+              within = (omega (arith, ran.bounded), few);
+              more = ran.more;
+              begun = omega (arith, ran.bounded, ran.counted);
+              one_more = ran.few;
+              no_more = λ h. ran.none (omega (arith, ran.bounded, h));
+              moves = few_moves d.puzzle (ran.begun + ran.more) ls.begun ks.begun (moves_made d) (moves_made e)
+                  (omega (arith, ran.made)) (omega (arith, ran.counted));
+              halts = halts;
+              later = λ _ _. later;
+              stays = λ h. absurd (omega (arith, h, steps));
+            })
 
         module _ (i : (stop ≡ stops.Member) ⊎ (stop ≡ stops.Steps)) where
           stands : Halts until d ls (over_first many down) e ks n ran.begun
