@@ -501,12 +501,6 @@ pub deepens : {d e : Dancing} {ls : Levels} {i n : ℕ} {l : Level} → Opens d 
     × (oldest l.mark e.trail ≡ d.trail) × (l.base ≡ length e.trail)
 deepens {d} {e} {ls} {i} {n} {l} o = grind (arith, descended, stands_behind, ext_whole, ext_after_spend)
 
--- a level's first branch may be entered
-pub may_enter : {d e : Dancing} {ls : Levels} {i n : ℕ} {l : Level} → Opens d e ls i n l → 0 < n
-    → MayBegin e.puzzle e.trail l
-may_enter o some = grind (arith, deepens o)
-
--- the newest of the levels ended
 -- what goes on and then enters a branch enters it
 pub goes_on_to : (d e f : Dancing) (ls ks js : Levels) (x y : Bool) (i q : ℕ) → GoesOn d ls x e ks y →
     ahead e.puzzle e.trail ks.levels y ≤ ahead d.puzzle d.trail ls.levels x → ks.begun ≡ ls.begun
@@ -514,15 +508,20 @@ pub goes_on_to : (d e f : Dancing) (ls ks js : Levels) (x y : Bool) (i q : ℕ) 
     → EntersBranch d ls x f js i q
 goes_on_to d e f ls ks js x y i q on less begun made enters = grind (arith)
 
+-- Branch b, the next one of level l, was entered: the search came from d to f, the levels from vs to ks. A path that
+-- led to the level goes on with the branch.
+abbrev pub EntersNext : Dancing → Dancing → Level → Begun → Levels → Levels → Type 0
+EntersNext d f l b vs ks = EntersBranch d vs false f ks l.item b.place
+    × ((x : Bool) (u : List Move) → MayLead x d.puzzle (oldest l.mark d.trail) l.item
+    → AreLedBy x d.puzzle u (oldest l.mark d.trail) (drop 1 vs.levels)
+    → AreLedBy x f.puzzle u (branched f l.item b.place).trail ks.levels)
+
 -- the next branch of the newest level is entered, and goes on with the path below the level
 pub enters_next : (d f : Dancing) (l : Level) (b : Begun) (vs ks : Levels) → AreStacked d.puzzle d.trail vs.levels
     → vs.levels ≡ l ∷ drop 1 vs.levels → f ≡ record d { trail = f.trail; undone = f.undone }
     → f.undone ≤ moves_made d → IsEntered d.puzzle (oldest l.base d.trail) l f.trail (begun_level b l)
     → ks ≡ record vs { levels = newest_begun b vs.levels; begun = vs.begun + 1 }
-    → EntersBranch d vs false f ks l.item b.place
-    × ((x : Bool) (u : List Move) → MayLead x d.puzzle (oldest l.mark d.trail) l.item
-    → AreLedBy x d.puzzle u (oldest l.mark d.trail) (drop 1 vs.levels)
-    → AreLedBy x f.puzzle u (branched f l.item b.place).trail ks.levels)
+    → EntersNext d f l b vs ks
 enters_next d f l b vs ks stacked top ef undid entered ek =
     let p = d.puzzle in
     let k = begun_level b l in
@@ -535,10 +534,7 @@ enters_next d f l b vs ks stacked top ef undid entered ek =
     let under = oldest-oldest l.mark l.base d.trail here.0.within.0 here.0.within.1 in
     let levels : ks ≡ record vs { levels = k ∷ js; begun = vs.begun + 1 } =
     ek ∙ ap (λ ls. record vs { levels = newest_begun b ls; begun = vs.begun + 1 }) top in
-    rw levels (subst (λ (f : Dancing).
-    EntersBranch d vs false f (record vs { levels = k ∷ js; begun = vs.begun + 1 }) l.item b.place
-    × ((x : Bool) (u : List Move) → MayLead x p (oldest l.mark d.trail) l.item
-    → AreLedBy x p u (oldest l.mark d.trail) js → AreLedBy x f.puzzle u (branched f l.item b.place).trail (k ∷ js)))
+    rw levels (subst (λ (f : Dancing). EntersNext d f l b vs (record vs { levels = k ∷ js; begun = vs.begun + 1 }))
     (sym ef) (
       grind (arith, entered, all, back, shallower p s v l k js back.0 entered.begun, top),
       λ x u first a. led_begun x p u s v l k js entered.begun (rw under first) (rw under a),
