@@ -17,11 +17,12 @@ pub fn is_white(b: u8) -> bool
     b == b' ' || b == b'\t' || b == 11 || b == 12 || b == b'\r'
 }
 
-/// Whether a byte is in a list.
+/// Whether a byte is in a list. By `contains`, which tests eight bytes at once, while `find_byte` goes byte by byte
+/// where they are fewer than 32, as in most lines.
 pub fn has_byte(bytes: &[u8], byte: u8) -> bool
     ensures { result ≡ has byte bytes.now }
 {
-    bytes.find_byte(byte).is_some()
+    bytes.contains(&byte)
 }
 
 /// What is before and after the first such byte: all and nothing where there is none.
