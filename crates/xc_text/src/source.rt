@@ -18,8 +18,9 @@ use std::alloc::{AllocError, Global};
 use std::fmt;
 use thiserror::Error;
 
-/// How many bytes are read from a source at once.
-const PIECE: usize = 65536;
+/// How many bytes are read from a source at once. The buffer is filled with zeros first: that of 64 KB took 1 % of the
+/// instructions of a short run.
+const PIECE: usize = 16384;
 
 /// A read that failed.
 #[derive(Clone, Copy, Debug, PartialEq, Eq, Error)]

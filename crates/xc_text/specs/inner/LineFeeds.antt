@@ -21,7 +21,7 @@ AreWhole (line ∷ lines) = (has (code "\n") line ≡ false) × AreWhole lines
 
 -- how many bytes a source is asked for at once
 abbrev pub read_size : ℕ
-read_size = 65536
+read_size = 16384
 
 -- whether a line ended in what was read; what was read is carried on where none did
 abbrev pub Cut : LinesRead → LinesRead → Bool → Type 0
