@@ -11,6 +11,10 @@ use crate::stage::{ColourGuesses, Guesses, Tables};
 use std::alloc::{AllocError, Global};
 use xc_text::Seed;
 
+/// Room for so many uses is taken at once, 128 KB: from that size on the C library lets the system move what grows, by
+/// pages, so that no use is copied. What isn't touched of it takes no memory.
+const FIRST_USES: usize = 16384;
+
 impl Tables {
     /// Those of no items.
     pub fn none(alloc: Global, seed: Seed) -> Tables
@@ -48,6 +52,7 @@ impl Tables {
         let colour_guesses = ColourGuesses::new(alloc)?;
         let marks = no_marks(alloc, names.len())?;
         let colours = no_names(alloc, *names.hasher());
+        let uses = Vec::with_capacity(alloc, FIRST_USES)?;
         Ok(Tables {
             names,
             guesses,
@@ -55,7 +60,7 @@ impl Tables {
             marks,
             colours,
             colour_guesses,
-            uses: Vec::new(alloc),
+            uses,
         })
     }
 }
