@@ -20,6 +20,12 @@ use crate::names::NameSet;
 use crate::stage::{ColourGuesses, Guesses};
 use std::alloc::{AllocError, Global};
 
+/// By how many bits the bytes of a name are turned for its own number.
+pub const OWN: u32 = 0;
+
+/// The same for its other number, at which the table has it where another name has its own.
+pub const OTHER: u32 = 32;
+
 impl Guesses {
     /// For no names.
     pub fn none(alloc: Global) -> Guesses
@@ -141,14 +147,15 @@ fn words_of(alloc: Global, names: &NameSet) -> Result<Vec<u64>, AllocError>
     Ok(words)
 }
 
-/// A table of places, where a place is at the number of its name.
+/// A table of places, where a place is at the own number of its name, or at the other one where that was taken.
 fn places_of(alloc: Global, names: &NameSet, words: &[u64]) -> Result<Vec<u32>, AllocError>
     ensures within { IfOk result (λ v. All (λ at. at < length names.now.keys) v.items) }
     ensures few { IfOk result (λ v. length v.items ≤ 2 ^ 18) }
 {
     let few = names.len().min(MOST_ITEMS);
     let mut places = vec![in alloc; 0; (few * 16).min(1 << 18)]?;
-    for i in 0..few {
+    // From the last name to the first, since 0 stands for a free number too.
+    for i in (0..few).rev() {
         let bytes = match words.get(i) {
             Some(word) if *word != 0 => *word,
             _ => match names.get_index(i) {
@@ -156,8 +163,13 @@ fn places_of(alloc: Global, names: &NameSet, words: &[u64]) -> Result<Vec<u32>, 
                 None => 0,
             },
         };
-        let number = number(bytes, places.len());
-        if let Some(place) = places.get_mut(number) {
+        let own = number(bytes, places.len());
+        if places.get(own) == Some(&0) {
+            places[own] = i as u32;
+            continue;
+        }
+        let other = number(bytes.rotate_left(OTHER), places.len());
+        if let Some(place) = places.get_mut(other) {
             *place = i as u32;
         }
     }

@@ -14,7 +14,7 @@ ghost use Rattle.xc_input.specs.inner.CutTokens.{drop_white, word, StandsBefore,
 ghost use Rattle.xc_input.specs.inner.Builders.{AreNames};
 ghost use Rattle.xc_input.specs.inner.Stored.{AreWords, key_names};
 
-use crate::guess::{long_word, short_word};
+use crate::guess::{OTHER, OWN, long_word, short_word};
 use crate::names::{NameSet, place_of};
 use crate::stage::Guesses;
 use crate::written::Token;
@@ -123,15 +123,15 @@ pub fn looked_up<'a>(names: &NameSet, token: &'a [u8]) -> Token<'a>
     }
 }
 
-/// The token that a text begins with, where its name is a short one that the guesses know, and what is left
-/// after it. Two numbers are compared, and no bytes.
+/// The token that a text begins with, where its name is a short one that the guesses know by its bytes turned so many
+/// bits, and what is left after it. Two numbers are compared, and no bytes.
 #[inline(always)]
-fn known_token<'a>(guesses: &Guesses, text: &'a [u8]) -> Option<(Token<'a>, &'a [u8])>
+fn known_token<'a>(guesses: &Guesses, text: &'a [u8], turn: u32) -> Option<(Token<'a>, &'a [u8])>
     ensures { (names : List (List ℕ)) → AreNames names → AreWords names guesses.now.words.items
         → IfSome result (λ p. StandsFirst names text.now p.0 p.1.now) }
 {
     let (word, n) = short_word(text)?;
-    let at = guesses.known(guesses.number(word), word)?;
+    let at = guesses.known(guesses.number(word.rotate_left(turn)), word)?;
     cut_behind(&text[..n], at, &text[n..])
 }
 
@@ -153,7 +153,7 @@ pub fn next_token<'a>(
         [b' ', more @ ..] => more,
         _ => line,
     };
-    if let Some(cut) = known_token(guesses, rest) {
+    if let Some(cut) = known_token(guesses, rest, OWN) {
         return Some(cut);
     }
     other_token(names, guesses, line)
@@ -175,8 +175,10 @@ fn other_token<'a>(
     if rest.is_empty() {
         return None;
     }
-    if let Some(cut) = known_token(guesses, rest) {
-        return Some(cut);
+    for turn in [OWN, OTHER] {
+        if let Some(cut) = known_token(guesses, rest, turn) {
+            return Some(cut);
+        }
     }
     let (bytes, n) = long_word(rest);
     let at = guesses.guess(guesses.number(bytes));
