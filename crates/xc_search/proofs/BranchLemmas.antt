@@ -4,7 +4,7 @@ use Rattle.std.proofs.Common.{refl, sym, ap, ◌∙◌, arith, eqb-true, zero, O
 use Rattle.std.proofs.Common.{le-ltb, ◌⊎◌, reverse, subst, Bool, eqb, filter, ne_eqb, leb-true, ◌++◌, take, get_or}
 use Rattle.std.proofs.Common.{length-append, length-drop}
 use Rattle.std.proofs.lemmas.Option.{slice_get_within}
-use Rattle.std.specs.Prelude.{slice_get, IfSome, is_some, unwrap_or, option_map, Contains, All, nat_le, ◌^◌, replicate}
+use Rattle.std.specs.Prelude.{slice_get, IfSome, is_some, unwrap_or, option_map, Contains, All, nat_le, replicate}
 use Rattle.std.specs.List.{AllByRecursion, range_with_len}
 use Rattle.std.proofs.lemmas.List.Elements.{All-from_recursion, recursion_from_All, All-take, All-drop}
 use Rattle.std.proofs.lemmas.List.{reverse-append}
@@ -452,10 +452,10 @@ module _ {X A : Type 0} (f : X → A) (done : List A) (rest : List X) (some : 1 
       → done ++ map f rest ≡ all → new ++ map f (behind_first rest) ≡ all
   one_put new all r d is one whole = grind (arith, common_steps, cut_first, rest, some)
 
-  pub room_left : (before : List A) (levels : List X) (cap : ℕ) → done ++ map f rest ≡ before ++ map f levels
-      → length before + length levels ≤ cap → length done < cap
-  room_left before levels cap is room =
-      let all : length done + length rest ≡ length before + length levels = grind (arith, common_steps, ap length is) in
+  pub room_left : (levels : List X) (cap : ℕ) → done ++ map f rest ≡ map f levels → length levels ≤ cap
+      → length done < cap
+  room_left levels cap is room =
+      let all : length done + length rest ≡ length levels = grind (arith, common_steps, ap length is) in
       omega (arith, all, some, room)
 
 -- ======== A search that began, and came to a solution or to its end, has made a move.

@@ -36,7 +36,7 @@ mod went;
 pub use begin::NoSearch;
 pub use branch_item::{branches, choose};
 pub use choice::Choice;
-pub use marks::{Mark, Marks};
+pub use marks::{AtMember, Mark, Marks};
 pub use search::{Search, Step};
 pub use span::{RowNumber, Span};
 pub use walk::{Solution, Walk};

@@ -1,7 +1,11 @@
 //! Marks, by which the choices of a solution are compared.
-ghost use Rattle.std.specs.Prelude.{◌≡◌, [], ◌∷◌, IfSome, IsNone, map};
+ghost use Rattle.std.specs.Prelude.{◌≡◌, [], ◌∷◌, IfSome, IsNone, map, List, All};
+ghost use Rattle.xc_input.specs.Problem.{Puzzle};
+ghost use Rattle.xc_search.specs.declared.choice.Choice.{Choice};
+ghost use Rattle.xc_search.specs.Marks.{marked, IsMark};
 ghost use Rattle.xc_search.specs.inner.Levels.{mark_of};
 
+use crate::choice::Choice;
 use crate::level::Level;
 use std::marker::Model;
 
@@ -73,4 +77,21 @@ impl<'w> Marks<'w> {
             }
         }
     }
+}
+
+/// A search that is at a member of the listing, or at none, and shows its choices by their marks.
+pub trait AtMember {
+    ghost puzzle: { Self → Puzzle };
+
+    ghost shown: { Self → List Choice };
+
+    /// The marks of the choices of the member that it is at, from the first level down; none where it is at none.
+    fn marks(&self) -> Marks<'_>
+        ensures marks { map (marked (puzzle self.now)) result ≡ shown self.now }
+        ensures right { All (IsMark (puzzle self.now)) result };
+
+    /// The choice of a mark.
+    fn choice_of(&self, mark: Mark) -> Choice
+        requires { IsMark (puzzle self.now) mark }
+        ensures { result ≡ marked (puzzle self.now) mark };
 }

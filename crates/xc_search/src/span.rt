@@ -1,11 +1,15 @@
 //! A search of a span: of the members from one row of numbers on and before another.
+//!
+//! It keeps no choices, as a walk doesn't: `choices` and `marks` read them from the levels of the member that it is at.
+//! To copy those of each member took an eighth of the instructions of a run that prints a span.
 ghost use Rattle.std.specs.Prelude.{◌≡◌, ◌≢◌, ◌+◌, ◌*◌, ◌-◌, ◌^◌, ◌<◌, ◌≤◌, [], ◌∷◌, ◌++◌, length, map};
 ghost use Rattle.std.specs.Prelude.{true, false, if◌then◌else◌, Some, None, IfSome, IsSome, IfOk, IfErr};
-ghost use Rattle.std.specs.Prelude.{option_map, option_and_then, slice_get};
+ghost use Rattle.std.specs.Prelude.{option_map, option_and_then, slice_get, All};
 ghost use Rattle.xc_search.specs.Room.{room_for};
 ghost use Rattle.xc_search.specs.Listing.{whole};
 ghost use Rattle.xc_search.specs.Spans.{precedes, is_before, between};
 ghost use Rattle.xc_search.specs.InSpan.{left_of, reached, branches_along};
+ghost use Rattle.xc_search.specs.inner.Levels.{chosen, IsShown};
 ghost use Rattle.xc_search.specs.Nodes.{IsRowOf};
 ghost use Rattle.xc_search.specs.Going.{WentOnBy};
 ghost use Rattle.xc_moves.specs.Dancing.{moves_made};
@@ -14,12 +18,14 @@ use crate::choice::Choice;
 use crate::counts::most_levels;
 use crate::level::Level;
 use crate::levels::unwind;
+use crate::marks::{AtMember, Mark, Marks};
 use crate::position::Position;
 use crate::ran::Stop;
 use crate::rows::is_before;
 use crate::spanning::{State, go_over, reach};
 use crate::stack::Stack;
 use crate::unmoved::place_for_few;
+use crate::walk::Solution;
 use crate::went::{Halt, Went};
 use std::alloc::{AllocError, Global};
 use std::marker::Model;
@@ -62,17 +68,18 @@ pub struct Span<'a, D: Dance> {
     unsearched: bool,
     /// No member of the span is left.
     ended: bool,
+    /// It shows the member that its levels are of.
+    shows: bool,
     until: Option<&'a [u32]>,
-    choices: Vec<Choice>,
 }
 
 impl<'a, D: Dance> Model for Span<'a, D> {
-    ghost use Rattle.std.specs.Prelude.{◌≡◌, [], true, false, Some, None, option_map, vec_capacity, if◌then◌else◌};
+    ghost use Rattle.std.specs.Prelude.{◌≡◌, [], true, false, Some, None, option_map, if◌then◌else◌};
     ghost use Rattle.xc_search.specs.InSpan.{InSpan};
     ghost use Rattle.xc_moves.specs.Dancing.{moves_made};
     ghost use Rattle.xc_search.specs.Spans.{is_before};
     ghost use Rattle.xc_search.specs.inner.Ahead.{IsSolved, AreLed};
-    ghost use Rattle.xc_search.specs.inner.Levels.{most_levels, AreStacked, IsStanding};
+    ghost use Rattle.xc_search.specs.inner.Levels.{most_levels, AreStacked, IsStanding, choices_of};
     ghost use Rattle.xc_search.specs.inner.Spanning.{row_at, row_from};
 
     ghost Value = { InSpan };
@@ -81,7 +88,7 @@ impl<'a, D: Dance> Model for Span<'a, D> {
       puzzle = s.state.position.puzzle;
       row = if s.ended then None else Some (row_from s.state.position.puzzle s.state.stack.levels s.unsearched);
       until = option_map (λ u. u.now) s.until;
-      shown = s.choices.items;
+      shown = if s.shows then choices_of s.state.position.puzzle s.state.stack.levels else [];
       room = s.state.position.room;
       made = moves_made s.state.position;
       begun = s.state.stack.begun;
@@ -96,7 +103,6 @@ impl<'a, D: Dance> Model for Span<'a, D> {
       before : s.ended ≡ false →
           is_before (option_map (λ u. u.now) s.until) (row_at s.state.position.puzzle s.state.stack.levels) ≡ true;
       levels_fit : s.state.stack.room ≡ most_levels s.state.position.puzzle;
-      choices_fit : vec_capacity s.choices ≡ most_levels s.state.position.puzzle;
     } };
 }
 
@@ -135,11 +141,7 @@ impl<'a, D: Dance> Span<'a, D> {
         ensures node { IfOk result (λ s. IfSome s.row (λ row. IsRowOf (whole problem.now.puzzle) row)) }
         ensures back { IfErr result (λ e. e.0 ≡ dance) }
     {
-        let most = most_levels(problem);
-        let Ok(choices) = Vec::with_capacity(alloc, most) else {
-            return Err((dance, Memory));
-        };
-        let Ok(stack) = Stack::new(alloc, most) else {
+        let Ok(stack) = Stack::new(alloc, most_levels(problem)) else {
             return Err((dance, Memory));
         };
         let Ok(few) = place_for_few(alloc, &dance, problem) else {
@@ -157,16 +159,30 @@ impl<'a, D: Dance> Span<'a, D> {
             state,
             unsearched: true,
             ended: !reached || !within,
+            shows: false,
             until,
-            choices,
         })
     }
 
-    /// After `Member` the choices of that member, from the first level down; else none.
-    pub fn choices(&self) -> &[Choice]
-        ensures { result.now ≡ self.now.shown }
+    /// The levels of the member that it shows, the oldest first; none where it shows none.
+    #[inline(always)]
+    fn levels_shown(&self) -> &[Level]
+        ensures choices { map (chosen self.now.puzzle) result.now ≡ self.now.shown }
+        ensures shown { All (IsShown self.now.puzzle) result.now }
     {
-        &self.choices
+        if self.shows {
+            self.state.stack.levels()
+        } else {
+            &[]
+        }
+    }
+
+    /// After `Member` the choices of that member, from the first level down; else none.
+    #[inline(always)]
+    pub fn choices(&self) -> Solution<'_, 'a, D>
+        ensures { result ≡ self.now.shown }
+    {
+        Solution::new(self.levels_shown(), &self.state.position)
     }
 
     /// Goes on by so many members and at most so many steps, each a branch that is begun. It may run out of steps
@@ -195,7 +211,7 @@ impl<'a, D: Dance> Span<'a, D> {
     {
         match halt {
             Halt::Member => {}
-            Halt::End | Halt::Steps => self.choices.clear(),
+            Halt::End | Halt::Steps => self.shows = false,
         }
         Went::at(halt, 0, 0)
     }
@@ -214,18 +230,17 @@ impl<'a, D: Dance> Span<'a, D> {
         match ran.stop {
             Stop::Member => {
                 self.unsearched = false;
-                let state = &self.state;
-                state.stack.show(&[], &state.position, &mut self.choices);
+                self.shows = true;
                 Went::at(Halt::Member, many, taken)
             }
             Stop::Row | Stop::Nothing => {
                 self.ended = true;
-                self.choices.clear();
+                self.shows = false;
                 Went::at(Halt::End, many - 1 - ran.more, taken)
             }
             Stop::Steps => {
                 self.unsearched = true;
-                self.choices.clear();
+                self.shows = false;
                 Went::at(Halt::Steps, many - 1 - ran.more, taken)
             }
         }
@@ -285,8 +300,8 @@ impl<'a, D: Dance> Span<'a, D> {
             state,
             unsearched: _,
             ended: _,
+            shows: _,
             until: _,
-            choices: _,
         } = self;
         let State {
             mut position,
@@ -295,5 +310,21 @@ impl<'a, D: Dance> Span<'a, D> {
         } = state;
         unwind(&mut position, &mut stack);
         position.into_dance()
+    }
+}
+
+impl<'a, D: Dance> AtMember for Span<'a, D> {
+    ghost puzzle = { λ s. s.puzzle };
+
+    ghost shown = { λ s. s.shown };
+
+    #[inline(always)]
+    fn marks(&self) -> Marks<'_> {
+        Marks::new(self.levels_shown())
+    }
+
+    #[inline(always)]
+    fn choice_of(&self, mark: Mark) -> Choice {
+        self.state.position.choice_at(mark)
     }
 }

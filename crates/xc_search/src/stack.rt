@@ -105,35 +105,32 @@ impl Stack {
         &self.levels
     }
 
-    /// Puts choices, and after them the levels', in the place of those in `shown`. It is called where a
-    /// search stops: choices that are kept in step with the levels take stores which a count never reads.
-    pub fn show<D: Dance>(&self, before: &[Choice], position: &Position<D>, shown: &mut Vec<Choice>)
+    /// Puts the levels' choices in the place of those in `shown`. It is called where a search stops: choices that are
+    /// kept in step with the levels take stores which a count never reads.
+    pub fn show<D: Dance>(&self, position: &Position<D>, shown: &mut Vec<Choice>)
         requires shown { All (IsShown position.now.puzzle) self.now.levels }
-        requires room { length before.now + self.now.room ≤ vec_capacity shown.old }
-        ensures items { shown.new.items ≡ before.now ++ choices_of position.now.puzzle self.now.levels }
+        requires room { self.now.room ≤ vec_capacity shown.old }
+        ensures items { shown.new.items ≡ choices_of position.now.puzzle self.now.levels }
         ensures capacity { vec_capacity shown.new ≡ vec_capacity shown.old }
     {
-        replace_with(shown, (before, self.levels(), position), put_choices);
+        replace_with(shown, (self.levels(), position), put_choices);
     }
 }
 
-/// Choices, and after them the levels', in the place of those that were there.
+/// The choices of levels, in the place of those that were there.
 // They come and go by value, so that their length is stored once, and the levels are taken off the front of a slice, so
 // that none is sought by its number.
-fn put_choices<'s, 'a, D: Dance>(
+pub fn put_choices<'s, 'a, D: Dance>(
     mut choices: Vec<Choice>,
-    shown: (&'s [Choice], &'s [Level], &'s Position<'a, D>),
+    shown: (&'s [Level], &'s Position<'a, D>),
 ) -> (Vec<Choice>, ())
-    requires room { length shown.0.now + length shown.1.now ≤ vec_capacity choices }
-    requires shown { All (IsShown shown.2.now.puzzle) shown.1.now }
-    ensures items { result.0.items ≡ shown.entry.0.now ++ map (chosen shown.entry.2.now.puzzle) shown.entry.1.now }
+    requires room { length shown.0.now ≤ vec_capacity choices }
+    requires shown { All (IsShown shown.1.now.puzzle) shown.0.now }
+    ensures items { result.0.items ≡ map (chosen shown.entry.1.now.puzzle) shown.entry.0.now }
     ensures capacity { vec_capacity result.0 ≡ vec_capacity choices }
 {
-    let (before, levels, position) = shown;
+    let (levels, position) = shown;
     choices.clear();
-    for choice in before {
-        choices.push_reserved(*choice);
-    }
     let mut rest = levels;
     while let [level, older @ ..] = rest {
         choices.push_reserved(position.newest_choice(level));

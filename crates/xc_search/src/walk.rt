@@ -25,13 +25,13 @@ use crate::counts::most_levels;
 use crate::few::Few;
 use crate::level::Level;
 use crate::levels::{Task, run, unwind};
-use crate::marks::{Mark, Marks};
+use crate::marks::{AtMember, Mark, Marks};
 use crate::position::Position;
 use crate::ran::Stop;
-use crate::stack::Stack;
+use crate::stack::{Stack, put_choices};
 use crate::unmoved::place_for_few;
 use core::mem::replace_with;
-use std::alloc::Global;
+use std::alloc::{AllocError, Global};
 use std::marker::Model;
 use xc_input::Problem;
 use xc_moves::Dance;
@@ -130,10 +130,7 @@ impl<'a, D: Dance> Walk<'a, D> {
     pub fn solution(&self) -> Solution<'_, 'a, D>
         ensures { result ≡ self.now.shown }
     {
-        Solution {
-            levels: self.standing.stack.levels(),
-            position: &self.standing.position,
-        }
+        Solution::new(self.standing.stack.levels(), &self.standing.position)
     }
 
     /// The marks of the choices of `solution`.
@@ -162,7 +159,7 @@ impl<'a, D: Dance> Walk<'a, D> {
         ensures capacity { vec_capacity shown.new ≡ vec_capacity shown.old }
     {
         let standing = &self.standing;
-        standing.stack.show(&[], &standing.position, shown);
+        standing.stack.show(&standing.position, shown);
     }
 
     /// Goes on by so many solutions, or over all where fewer are left, and returns by how many. It is then at the
@@ -216,6 +213,22 @@ impl<'a, D: Dance> Walk<'a, D> {
     }
 }
 
+impl<'a, D: Dance> AtMember for Walk<'a, D> {
+    ghost puzzle = { λ s. s.puzzle };
+
+    ghost shown = { λ s. s.shown };
+
+    #[inline(always)]
+    fn marks(&self) -> Marks<'_> {
+        self.marks()
+    }
+
+    #[inline(always)]
+    fn choice_of(&self, mark: Mark) -> Choice {
+        self.choice_of(mark)
+    }
+}
+
 /// The choices of a solution that are still to be read.
 #[derive(Drop)]
 pub struct Solution<'w, 'a, D: Dance> {
@@ -236,6 +249,26 @@ impl<'w, 'a, D: Dance> Model for Solution<'w, 'a, D> {
 }
 
 impl<'w, 'a, D: Dance> Solution<'w, 'a, D> {
+    ghost use Rattle.xc_search.specs.inner.Levels.{IsShown, chosen};
+
+    /// The choices of these levels.
+    #[inline(always)]
+    pub(crate) fn new(levels: &'w [Level], position: &'w Position<'a, D>) -> Solution<'w, 'a, D>
+        requires shown { All (IsShown position.now.puzzle) levels.now }
+        ensures { result ≡ map (chosen position.now.puzzle) levels.now }
+    {
+        Solution { levels, position }
+    }
+
+    /// The choices on their own.
+    pub fn to_vec(self, alloc: Global) -> Result<Vec<Choice>, AllocError>
+        ensures { IfOk result (λ choices. choices.items ≡ self.entry) }
+    {
+        let choices = Vec::with_capacity(alloc, self.levels.len())?;
+        let (choices, ()) = put_choices(choices, (self.levels, self.position));
+        Ok(choices)
+    }
+
     /// The next choice; None after the last. So none is stored, which with what a search of its own choices stores
     /// took 0.88 of what it takes to print a short solution.
     #[inline(always)]

@@ -5,25 +5,22 @@ use Rattle.xc_search.specs.inner.Levels.{chosen, IsShown}
 use Rattle.xc_search.proofs.BranchLemmas.{one_put, room_left, all_behind}
 use Rattle.xc_search.proofs.stack.put_choices.Goals as goal
 
-pub push_reserved-requires-in-len1-up : goal.push_reserved-requires-in-len1-up
-push_reserved-requires-in-len1-up g c =
+pub push_reserved-requires : goal.push_reserved-requires
+push_reserved-requires g c =
     let room =
-    room_left (chosen c.args.shown.2.now.puzzle) c.loop-rest.choices.items c.loop-rest.rest.now
-    c.in-len1-up.len_at_least c.args.shown.0.now c.args.shown.1.now _ c.loop-rest.invariant.items c.requires.room in
+    room_left (chosen c.args.shown.1.now.puzzle) c.loop-rest.choices.items c.loop-rest.rest.now
+    c.in-len1-up.len_at_least c.args.shown.0.now _ c.loop-rest.invariant.items c.requires.room in
     omega (arith, room, c.loop-rest.invariant.capacity, items-length c.loop-rest.choices)
 
 pub loop-rest-preserved : goal.loop-rest-preserved
 loop-rest-preserved g c =
-    let put = c.push_reserved-in-len1-up.ensures in
+    let put = c.push_reserved.ensures in
     record {
-      items = one_put (chosen c.args.shown.2.now.puzzle) c.loop-rest.choices.items c.loop-rest.rest.now
+      items = one_put (chosen c.args.shown.1.now.puzzle) c.loop-rest.choices.items c.loop-rest.rest.now
           c.in-len1-up.len_at_least _ _ _ _ put.items c.newest_choice.ensures c.loop-rest.invariant.items;
       capacity = put.capacity ∙ c.loop-rest.invariant.capacity;
-      shown = all_behind (IsShown c.args.shown.2.now.puzzle) c.loop-rest.rest.now c.loop-rest.invariant.shown;
+      shown = all_behind (IsShown c.args.shown.1.now.puzzle) c.loop-rest.rest.now c.loop-rest.invariant.shown;
     }
-
-pub loop-choice-preserved : goal.loop-choice-preserved
-loop-choice-preserved g c = grind (arith, common_steps)
 
 pub loop-rest-init : goal.loop-rest-init
 loop-rest-init g c = grind (arith, common_steps)

@@ -1,19 +1,13 @@
-use Rattle.std.proofs.Common.{◌≡◌, ◌++◌, map, take, length}
+use Rattle.std.proofs.Common.{◌≡◌, ◌++◌, map, length}
 use Rattle.std.specs.Prelude.{All, vec_capacity}
 use Rattle.xc_search.specs.inner.Levels.{chosen, IsShown}
 use Rattle.xc_search.proofs.stack.put_choices.Given as goal
-
-abbrev pub invariant-loop-choice : goal.invariant-loop-choice
-invariant-loop-choice g l = record {
-  items : l.choices.items ≡ take l.choice-index l.before;
-  capacity : vec_capacity l.choices ≡ vec_capacity l.fn.choices;
-}
 
 -- with the choices of the levels that are left they are all
 abbrev pub invariant-loop-rest : goal.invariant-loop-rest
 invariant-loop-rest g l = record {
   items : l.choices.items ++ map (chosen l.position.puzzle) l.rest
-      ≡ l.fn.shown.0.now ++ map (chosen l.position.puzzle) l.fn.shown.1.now;
+      ≡ map (chosen l.position.puzzle) l.fn.shown.0.now;
   capacity : vec_capacity l.choices ≡ vec_capacity l.fn.choices;
   shown : All (IsShown l.position.puzzle) l.rest;
 }

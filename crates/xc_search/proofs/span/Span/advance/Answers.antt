@@ -2,10 +2,9 @@
 -- is one lemma about such a run: at a member (`went_to_member`), at the span's end (`went_to_end`), or where its steps
 -- were used (`went_to_row`). The two subtractions don't wrap, since no more members were passed than asked for
 -- (`all_passed`, `fewer_passed`).
-use Rattle.std.proofs.Common.{◌≡◌, false, [], inl, ap, sym, ◌∙◌, arith}
+use Rattle.std.proofs.Common.{◌≡◌, false, [], refl, ap, sym, ◌∙◌, arith}
 use Rattle.std.specs.Prelude.{option_map}
 use Rattle.xc_search.specs.inner.Spanning.{RanTo}
-use Rattle.xc_search.proofs.BranchLemmas.{all_shown}
 use Rattle.xc_search.proofs.SpanRuns.{IsAt, over_first}
 use Rattle.xc_search.proofs.SpanHalts.{went_to_member, went_to_row, went_to_end, fewer_passed, all_passed}
 use Rattle.xc_search.proofs.span.Span.advance.Goals as goal
@@ -32,12 +31,6 @@ module _ (g : _) (c : After-go_over-ran g) where
       c.go_over-ran.result.steps
   ran = rw over at c.go_over-ran.ensures
 
-pub show-requires-clause-shown : goal.show-requires-clause-shown
-show-requires-clause-shown g c =
-    all_shown c.go_over-ran.new.state.position.puzzle c.go_over-ran.new.state.position.trail
-    c.go_over-ran.new.state.stack.levels
-    (c.go_over-ran.ensures.halts (inl c.in-Member.is)).standing.stacked
-
 pub overflow_sub-many-in-Row : goal.overflow_sub-many-in-Row
 overflow_sub-many-in-Row g c =
     let r = (goal.at.overflow_sub-many-in-Row g c).After-go_over-ran in
@@ -61,18 +54,18 @@ returns-in-Member g c =
     let r = (goal.at.returns-in-Member g c).After-go_over-ran in
     rw (c.at.ensures, ← c.self.view_is, goes g r) (went_to_member _ _ (at g r)
     (c.self.invariant.before (goes g r)) _ (ran g r) c.requires.members c.requires.steps c.in-Member.is _
-    c.show.ensures.items)
+    refl)
 
 pub returns-in-Row : goal.returns-in-Row
 returns-in-Row g c =
     let r = (goal.at.returns-in-Row g c).After-go_over-ran in
     rw (c.at-in-Row.ensures, ← c.self.view_is, goes g r) (went_to_end _ _ (at g r)
     (c.self.invariant.before (goes g r)) _ (ran g r) c.requires.members c.requires.steps c.in-Row.is _
-    c.clear.ensures.items)
+    refl)
 
 pub returns-in-Steps : goal.returns-in-Steps
 returns-in-Steps g c =
     let r = (goal.at.returns-in-Steps g c).After-go_over-ran in
     rw (c.at-in-Steps.ensures, ← c.self.view_is, goes g r) (went_to_row _ _ (at g r)
     (c.self.invariant.before (goes g r)) _ (ran g r) c.requires.members c.requires.steps c.in-Steps.is _
-    c.clear-in-Steps.ensures.items)
+    refl)

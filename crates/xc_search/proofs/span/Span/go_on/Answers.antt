@@ -15,7 +15,7 @@ returns-then-many-eq0 g c =
     let none = c.if-many-eq0.true in
     rw (c.stay-then-many-eq0.ensures.went, c.stay-then-many-eq0.ensures.member refl, ← c.self.view_is, goes) (stayed
     s.state.position s.state.stack (record { led = c.self.invariant.led goes; solved = c.self.invariant.solved goes })
-    (c.self.invariant.before goes) s.choices.items c.args.many c.args.steps Member s.choices.items
+    (c.self.invariant.before goes) _ c.args.many c.args.steps Member _
     (omega (arith, none), rw none refl, refl) (λ h _. omega (arith, h, none)))
 
 pub returns-then-steps-eq0 : goal.returns-then-steps-eq0
@@ -26,6 +26,6 @@ returns-then-steps-eq0 g c =
     rw (c.stay-then-steps-eq0.ensures.went, c.stay-then-steps-eq0.ensures.other (λ i. cc i), ← c.self.view_is, goes)
     (stayed
     s.state.position s.state.stack (record { led = c.self.invariant.led goes; solved = c.self.invariant.solved goes })
-    (c.self.invariant.before goes) s.choices.items c.args.many c.args.steps Steps []
+    (c.self.invariant.before goes) _ c.args.many c.args.steps Steps []
     (omega (arith, c.if-many-eq0.false), refl, refl, omega (arith, none), λ h. absurd (omega (arith, h, none)))
     (λ _ h. omega (arith, h, none)))

@@ -21,15 +21,15 @@ pub reach-reached-requires : goal.reach-reached-requires
 reach-reached-requires g c =
     let puzzle = ap (λ (s : Dancing). s.puzzle) c.new-position.ensures ∙ c.requires.same in
     let trail = ap (λ (s : Dancing). s.trail) c.new-position.ensures ∙ c.requires.none in
-    let levels = ap (λ (s : Levels). s.levels) c.in-Ok-new.ensures in
+    let levels = ap (λ (s : Levels). s.levels) c.in-Ok.ensures in
     record {
       start = record {
-        standing = starts_standing _ c.most_levels-most.ensures.valid _ _ _ puzzle trail levels;
+        standing = starts_standing _ c.most_levels.ensures.valid _ _ _ puzzle trail levels;
         levels_fit = omega (
           arith,
-          c.most_levels-most.ensures.value,
+          c.most_levels.ensures.value,
           ap most_levels puzzle,
-          ap (λ (s : Levels). s.room) c.in-Ok-new.ensures,
+          ap (λ (s : Levels). s.room) c.in-Ok.ensures,
         );
         none = levels;
         unmoved = trail;
@@ -61,11 +61,11 @@ module _ (g : _) (c : Joined-not-reached g) where
       ∙ ap (is_before until)
       (row_levels at.puzzle c.levels.result.now c.reach-reached.new.state.stack.levels c.levels.ensures.levels)
 
-  all : coming c.new-position.result.puzzle c.new-position.result.trail c.in-Ok-new.stack.levels true
+  all : coming c.new-position.result.puzzle c.new-position.result.trail c.in-Ok.stack.levels true
       ≡ members at.puzzle
   all =
       starts_coming _ _ _ (ap (λ (s : Dancing). s.trail) c.new-position.ensures ∙ c.requires.none)
-      (ap (λ (s : Levels). s.levels) c.in-Ok-new.ensures)
+      (ap (λ (s : Levels). s.levels) c.in-Ok.ensures)
       ∙ ap members (sym moved)
 
 pub invariant_of-result : goal.invariant_of-result
@@ -74,7 +74,7 @@ invariant_of-result g c =
     let open_at : c.if-not-reached.result ≡ false
     → (c.reach-reached.result ≡ true) × (c.is_before-within.result ≡ true) =
     λ h. grind (arith, nat_tests, ended g c, h) in
-    let room = ap (λ (s : Levels). s.room) reach.still.1 ∙ ap (λ (s : Levels). s.room) c.in-Ok-new.ensures in
+    let room = ap (λ (s : Levels). s.room) reach.still.1 ∙ ap (λ (s : Levels). s.room) c.in-Ok.ensures in
     let most = ap most_levels (puzzle g c) in
     record {
       stacked = reach.stacked;
@@ -82,8 +82,7 @@ invariant_of-result g c =
       standing = λ h. reach.standing (open_at h).0;
       solved = λ h i. absurd (cc i);
       before = λ h. sym (within g c) ∙ (open_at h).1;
-      levels_fit = omega (arith, c.most_levels-most.ensures.value, room, most);
-      choices_fit = omega (arith, c.most_levels-most.ensures.value, c.in-Ok.ensures.exact, most);
+      levels_fit = omega (arith, c.most_levels.ensures.value, room, most);
     }
 
 pub returns-clause-left : goal.returns-clause-left
