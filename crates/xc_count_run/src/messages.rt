@@ -1,5 +1,5 @@
 //! What is reported of a count.
-ghost use Rattle.std.specs.Prelude.{◌≡◌, ◌==◌, ◌++◌, ℕ, IfOk, codes, if◌then◌else◌};
+ghost use Rattle.std.specs.Prelude.{◌≡◌, ◌++◌, IfOk};
 ghost use Rattle.natural.specs.Numerals.{numeral};
 ghost use Rattle.xc_text.specs.Texts.{Writes};
 ghost use Rattle.xc_count_run.specs.Alone.{gave_up_text};
@@ -8,18 +8,8 @@ ghost use Rattle.xc_count_run.specs.Solutions.{fewer_text};
 
 use natural::Natural;
 use std::alloc::{AllocError, Global};
+use xc_list::solutions_word;
 use xc_text::{Sink, SinkFault, write_all};
-
-/// What follows the number of solutions.
-fn tail<'a>(is_one: bool) -> &'a [u8]
-    ensures { result.now ≡ (if is_one then codes " solution.\n" else codes " solutions.\n") }
-{
-    if is_one {
-        b" solution.\n"
-    } else {
-        b" solutions.\n"
-    }
-}
 
 /// The last line of a count.
 pub fn count_line(alloc: Global, count: &Natural) -> Result<Vec<u8>, AllocError>
@@ -28,7 +18,8 @@ pub fn count_line(alloc: Global, count: &Natural) -> Result<Vec<u8>, AllocError>
     let is_one = *count == Natural::from_u64(alloc, 1);
     let mut line = Vec::from_slice(alloc, b"Altogether ")?;
     count.write_decimal(&mut line)?;
-    line.extend_from_slice(tail(is_one))?;
+    line.extend_from_slice(solutions_word(is_one))?;
+    line.extend_from_slice(b".\n")?;
     Ok(line)
 }
 

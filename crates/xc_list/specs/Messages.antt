@@ -6,14 +6,14 @@ use Rattle.xc_list.specs.declared.words.WordFault.{WordFault}
 use Rattle.xc_list.specs.declared.words.WordFault.TheVariants.{Unknown, BadNumber, ZeroLimit}
 use Rattle.xc_list.specs.declared.ends.End.TheVariants.{Done, Limit, WriteFailed}
 
--- how many solutions there are, and a tail
-abbrev pub total_text : ℕ → List ℕ → List ℕ
-total_text n t = codes "Altogether " ++ decimal n ++ (if n == 1 then codes " solution" else codes " solutions") ++ t
+-- how many solutions there are, by the digits of their number, and a tail
+abbrev pub total_text : ℕ → List ℕ → List ℕ → List ℕ
+total_text n ds t = codes "Altogether " ++ ds ++ (if n == 1 then codes " solution" else codes " solutions") ++ t
 
 -- the last line of a run: how many solutions there are, or the one whose write failed
 abbrev pub summary_text : End → List ℕ
-summary_text (Done n) = total_text n (codes ".\n")
-summary_text (Limit n) = total_text n (codes " (limit).\n")
+summary_text (Done n) = total_text n (decimal n) (codes ".\n")
+summary_text (Limit n) = total_text n (decimal n) (codes " (limit).\n")
 summary_text (WriteFailed n) = codes "Write failed at solution " ++ decimal n ++ codes ".\n"
 
 -- the line for an ignored option, which was on line n

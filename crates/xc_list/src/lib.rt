@@ -34,7 +34,7 @@ pub use asked::SpanWords;
 pub use checked::check;
 pub use digest::problem_digest;
 pub use ends::{End, SpanFault};
-pub use messages::{summary, warnings, word_fault};
+pub use messages::{solutions_word, summary, warnings, word_fault};
 pub use print::{write_choices, write_solution};
 pub use runs::{run, run_over, run_over_links};
 pub use spans::{list_span, list_span_over};

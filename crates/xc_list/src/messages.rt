@@ -9,16 +9,17 @@ use crate::words::WordFault;
 use xc_input::Read;
 use xc_text::{Sink, SinkFault, write_line};
 
-fn plural<'a>(n: u64) -> &'a [u8]
-    ensures { result.now ≡ (if n == 1 then codes " solution" else codes " solutions") }
+/// The word that follows the number of solutions.
+pub fn solutions_word<'a>(is_one: bool) -> &'a [u8]
+    ensures { result.now ≡ (if is_one then codes " solution" else codes " solutions") }
 {
-    if n == 1 { b" solution" } else { b" solutions" }
+    if is_one { b" solution" } else { b" solutions" }
 }
 
 fn write_total<'a, S: Sink>(n: u64, tail: &'a [u8], sink: &mut S) -> Result<(), SinkFault>
-    ensures { Writes (S.state sink.old) (S.state sink.new) result (total_text n tail.now) }
+    ensures { Writes (S.state sink.old) (S.state sink.new) result (total_text n (decimal n) tail.now) }
 {
-    write_line(sink, b"Altogether ", n, &[plural(n), tail])
+    write_line(sink, b"Altogether ", n, &[solutions_word(n == 1), tail])
 }
 
 fn write_failed<S: Sink>(n: u64, sink: &mut S) -> Result<(), SinkFault>
