@@ -43,6 +43,8 @@
 //! ```
 #![tactic(auto)]
 
+pub mod counting;
+
 pub use xc_dance::{Count, Dance, Full, Links, Listed, Lists, Memory, Move, list_of};
 pub use xc_input::{
     Bounds, FaultKind, FaultyToken, Feed, InputError, Item, Kind, Options, Problem, Read,

@@ -5,6 +5,8 @@
 // Counts of covers, and numbers of any size.
 #[cfg(test)]
 mod counting;
+#[cfg(test)]
+mod examples;
 
 // Whole runs, the judge, the system's streams.
 #[cfg(test)]
