@@ -14,9 +14,10 @@ fn main(rt: HostRuntime) -> ExitCode {
 /// Joins the texts of the named files or of standard input, and returns the status. Right words are followed by
 /// a look at the standard streams: a file would take the number of a closed one.
 fn run(rt: &HostRuntime) -> Result<u8, AllocError> {
+    let words = words(rt)?;
+    // Taken before the words are judged: without memory for it the status is 4, whatever they are.
     let mut out = Outgoing::new(rt.alloc(), rt.stdout(), rt.stdout().is_terminal())?;
     let mut err = Direct::new(rt.stderr());
-    let words = words(rt)?;
     if asked_join(&words).is_some()
         && let Some(status) = closed_stream(&rt.stdin(), &rt.stdout(), &rt.stderr(), &mut err)
     {

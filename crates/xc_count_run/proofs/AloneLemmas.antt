@@ -4,7 +4,7 @@ use Rattle.xc_input.specs.Named.{Named}
 use Rattle.xc_tools.specs.WholeRuns.{Sinks}
 use Rattle.xc_count_run.specs.Alone.{DidPerhapsAlone}
 use Rattle.xc_count_run.specs.Counts.{DidAnswer, DidCount}
-use Rattle.xc_count_run.specs.Words.{Wish}
+use Rattle.xc_tools.specs.CountArguments.{Wish}
 use Rattle.xc_count_run.specs.inner.{ReportsAlone, ReportsCount}
 
 -- the number

@@ -12,7 +12,7 @@ use Rattle.xc_count_run.specs.Alone.{DidBehind, DidPerhapsAlone}
 use Rattle.xc_count_run.specs.Each.{DidTellEach}
 use Rattle.xc_count_run.specs.LastLine.{Concludes, count_text}
 use Rattle.xc_count_run.specs.Solutions.{DidFind}
-use Rattle.xc_count_run.specs.Words.{Wish, how_many, solution, of_each_option, asked_count}
+use Rattle.xc_tools.specs.CountArguments.{Wish, how_many, solution, of_each_option, asked_count}
 
 -- What counting the covers of a problem did, by the status: the number was printed, as far as that went; or, with 4,
 -- there was no memory. The output wasn't touched.

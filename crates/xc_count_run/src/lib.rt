@@ -9,7 +9,6 @@
 //! ```
 #![tactic(auto)]
 
-mod asked;
 mod messages;
 mod occurring;
 mod running;

@@ -6,9 +6,9 @@ ghost use Rattle.xc_tools.specs.WholeRuns.{sinks};
 ghost use Rattle.xc_count_run.specs.Alone.{DidPerhapsAlone};
 ghost use Rattle.xc_count_run.specs.Counts.{DidAnswer, DidCountWords, DidWarnAndAnswer};
 ghost use Rattle.xc_count_run.specs.LastLine.{Concludes};
-ghost use Rattle.xc_count_run.specs.inner.{ReportsAlone, ReportsCount, meaning};
+ghost use Rattle.xc_count_run.specs.inner.{ReportsAlone, ReportsCount};
+ghost use Rattle.xc_tools.specs.CountArguments.{meaning};
 
-use crate::asked::{Asked, Question, asked_count};
 use crate::messages::{count_line, write_gave_up};
 use crate::occurring::tell_each;
 use crate::solution::find_solution;
@@ -20,7 +20,7 @@ use xc_input::{Problem, Read, read_problem_by};
 use xc_list::warnings;
 use xc_streams::status::{BAD_WORDS, COMPLETE, FAILED, out_of_memory, refuse};
 use xc_text::{Seed, Sink, Source, write_all};
-use xc_tools::no_problem;
+use xc_tools::{AskedCount, Question, asked_count, no_problem};
 
 /// Writes the last line.
 pub fn write_last<E: Sink>(line: &[u8], err: &mut E) -> u8
@@ -83,7 +83,7 @@ fn count_problem<E: Sink>(alloc: Global, problem: &Problem, bound: usize, err: &
 fn answer<O: Sink, E: Sink>(
     alloc: Global,
     problem: &Problem,
-    asked: &Asked,
+    asked: &AskedCount,
     out: &mut O,
     err: &mut E,
 ) -> u8
@@ -106,7 +106,7 @@ fn answer_read<O: Sink, E: Sink>(
     alloc: Global,
     _seed: Seed,
     read: &Read,
-    asked: &Asked,
+    asked: &AskedCount,
     out: &mut O,
     err: &mut E,
 ) -> u8

@@ -4,7 +4,6 @@ use Rattle.std.specs.Prelude.{ℕ, ◌≡◌, ◌⊎◌, All, Bool, true, false,
 use Rattle.std.specs.Prelude.{None}
 use Rattle.std.specs.Prelude.{MatchOption, drop, map, flat_map, codes, decimal, if◌then◌else◌, take, sum_by, nat_lt}
 use Rattle.std.specs.List.{enumerate_from}
-use Rattle.std.specs.Str.{bytes_eq}
 use Rattle.xc_text.specs.Calls.{Rose}
 use Rattle.xc_text.specs.Sources.{SourceState, Gave, GaveAll}
 use Rattle.xc_list.specs.SpanTexts.{most_counted, row_text}
@@ -13,6 +12,7 @@ use Rattle.xc_list.specs.SearchedSpans.{SearchedSpan}
 use Rattle.xc_text.specs.Texts.{Seen, Took, BrokeOff, WasTold}
 use Rattle.xc_list.specs.declared.ends.End.{End}
 use Rattle.xc_list.specs.declared.ends.End.TheVariants.{Done, Limit}
+use Rattle.xc_tools.specs.Arguments.{asked_join}
 use Rattle.xc_tools.specs.SpanShapes.{AreShapes, HasShape, SpanText, bytes_of, solution_text}
 use Rattle.xc_streams.specs.ShownNames.{source_text, OfSource}
 use Rattle.xc_tools.specs.WholeRuns.{Sinks, TookAll, FailedBehind, IsRefused}
@@ -150,12 +150,6 @@ DidJoin listed files status from to old new =
     × ToldGap files told met next)
     ⊎ ((status ≡ 5) × stopped (λ texts. AreOfOneProblem texts → ⊥)
     × OfSource files (λ first. OfSource files (ToldOther told first)))
-
--- whether texts are listings, by the first word
-abbrev pub asked_join : List (List ℕ) → Option Bool
-asked_join [] = None
-asked_join (word ∷ files) =
-    if bytes_eq word (codes "m0") then Some false else if bytes_eq word (codes "m1") then Some true else None
 
 -- What a run did, by its words and its status, which is 1 exactly if the first word is none of the two.
 abbrev pub DidJoinWords : {S O E : Type 0} → List (List ℕ) → ℕ → Seen S SourceState → Seen S SourceState

@@ -15,20 +15,8 @@ use Rattle.xc_text.specs.Texts.{Seen}
 use Rattle.xc_check.specs.declared.verdict.Verdict.{Verdict}
 use Rattle.xc_check.specs.declared.verdict.ListingFault.{ListingFault}
 use Rattle.xc_check.specs.declared.verdict.ListingFault.TheVariants.{BadLine, UnknownOption, Memory}
+use Rattle.xc_tools.specs.Arguments.{asked_kind}
 use Rattle.xc_tools.specs.WholeRuns.{Sinks, Prints, IsRefused, ReadsProblem}
-
--- the kind of problem that a number stands for
-abbrev pub numbered_kind : List ℕ → Option Kind
-numbered_kind word =
-    if bytes_eq word (codes "1") then Some Plain
-    else if bytes_eq word (codes "2") then Some Colours
-    else if bytes_eq word (codes "3") then Some Bounds else None
-
--- the kind that the words mean: those of a problem's file and perhaps a number
-abbrev pub asked_kind : List (List ℕ) → Option Kind
-asked_kind (file ∷ []) = Some Bounds
-asked_kind (file ∷ number ∷ []) = numbered_kind number
-asked_kind _ = None
 
 -- the message for a listing that gets no verdicts
 abbrev pub listing_fault_text : ListingFault → List ℕ

@@ -1,3 +1,5 @@
+pub mod Arguments
+pub mod CountArguments
 pub mod Joins
 pub mod Judges
 pub mod Solves

@@ -12,14 +12,8 @@ use Rattle.xc_list.specs.SearchedSpans.{SearchedSpan, IsSpan, text_of}
 use Rattle.xc_list.specs.SpanRuns.{OfSpan}
 use Rattle.xc_list.specs.SpanWords.{AskedSpan, is_span, read_span_words, take_memory}
 use Rattle.xc_text.specs.Texts.{Seen, SinkState}
-use Rattle.xc_tools.specs.Judges.{numbered_kind}
+use Rattle.xc_tools.specs.Arguments.{asked_span, take_memory_of}
 use Rattle.xc_tools.specs.WholeRuns.{Sinks, Prints, IsRefused, ReadsProblem}
-
--- the kind of problem and the span that five words mean
-abbrev pub asked_span : List (List ℕ) → Option (Kind × AskedSpan)
-asked_span [] = None
-asked_span (kind ∷ words) =
-    option_and_then (λ k. option_map (λ asked. (k, asked)) (read_span_words words)) (numbered_kind kind)
 
 -- What searching a span of a problem's listing did: the text of the span up to where its search went was printed, which
 -- has status 0, and the listing's members are covers, and each cover is the set of exactly one of them; or there was no
@@ -29,11 +23,6 @@ DidSpan a asked status old new =
     ((went : Went) × OfSpan a asked went (λ _ _. Prints 0 status old new) old.out.state new.out.state
     × EachMemberCovers a.puzzle × EachCoverIsListedOnce a.puzzle)
     ⊎ IsRefused status old new (4, codes "Out of memory.\n")
-
--- whether reading five words takes memory: of other words it is known without
-abbrev pub take_memory_of : List (List ℕ) → Bool
-take_memory_of [] = false
-take_memory_of (kind ∷ words) = is_some (numbered_kind kind) && take_memory words
 
 -- What a run over a span did, by its words and its status: there was no memory to read them; or they mean no span;
 -- or it did what they mean.

@@ -12,7 +12,7 @@ ghost use Rattle.xc_text.specs.LinesRead.{IsLine};
 ghost use Rattle.xc_text.specs.Words.{has};
 ghost use Rattle.xc_text.specs.inner.LineFeeds.{ended};
 ghost use Rattle.xc_text.specs.Texts.{seen, Took, WasTold, Writes};
-ghost use Rattle.xc_tools.specs.Joins.{asked_join, gap_text, at_line, no_text, other_text, unread_text, DidJoin};
+ghost use Rattle.xc_tools.specs.Joins.{gap_text, at_line, no_text, other_text, unread_text, DidJoin};
 ghost use Rattle.xc_tools.specs.Joins.{DidJoinWords};
 ghost use Rattle.xc_tools.specs.WholeRuns.{sinks};
 ghost use Rattle.xc_tools.specs.inner.Joining.{joined_text, fed_lines, Adds, EndsAt, IsAfter, JoinsAll};
@@ -21,6 +21,7 @@ ghost use Rattle.xc_streams.specs.Flushes.{FlushFailed, WasFlushed};
 ghost use Rattle.xc_tools.specs.inner.Joining.{StopsReading, ToldStop};
 ghost use Rattle.xc_tools.specs.inner.SpanLines.{act_text};
 
+use crate::arguments::asked_join;
 use crate::joint::{Joint, Lines};
 use crate::outcomes::{Act, Stop};
 use crate::solving::finish;
@@ -367,17 +368,6 @@ fn named_files(words: &[Vec<u8>]) -> &[Vec<u8>]
     match words {
         [] => &[],
         [_, files @ ..] => files,
-    }
-}
-
-/// What words mean: `m1` for listings, `m0` for records alone.
-pub fn asked_join(words: &[Vec<u8>]) -> Option<bool>
-    ensures { result ≡ asked_join (map (λ w. w.items) words.now) }
-{
-    match words.first()?.as_slice() {
-        b"m0" => Some(false),
-        b"m1" => Some(true),
-        _ => None,
     }
 }
 

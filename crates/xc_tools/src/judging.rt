@@ -8,9 +8,11 @@ ghost use Rattle.xc_input.specs.Pieces.{IsWhole};
 ghost use Rattle.xc_text.specs.Texts.{seen, Writes, Begins};
 ghost use Rattle.xc_check.specs.declared.verdict.Verdict.{Verdict};
 ghost use Rattle.xc_tools.specs.WholeRuns.{sinks, Prints};
-ghost use Rattle.xc_tools.specs.Judges.{asked_kind, numbered_kind, verdict_text, HasVerdicts};
+ghost use Rattle.xc_tools.specs.Arguments.{asked_kind};
+ghost use Rattle.xc_tools.specs.Judges.{verdict_text, HasVerdicts};
 ghost use Rattle.xc_tools.specs.Judges.{DidJudgeListing, DidJudge};
 
+use crate::arguments::asked_kind;
 use crate::failures::{listing_fault, no_problem};
 use std::alloc::Global;
 use xc_check::{ListingFault, Verdict};
@@ -21,29 +23,6 @@ use xc_streams::status::{
     refuse, write_failed,
 };
 use xc_text::{Seed, Sink, SinkFault, Source, Unread, read_text, write_all, write_number};
-
-/// The kind of problem that a number stands for.
-pub fn numbered_kind(word: &[u8]) -> Option<Kind>
-    ensures { result ≡ numbered_kind word.now }
-{
-    match word {
-        b"1" => Some(Kind::Plain),
-        b"2" => Some(Kind::Colours),
-        b"3" => Some(Kind::Bounds),
-        _ => None,
-    }
-}
-
-/// The kind of problem that the words mean, if they are right.
-pub fn asked_kind(words: &[Vec<u8>]) -> Option<Kind>
-    ensures { result ≡ asked_kind (map (λ w. w.items) words.now) }
-{
-    match words {
-        [_] => Some(Kind::Bounds),
-        [_, number] => numbered_kind(number.as_slice()),
-        _ => None,
-    }
-}
 
 fn write_verdict<S: Sink>(verdict: &Verdict, sink: &mut S) -> Result<(), SinkFault>
     ensures { Writes (S.state sink.old) (S.state sink.new) result (verdict_text verdict.now) }

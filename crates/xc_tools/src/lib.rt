@@ -9,6 +9,7 @@
 //! ```
 #![tactic(auto)]
 
+mod arguments;
 mod failures;
 mod headings;
 mod joining;
@@ -23,9 +24,12 @@ mod span_lines;
 mod span_run;
 mod span_words;
 
+pub use arguments::{
+    AskedCount, Question, asked_count, asked_join, asked_kind, asked_span, numbered_kind,
+};
 pub use failures::{input_error, listing_fault, no_problem};
-pub use joining::{asked_join, join_spans};
-pub use judging::{asked_kind, judge, judge_by, numbered_kind};
+pub use joining::join_spans;
+pub use judging::{judge, judge_by};
 pub use programs::{exit_code, run_solver};
 pub use solving::{solve, solve_by};
 pub use span_run::{solve_span, solve_span_by};

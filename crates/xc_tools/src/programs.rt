@@ -33,11 +33,11 @@ pub fn exit_code(rt: &HostRuntime, status: Result<u8, AllocError>) -> ExitCode
 
 /// Solves what comes on standard input, and returns the status.
 fn solve_input(rt: &HostRuntime, kind: Kind) -> Result<u8, AllocError> {
+    let words = words(rt)?;
     let mut input = Incoming::new(Some(rt.stdin()));
     // Taken before the words are judged: without memory for it the status is 4, whatever they are.
     let mut out = Outgoing::new(rt.alloc(), rt.stdout(), rt.stdout().is_terminal())?;
     let mut err = Direct::new(rt.stderr());
-    let words = words(rt)?;
     let seed = random_seed(rt);
     Ok(solve_by(
         rt.alloc(),

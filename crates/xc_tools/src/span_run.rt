@@ -1,15 +1,15 @@
 //! A whole run over a span of a listing.
-ghost use Rattle.std.specs.Prelude.{◌≡◌, IfOk, IsTrue, OnErr, map, option_map, codes};
+ghost use Rattle.std.specs.Prelude.{◌≡◌, map, codes};
 ghost use Rattle.xc_input.specs.Named.{IsSound};
 ghost use Rattle.xc_list.specs.SpanWords.{asked_of};
 ghost use Rattle.xc_text.specs.Texts.{seen, WasTold};
 ghost use Rattle.xc_tools.specs.WholeRuns.{sinks};
-ghost use Rattle.xc_tools.specs.SpanRuns.{asked_span, take_memory_of, DidSpan, DidSpanWords};
+ghost use Rattle.xc_tools.specs.SpanRuns.{DidSpan, DidSpanWords};
 
+use crate::arguments::asked_span;
 use crate::failures::no_problem;
-use crate::judging::numbered_kind;
-use std::alloc::{AllocError, Global};
-use xc_input::{Kind, Problem, read_problem_by};
+use std::alloc::Global;
+use xc_input::{Problem, read_problem_by};
 use xc_list::{SpanFault, SpanWords, list_span};
 use xc_streams::status::{BAD_WORDS, COMPLETE, flushed, out_of_memory, refuse, write_failed};
 use xc_text::{Seed, Sink, Source};
@@ -50,24 +50,6 @@ fn search_problem<O: Sink, E: Sink>(
         Err(SpanFault::Memory) => out_of_memory(err),
         Err(SpanFault::WriteFailed) => write_failed(err),
     }
-}
-
-/// The kind of problem and the span that words mean, if they are right.
-fn asked_span(alloc: Global, words: &[Vec<u8>]) -> Result<Option<(Kind, SpanWords)>, AllocError>
-    ensures asked { IfOk result (λ found. option_map (λ asked. (asked.0, asked_of asked.1)) found
-        ≡ asked_span (map (λ w. w.items) words.now)) }
-    ensures memory { OnErr result (IsTrue (take_memory_of (map (λ w. w.items) words.now))) }
-{
-    let [kind, words @ ..] = words else {
-        return Ok(None);
-    };
-    let Some(kind) = numbered_kind(kind.as_slice()) else {
-        return Ok(None);
-    };
-    let Some(words) = SpanWords::read(alloc, words)? else {
-        return Ok(None);
-    };
-    Ok(Some((kind, words)))
 }
 
 /// A whole run over a span: reads the words, then the problem, searches the span of its listing that

@@ -1,7 +1,7 @@
 use Rattle.std.proofs.Common.{ap, refl}
 use Rattle.xc_tools.specs.WholeRuns.{sinks}
-use Rattle.xc_count_run.specs.Words.{how_many, solution, of_each_option}
-use Rattle.xc_count_run.specs.inner.{meaning}
+use Rattle.xc_tools.specs.CountArguments.{how_many, solution, of_each_option}
+use Rattle.xc_tools.specs.CountArguments.{meaning}
 use Rattle.xc_count_run.proofs.AloneLemmas.{answered, counted_alone}
 use Rattle.xc_count_run.proofs.running.answer.Goals as goal
 

@@ -1,13 +1,13 @@
-//! What the words ask for.
+//! What the words of a count ask for.
 ghost use Rattle.std.specs.Prelude.{◌≡◌, ◌==◌, drop, is_some, map, option_map, IfSome};
 ghost use Rattle.std.specs.List.{list_all};
 ghost use Rattle.std.specs.Str.{byte};
-ghost use Rattle.xc_count_run.specs.Words.{asked_count, asked_more, is_bound, is_positive, question_word};
-ghost use Rattle.xc_count_run.specs.inner.{bound_word, meaning, megabytes};
+ghost use Rattle.xc_tools.specs.CountArguments.{asked_count, asked_more, is_bound, is_positive, question_word};
+ghost use Rattle.xc_tools.specs.CountArguments.{bound_word, meaning, megabytes};
 
+use crate::arguments::numbered_kind;
 use xc_input::Kind;
 use xc_text::{all_digits, long_number};
-use xc_tools::numbered_kind;
 
 /// How many megabytes the states may take if no word says so.
 const MEGABYTES: u64 = 512;
@@ -80,7 +80,7 @@ fn asked_more(words: &[Vec<u8>]) -> Option<(u64, Question<'_>)>
 
 /// What words ask for.
 #[derive(Clone, Copy)]
-pub struct Asked<'a> {
+pub struct AskedCount<'a> {
     /// The kind of problem.
     pub kind: Kind,
     /// The most megabytes that the states may take.
@@ -90,7 +90,7 @@ pub struct Asked<'a> {
 }
 
 /// What words ask for, if they are right.
-pub fn asked_count(words: &[Vec<u8>]) -> Option<Asked<'_>>
+pub fn asked_count(words: &[Vec<u8>]) -> Option<AskedCount<'_>>
     ensures asked { option_map (λ a. (a.kind, meaning a.question)) result ≡ asked_count (map (λ w. w.items) words.now) }
     ensures bound { IfSome result (λ a. a.megabytes ≡ megabytes (drop 1 (map (λ w. w.items) words.now))) }
 {
@@ -99,7 +99,7 @@ pub fn asked_count(words: &[Vec<u8>]) -> Option<Asked<'_>>
     };
     let kind = numbered_kind(kind.as_slice())?;
     let (megabytes, question) = asked_more(more)?;
-    Some(Asked {
+    Some(AskedCount {
         kind,
         megabytes,
         question,

@@ -1,13 +1,15 @@
 -- What the words of a count ask for.
 -- Public contracts rest on this file: readers must believe it.
-use Rattle.std.specs.Prelude.{ℕ, ◌==◌, List, [], ◌∷◌, Option, Some, None, codes}
+use Rattle.std.specs.Prelude.{ℕ, ◌==◌, List, [], ◌∷◌, Option, Some, None, codes, unwrap_or}
 use Rattle.std.specs.Prelude.{Bool, false, not, ◌&&◌, is_some, option_map, option_and_then, if◌then◌else◌}
 use Rattle.std.specs.Char.{is_ascii_digit}
 use Rattle.std.specs.List.{list_all}
 use Rattle.std.specs.Str.{byte, bytes_eq}
 use Rattle.xc_input.specs.declared.kind.Kind.{Kind}
 use Rattle.xc_text.specs.LongNumbers.{long_number}
-use Rattle.xc_tools.specs.Judges.{numbered_kind}
+use Rattle.xc_tools.specs.Arguments.{numbered_kind}
+use Rattle.xc_tools.specs.declared.arguments.count.Question.{Question}
+use Rattle.xc_tools.specs.declared.arguments.count.Question.TheVariants.{HowMany, Solution, OfEachOption}
 
 -- what is asked of a problem: how many solutions it has, the solution of the number with these digits, or in how many
 -- solutions each option is
@@ -46,3 +48,19 @@ abbrev pub asked_count : List (List ℕ) → Option (Kind × Wish)
 asked_count [] = None
 asked_count (kind ∷ words) =
     option_and_then (λ k. option_map (λ wish. (k, wish)) (asked_more words)) (numbered_kind kind)
+
+-- what is asked, by its digits if it is for a solution
+abbrev pub meaning : Question → Wish
+meaning HowMany = how_many
+meaning (Solution digits) = solution digits.now
+meaning OfEachOption = of_each_option
+
+-- the megabytes that a word means: the letter b and a number
+abbrev pub bound_word : List ℕ → Option ℕ
+bound_word [] = None
+bound_word (b ∷ bs) = if b == byte "b" then long_number bs else None
+
+-- those that words after the kind allow: the first may say so, and else 512
+abbrev pub megabytes : List (List ℕ) → ℕ
+megabytes [] = 512
+megabytes (word ∷ _) = unwrap_or (bound_word word) 512
