@@ -1,6 +1,5 @@
--- What a question means, how much memory words allow, and what is reported of a count.
+-- What is reported of a count.
 -- No public contract rests on this file.
--- No public clause cites this module. What is reported of a count.
 use Rattle.std.specs.Prelude.{ℕ, ◌≡◌, ◌⊎◌, codes, length}
 use Rattle.xc_input.specs.Named.{Named}
 use Rattle.xc_search.specs.Cover.{members}

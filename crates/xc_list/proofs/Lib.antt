@@ -1,4 +1,5 @@
 pub mod OutputLemmas
+pub mod RowOrder
 pub mod SpanLemmas
 pub mod Writing
 pub mod ProblemTexts

@@ -1,6 +1,5 @@
 //! The words of a run over a span.
 ghost use Rattle.std.specs.Prelude.{◌≡◌, ◌==◌, IfOk, IsTrue, OnErr, map, option_map};
-ghost use Rattle.xc_search.specs.Spans.{precedes};
 ghost use Rattle.xc_list.specs.SearchedSpans.{AreSmall};
 ghost use Rattle.xc_list.specs.SpanTexts.{end_at};
 ghost use Rattle.xc_list.specs.SpanWords.{asked_of, listing_word, row_number, row_numbers, row_word, is_span};
@@ -52,30 +51,12 @@ fn row_word(alloc: Global, word: &[u8]) -> Result<Option<Vec<u32>>, AllocError>
     row_numbers(alloc, &point_parts(alloc, word)?)
 }
 
-/// Whether the one row comes before the other.
-fn precedes(row: &[u32], other: &[u32]) -> bool
-    ensures { result ≡ precedes row.now other.now }
-{
-    let mut left = row;
-    let mut behind = other;
-    while let [n, numbers @ ..] = behind {
-        let [k, rest @ ..] = left else {
-            return true;
-        };
-        if *k != *n {
-            return *k < *n;
-        }
-        left = rest;
-        behind = numbers;
-    }
-    false
-}
-
 /// Whether a span that begins at the one row can end at the other.
+#[tactic(auto, using(crate::proofs::RowOrder::precedes_less))]
 fn is_span(from: &[u32], until: &[u32]) -> bool
     ensures { result ≡ is_span from.now until.now }
 {
-    until.is_empty() || !precedes(until, from)
+    until.is_empty() || !(until < from)
 }
 
 /// What a run over the span between two rows is to do, if it is a span.

@@ -1,5 +1,6 @@
 -- What the words of the programs ask for: those of the judge, of a join and of a span. (Words of a solver are read by
 -- `read_words` of xc_list.)
+-- Public contracts rest on this file: readers must believe it.
 use Rattle.std.specs.Prelude.{ℕ, List, [], ◌∷◌, Option, None, Some, Bool, true, false, ◌&&◌, is_some, codes}
 use Rattle.std.specs.Prelude.{option_map, option_and_then, if◌then◌else◌}
 use Rattle.std.specs.Str.{bytes_eq}

@@ -1,29 +1,9 @@
 //! Rows of solutions that rise, each compared while it is read.
 ghost use Rattle.std.specs.Prelude.{◌≡◌, IfOk};
-ghost use Rattle.xc_search.specs.Spans.{precedes};
 ghost use Rattle.xc_tools.specs.inner.SpanLines.{ends_before, has_risen, risen, TakesNumber};
 
 use crate::joint::Rising;
 use std::alloc::AllocError;
-
-/// Whether the one row comes before the other.
-fn precedes(row: &[u64], other: &[u64]) -> bool
-    ensures { result ≡ precedes row.now other.now }
-{
-    let mut left = row;
-    let mut behind = other;
-    while let [n, numbers @ ..] = behind {
-        let [k, rest @ ..] = left else {
-            return true;
-        };
-        if *k != *n {
-            return *k < *n;
-        }
-        left = rest;
-        behind = numbers;
-    }
-    false
-}
 
 impl Rising {
     /// A row begins.
@@ -33,7 +13,7 @@ impl Rising {
         self.tied = Some(0);
     }
 
-    /// TakesNumber the next number, unless the row would come before the last one.
+    /// Takes the next number, unless the row would come before the last one.
     pub fn push(&mut self, k: u64) -> Result<bool, AllocError>
         ensures { IfOk result (λ rises. TakesNumber (risen self.old) k rises (risen self.new)) }
     {
@@ -67,6 +47,7 @@ impl Rising {
     }
 
     /// Whether a span may end at this row after so many solutions, or at the listing's end, where it's empty.
+    #[tactic(auto, using(xc_list::proofs::RowOrder::precedes_less))]
     pub fn ends_before(&self, found: u64, until: &[u64]) -> bool
         ensures { result ≡ ends_before self.now.row.items found until.now }
     {
@@ -74,9 +55,9 @@ impl Rising {
             return true;
         }
         if found == 0 {
-            !precedes(until, &self.row)
+            !(until < self.row.as_slice())
         } else {
-            precedes(&self.row, until)
+            self.row.as_slice() < until
         }
     }
 }
