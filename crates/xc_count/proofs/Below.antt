@@ -20,7 +20,8 @@ use Rattle.xc_search.proofs.Completeness.{bounded}
 use Rattle.xc_search.proofs.ListingLemmas.{proper_whole, use_passes, with_bounds, uses_known, listing_at, holds_use}
 use Rattle.xc_count.proofs.LeftBy.{AreOnce, agree_both, free_of, plain_at, same_test, sound_uses}
 use Rattle.xc_count.proofs.Split.{below_split, with_none, with_this, sum-map, sum-filter, sum-same}
-use Rattle.xc_count.specs.inner.Held.{Held, HoldsOnce, agree, fits, left_by, holding_uses, below}
+use Rattle.xc_search.specs.Once.{IsOnce}
+use Rattle.xc_count.specs.inner.Held.{Held, agree, fits, left_by, holding_uses, below}
 use Rattle.xc_count.specs.inner.Plans.{IsOver, HoldsPast, options_with}
 use Rattle.xc_count.specs.inner.Worth.{with_number}
 
@@ -41,7 +42,7 @@ whole_left p s free = ap (λ r. length (listing r)) (all_left p s free)
 
 -- ---- an item that is free
 
-module _ (p : Puzzle) (once : HoldsOnce p) where
+module _ (p : Puzzle) (once : IsOnce p) where
   pub known : (w : Wanted) → IsIn (whole p).items w → IsPrimary p w.item × (w.low ≡ 1) × (w.high ≡ 1)
   known w h =
       let at = with_bounds 0 p.bounds w h in

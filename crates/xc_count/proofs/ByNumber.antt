@@ -21,7 +21,8 @@ use Rattle.xc_search.specs.Listing.{listing, pick, whole, wanted_from}
 use Rattle.xc_search.specs.inner.Levels.{take_branch}
 use Rattle.xc_search.proofs.ListingLemmas.{behind, uses_known, branches_less, branch_item-in, nones, takes-in}
 use Rattle.xc_search.proofs.ListingLemmas.{listing_at, takes}
-use Rattle.xc_count.specs.inner.Held.{Held, HoldsOnce, agree, fits, holding_uses, left_by}
+use Rattle.xc_search.specs.Once.{IsOnce}
+use Rattle.xc_count.specs.inner.Held.{Held, agree, fits, holding_uses, left_by}
 use Rattle.xc_count.specs.inner.Keys.{mark_says}
 use Rattle.xc_count.specs.inner.Numbered.{fewer, size_left}
 use Rattle.xc_count.specs.inner.Plans.{options_with}
@@ -239,7 +240,7 @@ module _ (p : Puzzle) (v : IsValid p) (once : AreOnce p) (s : Held) (i n : ℕ) 
       fit_in : (x : Numbered) → IsIn (numbered_options p) x → fits s x ≡ true → IsIn (left_by p s).options x
       fit_in x h f = filter-in (fits s) (numbered_options p) x h f
 
-module _ (p : Puzzle) (v : IsValid p) (once : HoldsOnce p) (s : Held) where
+module _ (p : Puzzle) (v : IsValid p) (once : IsOnce p) (s : Held) where
   abbrev r : Residual
   r = left_by p s
 
@@ -375,7 +376,7 @@ module _ (p : Puzzle) (s : Held) (i m : ℕ) (best new : Option (ℕ × ℕ)) (w
     abbrev least : ℕ → Option (ℕ × ℕ)
     least j = option_map (counted count) (first_least count (free_of_first p s j))
 
-    pub past_free : HoldsOnce p → (n : ℕ) → m ≡ 0 → n ≡ length (holding (i + 1) (left_by p s).options)
+    pub past_free : IsOnce p → (n : ℕ) → m ≡ 0 → n ≡ length (holding (i + 1) (left_by p s).options)
         → best ≡ least i → new ≡ fewer best (i + 1, n) → new ≡ least (i + 1)
     past_free once n none many before is =
         let at = free_more p s i within (sym mark ∙ mark_free m none) in

@@ -22,7 +22,8 @@ use Rattle.xc_search.proofs.AnyItem.{Match, any_level_by}
 use Rattle.xc_count.proofs.Below.{are_once, end_left, item_at, known}
 use Rattle.xc_count.proofs.LeftBy.{proper_left, picked, not_both}
 use Rattle.xc_count.proofs.Split.{sum-map, sum-enumerated, sum-filter, sum-same}
-use Rattle.xc_count.specs.inner.Held.{Held, HoldsOnce, agree, fits, left_by, holding_option, holding_uses, below}
+use Rattle.xc_search.specs.Once.{IsOnce}
+use Rattle.xc_count.specs.inner.Held.{Held, agree, fits, left_by, holding_option, holding_uses, below}
 use Rattle.xc_count.specs.inner.Passed.{with_same, worth_taken}
 use Rattle.xc_count.specs.inner.Plans.{options_with}
 
@@ -59,7 +60,7 @@ no_more m = omega arith
 none_more : (m : ℕ) → m ≡ 0 + m
 none_more m = omega arith
 
-module _ (p : Puzzle) (v : IsValid p) (once : HoldsOnce p) (s : Held) (x : ℕ) where
+module _ (p : Puzzle) (v : IsValid p) (once : IsOnce p) (s : Held) (x : ℕ) where
   -- where no item is free
   pub having_none : ((i : ℕ) → IsPrimary p i → s i ≡ None → ⊥) → having x (left_by p s) ≡ 0
   having_none held = ap (count_by (λ m. is_listed (options_of m) x)) (end_left p once v s held)

@@ -17,7 +17,8 @@ use Rattle.xc_search.specs.Listing.{Residual, listing}
 use Rattle.xc_count.specs.declared.layer.State.{State}
 use Rattle.xc_count.specs.declared.plan.Plan.{Plan}
 use Rattle.xc_count.specs.declared.plan.Step.{Step}
-use Rattle.xc_count.specs.inner.Held.{Held, HoldsOnce, below, left_by}
+use Rattle.xc_search.specs.Once.{IsOnce}
+use Rattle.xc_count.specs.inner.Held.{Held, below, left_by}
 use Rattle.xc_count.specs.inner.Keys.{mark_says}
 use Rattle.xc_count.specs.inner.Passed.{AreMore, step_item, taken_here, with_same, worth_left, worth_passed}
 use Rattle.xc_count.specs.inner.Passed.{worth_taken}
@@ -83,7 +84,7 @@ ones_map f (n ∷ ns) (x ∷ xs) e a b =
 
 -- ---- a layer
 
-module _ (p : Puzzle) (plan : Plan) (is : IsPlan p plan) (once : HoldsOnce p) (v : IsValid p) (x : ℕ) where
+module _ (p : Puzzle) (plan : Plan) (is : IsPlan p plan) (once : IsOnce p) (v : IsValid p) (x : ℕ) where
   -- the covers that have option x: it is taken for the step's item, or below
   key_parts : (step : Step) → step.place < length plan.order.items → (key : List ℕ)
       → having x (left_by p (says plan step.from key))
@@ -123,7 +124,7 @@ module _ (p : Puzzle) (plan : Plan) (is : IsPlan p plan) (once : HoldsOnce p) (v
 abbrev pub covers_left : Residual → ℕ
 covers_left r = length (listing r)
 
-module _ (p : Puzzle) (plan : Plan) (is : IsPlan p plan) (once : HoldsOnce p) (v : IsValid p) where
+module _ (p : Puzzle) (plan : Plan) (is : IsPlan p plan) (once : IsOnce p) (v : IsValid p) where
   -- the covers below a key are those below what it becomes
   key_passed : (step : Step) → step.place < length plan.order.items → (key : List ℕ)
       → worth_passed covers_left p plan step key ≡ key_below p plan step.from key

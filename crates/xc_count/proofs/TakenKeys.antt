@@ -8,7 +8,8 @@ use Rattle.xc_text.proofs.ListLemmas.{contains-in, in-slice_get}
 use Rattle.xc_search.specs.declared.choice.Choice.{Choice}
 use Rattle.xc_search.specs.Listing.{listing}
 use Rattle.xc_count.specs.declared.plan.Plan.{Plan}
-use Rattle.xc_count.specs.inner.Held.{HoldsOnce, agree, holding_uses, left_by}
+use Rattle.xc_search.specs.Once.{IsOnce}
+use Rattle.xc_count.specs.inner.Held.{agree, holding_uses, left_by}
 use Rattle.xc_count.specs.inner.Numbered.{IsLess, branch_at, left_by_key, size_left, solution_at}
 use Rattle.xc_count.specs.inner.Plans.{options_with}
 use Rattle.xc_count.specs.inner.Worth.{says}
@@ -33,7 +34,7 @@ module _ (p : Puzzle) (v : IsValid p) (plan : Plan) (key next : List ℕ) (o : �
   solution_with c n = ap (λ r. option_map (λ m. c ∷ m) (numbered_get (listing r) n)) (sym left_with)
 
   -- it leaves less, if the option is a branch
-  pub less_with : HoldsOnce p → (fork : ℕ × ℕ) → branch_at p plan key ≡ Some fork → Contains (options_with p fork.0) o
+  pub less_with : IsOnce p → (fork : ℕ × ℕ) → branch_at p plan key ≡ Some fork → Contains (options_with p fork.0) o
       → agree (says plan 0 key) (uses_of p o) ≡ true → IsLess p plan next key
   less_with once fork e listed agreed = subst (λ r. size_left r < size_left (left_by_key p plan key)) (sym left_with)
       (fork_less p v once (says plan 0 key) fork e o listed agreed)

@@ -2,7 +2,7 @@
 ghost use Rattle.std.specs.Prelude.{◌≡◌, ◌≤◌, ◌<◌, ◌+◌, ◌*◌, ◌==◌, Contains, length, map, sum_by, true, None};
 ghost use Rattle.std.specs.Prelude.{IfOk, MatchOption, OnOk, if◌then◌else◌};
 ghost use Rattle.xc_input.specs.Problem.{IsOption, IsValid, option_count};
-ghost use Rattle.xc_count.specs.inner.Held.{HoldsOnce};
+ghost use Rattle.xc_search.specs.Once.{IsOnce};
 ghost use Rattle.xc_count.specs.inner.Passed.{AreBelow, AreMore, IsKept, step_item, taken_by, taken_here, with_same};
 ghost use Rattle.xc_count.specs.inner.Plans.{IsPlan, IsStep, options_with};
 ghost use Rattle.xc_count.specs.inner.Worth.{holds_first, key_below, says, with_number};
@@ -102,7 +102,7 @@ fn below_free(
     scratch: &mut Vec<u32>,
     counts: &mut Vec<Natural>,
 ) -> Result<Natural, CountError>
-    requires once { HoldsOnce problem.now.puzzle }
+    requires once { IsOnce problem.now.puzzle }
     requires plan { IsPlan problem.now.puzzle plan.now }
     requires step { IsStep problem.now.puzzle plan.now step }
     requires valid { IsValid problem.now.puzzle }
@@ -149,7 +149,7 @@ fn below_state(
     scratch: &mut Vec<u32>,
     counts: &mut Vec<Natural>,
 ) -> Result<Natural, CountError>
-    requires once { HoldsOnce problem.now.puzzle }
+    requires once { IsOnce problem.now.puzzle }
     requires plan { IsPlan problem.now.puzzle plan.now }
     requires step { IsStep problem.now.puzzle plan.now step }
     requires valid { IsValid problem.now.puzzle }
@@ -182,7 +182,7 @@ fn below_states(
     ahead: &Ahead,
     counts: &mut Vec<Natural>,
 ) -> Result<Vec<Natural>, CountError>
-    requires once { HoldsOnce problem.now.puzzle }
+    requires once { IsOnce problem.now.puzzle }
     requires plan { IsPlan problem.now.puzzle plan.now }
     requires valid { IsValid problem.now.puzzle }
     requires kept { IsKept problem.now.puzzle plan.now kept.now }
@@ -221,7 +221,7 @@ pub fn back(
     ahead: &Ahead,
     counts: &mut Vec<Natural>,
 ) -> Result<Ahead, CountError>
-    requires once { HoldsOnce problem.now.puzzle }
+    requires once { IsOnce problem.now.puzzle }
     requires plan { IsPlan problem.now.puzzle plan.now }
     requires valid { IsValid problem.now.puzzle }
     requires kept { IsKept problem.now.puzzle plan.now kept }

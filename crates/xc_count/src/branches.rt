@@ -2,7 +2,8 @@
 
 ghost use Rattle.std.specs.Prelude.{ℕ, ◌≡◌, ◌<◌, ◌≤◌, Some, true, false, IfOk, IfSome, MatchOption, length};
 ghost use Rattle.xc_input.specs.Problem.{IsItem, IsOption, IsValid, IsWithinLimits, holding, uses_of};
-ghost use Rattle.xc_count.specs.inner.Held.{HoldsOnce, agree, holding_uses};
+ghost use Rattle.xc_search.specs.Once.{IsOnce};
+ghost use Rattle.xc_count.specs.inner.Held.{agree, holding_uses};
 ghost use Rattle.xc_count.specs.inner.Numbered.{IsLess, behind_taken, branch_at, fewer, left_by_key, solution_at};
 ghost use Rattle.xc_count.specs.inner.Plans.{IsPlan};
 ghost use Rattle.xc_count.specs.inner.Worth.{says};
@@ -48,7 +49,7 @@ fn fewer(best: Option<(u32, u32)>, item: u32, branches: u32) -> Option<(u32, u32
 
 /// The item that is branched on in what a key leaves, and its number of branches; none where no item is free.
 pub fn branch_item(problem: &Problem, plan: &Plan, key: &[u32]) -> Option<(u32, u32)>
-    requires once { HoldsOnce problem.now.puzzle }
+    requires once { IsOnce problem.now.puzzle }
     requires plan { IsPlan problem.now.puzzle plan.now }
     ensures { result ≡ branch_at problem.now.puzzle plan.now key.now }
 {
@@ -115,7 +116,7 @@ pub fn branch_with(
     bound: usize,
     rival: &mut Rival,
 ) -> Result<Option<Taken>, Halted>
-    requires once { HoldsOnce problem.now.puzzle }
+    requires once { IsOnce problem.now.puzzle }
     requires plan { IsPlan problem.now.puzzle plan.now }
     requires valid { IsValid problem.now.puzzle }
     requires fork { branch_at problem.now.puzzle plan.now key.now ≡ Some fork }

@@ -2,7 +2,7 @@
 ghost use Rattle.std.specs.Prelude.{◌≡◌, ◌++◌, [], ◌∷◌, All, length, IfNone, IfOk, IfSome};
 ghost use Rattle.xc_input.specs.Problem.{IsValid};
 ghost use Rattle.xc_count.specs.Occurrences.{occurrences};
-ghost use Rattle.xc_count.specs.inner.Held.{HoldsOnce};
+ghost use Rattle.xc_search.specs.Once.{IsOnce};
 ghost use Rattle.xc_count.specs.inner.Passed.{AreBelow};
 ghost use Rattle.xc_count.specs.inner.Plans.{IsPlan};
 ghost use Rattle.xc_count.specs.inner.Worth.{EachKey, holds_first};
@@ -37,7 +37,7 @@ fn end(
     layer: Layer,
     from: usize,
 ) -> Result<Ahead, CountError>
-    requires once { HoldsOnce problem.now.puzzle }
+    requires once { IsOnce problem.now.puzzle }
     requires plan { IsPlan problem.now.puzzle plan.now }
     requires valid { IsValid problem.now.puzzle }
     requires held { EachKey (holds_first plan.now (length plan.now.order.items) from) layer.states.items }
@@ -66,7 +66,7 @@ pub fn occurrences_by_states(
     plan: &Plan,
     bound: usize,
 ) -> Result<Vec<Natural>, CountError>
-    requires once { HoldsOnce problem.now.puzzle }
+    requires once { IsOnce problem.now.puzzle }
     requires plan { IsPlan problem.now.puzzle plan.now }
     requires valid { IsValid problem.now.puzzle }
     ensures { IfOk result (λ ns. ns.items ≡ occurrences problem.now.puzzle) }

@@ -4,7 +4,7 @@ ghost use Rattle.xc_input.specs.Problem.{Puzzle, IsValid};
 ghost use Rattle.xc_search.specs.Cover.{members};
 ghost use Rattle.xc_count.specs.Number.{HasCovers};
 ghost use Rattle.xc_count.specs.Turns.{CountsByTurns};
-ghost use Rattle.xc_count.specs.inner.Held.{HoldsOnce};
+ghost use Rattle.xc_search.specs.Once.{IsOnce};
 
 use crate::by_option::sweep_options;
 use crate::errors::Halted;
@@ -17,22 +17,8 @@ use natural::Natural;
 use std::alloc::Global;
 use std::cell::Cell;
 use xc_input::Problem;
+use xc_search::is_once;
 use xc_text::Memory;
-
-/// Whether each primary item is to be held exactly once.
-pub fn is_once(problem: &Problem) -> bool
-    ensures once { result ≡ true → HoldsOnce problem.now.puzzle }
-    ensures several { result ≡ false → HoldsOnce problem.now.puzzle → ⊥ }
-    ensures valid { IsValid problem.now.puzzle }
-{
-    for i in 0..problem.primary() {
-        let bounds = problem.item(i + 1).bounds();
-        if bounds.low != 1 || bounds.high != 1 {
-            return false;
-        }
-    }
-    true
-}
 
 /// How many covers a problem has, by the sweep for its kind, unless the search beside it ends first.
 fn sweep_beside(

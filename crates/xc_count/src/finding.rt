@@ -4,11 +4,10 @@ ghost use Rattle.std.specs.Prelude.{◌≡◌, ◌<◌, IfOk, option_map};
 ghost use Rattle.xc_input.specs.Problem.{IsValid, numbered_get};
 ghost use Rattle.xc_search.specs.Cover.{members};
 ghost use Rattle.xc_count.specs.Turns.{FindsByTurns};
-ghost use Rattle.xc_count.specs.inner.Held.{HoldsOnce};
+ghost use Rattle.xc_search.specs.Once.{IsOnce};
 ghost use Rattle.xc_count.specs.inner.Plans.{IsPlan};
 
 use crate::branches::{branch_item, branch_with};
-use crate::counting::is_once;
 use crate::errors::Halted;
 use crate::lone::{LoneSearch, leave_alone};
 use crate::passing::nth_by_search;
@@ -19,7 +18,7 @@ use natural::Natural;
 use std::alloc::Global;
 use std::cell::Cell;
 use xc_input::Problem;
-use xc_search::Choice;
+use xc_search::{Choice, is_once};
 use xc_text::Memory;
 
 /// The solution of a number by going down the branches of the listing, unless the search beside it ends first.
@@ -31,7 +30,7 @@ fn nth_by_counts(
     bound: usize,
     rival: &mut Rival,
 ) -> Result<Option<Vec<Choice>>, Halted>
-    requires once { HoldsOnce problem.now.puzzle }
+    requires once { IsOnce problem.now.puzzle }
     requires plan { IsPlan problem.now.puzzle plan.now }
     requires valid { IsValid problem.now.puzzle }
     ensures found { IfOk result (λ found. option_map (λ c. c.items) found
@@ -74,7 +73,7 @@ fn nth_by_plan(
     bound: usize,
     rival: &mut Rival,
 ) -> Result<Option<Vec<Choice>>, Halted>
-    requires once { HoldsOnce problem.now.puzzle }
+    requires once { IsOnce problem.now.puzzle }
     requires valid { IsValid problem.now.puzzle }
     ensures found { IfOk result (λ found. option_map (λ c. c.items) found
         ≡ numbered_get (members problem.now.puzzle) number.now) }
@@ -105,7 +104,7 @@ fn nth_beside<'a>(
     bound: usize,
     gone_over: &'a Cell<u64>,
 ) -> Result<Finding<'a>, Memory>
-    requires once { HoldsOnce problem.now.puzzle }
+    requires once { IsOnce problem.now.puzzle }
     requires valid { IsValid problem.now.puzzle }
     requires bound { 0 < bound }
     ensures { IfOk result (λ f. FindsByTurns problem.now.puzzle number.now bound f) }

@@ -3,7 +3,7 @@ ghost use Rattle.std.specs.Prelude.{ℕ, ◌≡◌, ◌≤◌, ◌+◌, All, len
 ghost use Rattle.xc_input.specs.Problem.{IsValid};
 ghost use Rattle.xc_search.specs.Listing.{Residual};
 ghost use Rattle.xc_count.specs.Occurrences.{occurrences_of};
-ghost use Rattle.xc_count.specs.inner.Held.{HoldsOnce};
+ghost use Rattle.xc_search.specs.Once.{IsOnce};
 ghost use Rattle.xc_count.specs.inner.Passed.{IsKept, taken_by, worth_left, worth_passed};
 ghost use Rattle.xc_count.specs.inner.Plans.{IsPlan, IsStep};
 ghost use Rattle.xc_count.specs.inner.Worth.{EachKey, holds_first, worth_by};
@@ -63,7 +63,7 @@ pub fn keep_layers(
     plan: &Plan,
     bound: usize,
 ) -> Result<Swept, CountError>
-    requires once { HoldsOnce problem.now.puzzle }
+    requires once { IsOnce problem.now.puzzle }
     requires plan { IsPlan problem.now.puzzle plan.now }
     requires valid { IsValid problem.now.puzzle }
     ensures taken { IfOk result (λ s. (x : ℕ) → sum_by (taken_by problem.now.puzzle plan.now x) s.kept.items

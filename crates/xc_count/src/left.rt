@@ -3,7 +3,7 @@
 ghost use Rattle.std.specs.Prelude.{◌≡◌, ◌≤◌, ◌+◌, length, true, IfOk};
 ghost use Rattle.xc_input.specs.Problem.{IsValid};
 ghost use Rattle.xc_search.specs.Cover.{members};
-ghost use Rattle.xc_count.specs.inner.Held.{HoldsOnce};
+ghost use Rattle.xc_search.specs.Once.{IsOnce};
 ghost use Rattle.xc_count.specs.inner.Plans.{IsPlan, IsStep};
 ghost use Rattle.xc_count.specs.inner.Worth.{holds_first, key_below, worth_by};
 
@@ -93,7 +93,7 @@ fn count_from(
     bound: usize,
     rival: &mut Rival,
 ) -> Result<Natural, Halted>
-    requires once { HoldsOnce problem.now.puzzle }
+    requires once { IsOnce problem.now.puzzle }
     requires plan { IsPlan problem.now.puzzle plan.now }
     requires valid { IsValid problem.now.puzzle }
     requires place { start.place ≤ length plan.now.order.items }
@@ -127,7 +127,7 @@ pub fn sweep(
     bound: usize,
     rival: &mut Rival,
 ) -> Result<Natural, Halted>
-    requires once { HoldsOnce problem.now.puzzle }
+    requires once { IsOnce problem.now.puzzle }
     requires plan { IsPlan problem.now.puzzle plan.now }
     requires valid { IsValid problem.now.puzzle }
     ensures count { IfOk result (λ n. n ≡ length (members problem.now.puzzle)) }
@@ -151,7 +151,7 @@ pub fn count_left(
     bound: usize,
     rival: &mut Rival,
 ) -> Result<Natural, Halted>
-    requires once { HoldsOnce problem.now.puzzle }
+    requires once { IsOnce problem.now.puzzle }
     requires plan { IsPlan problem.now.puzzle plan.now }
     requires valid { IsValid problem.now.puzzle }
     ensures count { IfOk result (λ n. n ≡ key_below problem.now.puzzle plan.now 0 key.now) }

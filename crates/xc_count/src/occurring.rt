@@ -3,11 +3,11 @@ ghost use Rattle.std.specs.Prelude.{ℕ, ◌≡◌, ◌≢◌, ◌+◌, ◌-◌,
 ghost use Rattle.std.specs.Prelude.{IfNone, IfSome, if◌then◌else◌};
 ghost use Rattle.xc_input.specs.Problem.{IsValid};
 ghost use Rattle.xc_search.specs.Cover.{members, options_of};
-ghost use Rattle.xc_count.specs.inner.Held.{HoldsOnce};
+ghost use Rattle.xc_search.specs.Once.{IsOnce};
 ghost use Rattle.xc_count.specs.Occurrences.{occurrences, takes};
 
 use crate::by_states::occurrences_by_states;
-use crate::counting::{Counting, count_by_turns, is_once};
+use crate::counting::{Counting, count_by_turns};
 use crate::errors::CountError;
 use crate::members::{all_members, pass};
 use crate::plan::Plan;
@@ -16,7 +16,7 @@ use natural::Natural;
 use std::alloc::{AllocError, Global};
 use std::cell::Cell;
 use xc_input::Problem;
-use xc_search::Choice;
+use xc_search::{Choice, is_once};
 use xc_text::Memory;
 
 /// So many options that were never taken.
@@ -84,7 +84,7 @@ fn occurrences_by_plan(
     problem: &Problem,
     bound: usize,
 ) -> Result<Vec<Natural>, CountError>
-    requires once { HoldsOnce problem.now.puzzle }
+    requires once { IsOnce problem.now.puzzle }
     requires valid { IsValid problem.now.puzzle }
     ensures { IfOk result (λ ns. ns.items ≡ occurrences problem.now.puzzle) }
 {

@@ -15,7 +15,8 @@ use Rattle.xc_words.specs.Words.{CountsBranches, HasOwn}
 use Rattle.xc_words.specs.declared.words.Words.{Words}
 use Rattle.xc_search.specs.Listing.{listing}
 use Rattle.xc_search.specs.Residuals.{wanted_at}
-use Rattle.xc_search.specs.inner.Levels.{IsSearchable, IsOnce, residual_of}
+use Rattle.xc_search.specs.Once.{IsOnce}
+use Rattle.xc_search.specs.inner.Levels.{IsSearchable, residual_of}
 use Rattle.xc_search.specs.inner.Few.{collected, AreUseWords}
 use Rattle.xc_search.proofs.ListingLemmas.{none_listed}
 use Rattle.xc_search.proofs.ResidualLemmas.{once_more}

@@ -15,7 +15,8 @@ use Rattle.xc_moves.specs.inner.Left.{left}
 use Rattle.xc_moves.specs.Moves.{agrees, spends}
 use Rattle.xc_search.specs.Listing.{Wanted, stays, may_stay}
 use Rattle.xc_search.specs.Residuals.{wanted_at, wanted_after}
-use Rattle.xc_search.specs.inner.Levels.{IsSearchable, IsOnce, residual_of, item_left}
+use Rattle.xc_search.specs.Once.{IsOnce}
+use Rattle.xc_search.specs.inner.Levels.{IsSearchable, residual_of, item_left}
 use Rattle.xc_search.specs.inner.Few.{share}
 use Rattle.xc_search.proofs.ListingLemmas.{own_colours, apart_from_pairs}
 use Rattle.xc_search.proofs.ResidualLemmas.{found_wanted, untouched, not_found, has_left}

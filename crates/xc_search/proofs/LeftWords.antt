@@ -10,7 +10,8 @@ use Rattle.xc_moves.specs.Moves.{open_items}
 use Rattle.xc_words.specs.declared.words.Words.{Words}
 use Rattle.xc_search.specs.Listing.{Wanted}
 use Rattle.xc_search.specs.Residuals.{wanted_at, wanted_after}
-use Rattle.xc_search.specs.inner.Levels.{IsSearchable, IsOnce, residual_of}
+use Rattle.xc_search.specs.Once.{IsOnce}
+use Rattle.xc_search.specs.inner.Levels.{IsSearchable, residual_of}
 use Rattle.xc_search.specs.inner.Few.{share, collected, AreUseWords, AreWordsOf}
 use Rattle.xc_search.proofs.ResidualLemmas.{has_left}
 use Rattle.xc_search.proofs.LeftProper.{in_wanted, option_left}

@@ -34,7 +34,8 @@ use Rattle.xc_moves.proofs.MoveLemmas.{primary_pure, Rises-range, Rises-filter, 
 use Rattle.xc_moves.proofs.MoveLemmas.{next_above-none, next_above-gt, next_above-open}
 use Rattle.xc_search.specs.Listing.{Wanted, Residual, may_stay, pick, spend_one, none, first_least, branch_count}
 use Rattle.xc_search.specs.Listing.{wanted_from, whole, branch_item}
-use Rattle.xc_search.specs.inner.Levels.{AreAllWanted, item_left, residual_of, IsOnce, IsDeadEnd, IsEarlyChoice}
+use Rattle.xc_search.specs.Once.{IsOnce}
+use Rattle.xc_search.specs.inner.Levels.{AreAllWanted, item_left, residual_of, IsDeadEnd, IsEarlyChoice}
 use Rattle.xc_search.specs.Residuals.{wanted_at, wanted_after, branches_after, choice_after}
 use Rattle.xc_search.proofs.ListingLemmas.{AreApart, Apart, apart_sym, apart_from_pairs, own_colours, IsOption}
 use Rattle.xc_search.proofs.ListingLemmas.{is_option, least_is_one, best, best_first}

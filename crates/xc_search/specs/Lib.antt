@@ -3,6 +3,7 @@ pub mod Ends
 pub mod Cover
 pub mod Residuals
 pub mod Room
+pub mod Once
 pub mod Outlook
 pub mod Visited
 pub mod Spans

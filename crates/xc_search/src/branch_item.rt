@@ -13,7 +13,8 @@ ghost use Rattle.std.specs.Prelude.{◌≡◌, ◌-◌, ◌<◌, ◌≤◌, ◌^
 ghost use Rattle.xc_input.specs.Problem.{low_at};
 ghost use Rattle.xc_moves.specs.Moves.{IsOpenPrimary, open_items, spends};
 ghost use Rattle.xc_search.specs.Residuals.{branches_after, wanted_at, wanted_after, choice_after};
-ghost use Rattle.xc_search.specs.inner.Levels.{IsOnce, AreAllWanted, IsEarlyChoice};
+ghost use Rattle.xc_search.specs.Once.{IsOnce};
+ghost use Rattle.xc_search.specs.inner.Levels.{AreAllWanted, IsEarlyChoice};
 
 use xc_input::Problem;
 use xc_moves::Dance;

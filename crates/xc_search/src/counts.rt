@@ -1,7 +1,8 @@
 //! How many levels a search has at most.
 ghost use Rattle.std.specs.Prelude.{◌≡◌, ◌<◌, true};
 ghost use Rattle.xc_input.specs.Problem.{IsValid};
-ghost use Rattle.xc_search.specs.inner.Levels.{high_total, most_levels, primary_uses, IsOnce, IsEven};
+ghost use Rattle.xc_search.specs.Once.{IsOnce};
+ghost use Rattle.xc_search.specs.inner.Levels.{high_total, most_levels, primary_uses, IsEven};
 
 use xc_input::{Problem, Use};
 
@@ -24,20 +25,6 @@ pub fn most_levels(problem: &Problem) -> usize
 {
     let by_size = problem.options() as usize + problem.primary() as usize;
     by_size.min(count_spends(problem))
-}
-
-/// Whether each primary item is to be held exactly once. It is found out once, when a search begins. To find it out
-/// never would be slower and as right, so no contract refuses that.
-pub fn is_once(problem: &Problem) -> bool
-    ensures { result ≡ true → IsOnce problem.now.puzzle }
-{
-    for i in 0..problem.primary() {
-        let item = problem.item(i + 1);
-        if item.low != 1 || item.high != 1 {
-            return false;
-        }
-    }
-    true
 }
 
 /// How many primary items these uses hold.

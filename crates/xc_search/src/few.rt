@@ -9,7 +9,8 @@ ghost use Rattle.xc_input.specs.Problem.{item_count};
 ghost use Rattle.xc_moves.specs.Moves.{open_items};
 ghost use Rattle.xc_search.specs.Listing.{listing};
 ghost use Rattle.xc_search.specs.inner.Filled.{HasColourRoom};
-ghost use Rattle.xc_search.specs.inner.Levels.{IsSearchable, IsOnce, residual_of};
+ghost use Rattle.xc_search.specs.Once.{IsOnce};
+ghost use Rattle.xc_search.specs.inner.Levels.{IsSearchable, residual_of};
 
 use crate::counts::count_primary;
 use crate::few::bounded::fill_bounded;

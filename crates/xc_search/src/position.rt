@@ -2,15 +2,17 @@
 ghost use Rattle.std.specs.Prelude.{◌≡◌, ◌<◌, ◌≤◌, length, true, IfSome, ◌^◌};
 ghost use Rattle.xc_search.specs.Residuals.{wanted_after, choice_after};
 ghost use Rattle.xc_search.specs.Room.{room_for};
-ghost use Rattle.xc_search.specs.inner.Levels.{AreAllWanted, IsEarlyChoice, IsSearchable, residual_of, IsOnce};
+ghost use Rattle.xc_search.specs.Once.{IsOnce};
+ghost use Rattle.xc_search.specs.inner.Levels.{AreAllWanted, IsEarlyChoice, IsSearchable, residual_of};
 ghost use Rattle.xc_search.specs.Listing.{listing};
 
 mod branches;
 mod moves;
 
 use crate::branch_item::{choose_early, choose_next, first_of_open};
-use crate::counts::{even_size, is_once};
+use crate::counts::even_size;
 use crate::few::Few;
+use crate::once::is_once;
 use std::marker::Model;
 use xc_input::Problem;
 use xc_moves::Dance;
@@ -31,7 +33,8 @@ impl<'a, D: Dance> Model for Position<'a, D> {
     ghost use Rattle.std.specs.Prelude.{◌≡◌, ◌<◌, ◌≤◌, true};
     ghost use Rattle.xc_moves.specs.Dancing.{Dancing};
     ghost use Rattle.xc_search.specs.Room.{room_for};
-    ghost use Rattle.xc_search.specs.inner.Levels.{IsOnce, IsEven};
+    ghost use Rattle.xc_search.specs.Once.{IsOnce};
+    ghost use Rattle.xc_search.specs.inner.Levels.{IsEven};
 
     ghost Value = { Dancing };
 

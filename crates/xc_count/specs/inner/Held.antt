@@ -8,10 +8,6 @@ use Rattle.xc_input.specs.declared.problem.Use.{Use}
 use Rattle.xc_moves.specs.Moves.{agrees}
 use Rattle.xc_search.specs.Listing.{Residual, whole, listing}
 
--- each primary item is to be held exactly once
-abbrev pub HoldsOnce : Puzzle → Type 0
-HoldsOnce p = (i : ℕ) → IsPrimary p i → (low_at p i ≡ 1) × (high_at p i ≡ 1)
-
 -- the colour for which an item is held, 0 for none, if it is held or was given up
 abbrev pub Held : Type 0
 Held = ℕ → Option ℕ

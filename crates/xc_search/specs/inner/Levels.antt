@@ -14,6 +14,7 @@ use Rattle.xc_moves.specs.declared.dance.Move.TheVariants.{Cover, Tweak, Spend, 
 use Rattle.xc_moves.specs.Moves.{is_open, spends, AreLegal, open_items, IsOpenPrimary}
 use Rattle.xc_moves.specs.Places.{link_place}
 use Rattle.xc_moves.specs.Commits.{option_at, IsUseAt, after_spend, after_uses, others}
+use Rattle.xc_search.specs.Once.{IsOnce}
 use Rattle.xc_search.specs.Listing.{Residual, Wanted, Branch, branch, pick, none, branch_count, branches_of, level}
 use Rattle.xc_search.specs.Listing.{listing}
 use Rattle.xc_search.specs.Residuals.{wanted_after, wanted_at, branches_after, choice_after}
@@ -311,10 +312,6 @@ high_total p = sum_by (λ b. b.high) p.bounds
 -- of its own.
 abbrev pub most_levels : Puzzle → ℕ
 most_levels p = min (option_count p + primary_count p) (high_total p)
-
--- each primary item is to be held exactly once
-abbrev pub IsOnce : Puzzle → Type 0
-IsOnce p = (i : ℕ) → IsPrimary p i → (low_at p i ≡ 1) × (high_at p i ≡ 1)
 
 -- how many primary items these uses hold
 abbrev pub primary_uses : Puzzle → List Use → ℕ
