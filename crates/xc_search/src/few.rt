@@ -4,7 +4,7 @@ mod collecting;
 mod filling;
 mod wanted;
 
-ghost use Rattle.std.specs.Prelude.{ℕ, ◌≡◌, ◌<◌, ◌≤◌, ◌^◌, ◌-◌, length, take, true, IfSome};
+ghost use Rattle.std.specs.Prelude.{ℕ, ◌≡◌, ◌<◌, ◌≤◌, ◌+◌, ◌^◌, ◌-◌, length, take, true, IfSome};
 ghost use Rattle.xc_input.specs.Problem.{item_count};
 ghost use Rattle.xc_moves.specs.Moves.{open_items};
 ghost use Rattle.xc_search.specs.Listing.{listing};
@@ -95,14 +95,18 @@ impl Few {
     }
 
     /// Notes that there was too much below so many levels, by so many open items.
-    fn pass_by(&mut self, depth: usize, beside: usize) {
+    fn pass_by(&mut self, depth: usize, beside: usize)
+        ensures { self.new.credit ≡ self.old.credit }
+    {
         self.from = depth.saturating_add((beside / self.each).max(1));
     }
 
     /// Notes that a count below so many levels, over so many options, took so many nodes. Where these are few, moves
     /// would have taken as long: then a level higher is tried, and where that was too much, the next tries are passed
     /// over, four times as many as before and three, up to 255.
-    fn weigh(&mut self, depth: usize, nodes: u64, options: usize) {
+    fn weigh(&mut self, depth: usize, nodes: u64, options: usize)
+        ensures { self.new.credit ≡ self.old.credit }
+    {
         if nodes >= options as u64 / 2 {
             self.pause = 0;
         } else {
@@ -194,9 +198,7 @@ impl Few {
             most,
             &mut budget,
         );
-        let nodes = most_nodes - budget;
-        dance.note_unmoved(nodes);
-        self.note_count(depth, many, nodes, found.is_some());
+        self.note_count(dance, depth, many, most_nodes - budget, found.is_some());
         found
     }
 
@@ -276,9 +278,7 @@ impl Few {
             most,
             &mut budget,
         );
-        let nodes = most_nodes - budget;
-        dance.note_unmoved(nodes);
-        self.note_count(depth, many, nodes, found.is_some());
+        self.note_count(dance, depth, many, most_nodes - budget, found.is_some());
         found
     }
 
@@ -301,9 +301,18 @@ impl Few {
 
     /// Notes that a count below so many levels, over so many options, took so many nodes, and whether it ended.
     #[inline(always)]
-    fn note_count(&mut self, depth: usize, options: usize, nodes: u64, ended: bool)
+    fn note_count<D: Dance>(
+        &mut self,
+        dance: &D,
+        depth: usize,
+        options: usize,
+        nodes: u64,
+        ended: bool,
+    )
         requires { nodes ≤ self.old.credit }
+        ensures { self.new.credit + nodes ≡ self.old.credit }
     {
+        dance.note_unmoved(nodes);
         self.credit -= nodes;
         self.weigh(depth, nodes, options);
         if !ended {
