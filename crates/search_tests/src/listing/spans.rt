@@ -89,6 +89,19 @@ const SPANS: [(Kind, &[u8], Span); 9] = [
     ),
 ];
 
+/// A span that is written so over linked tables. Over them solutions of items with bounds that are only counted are
+/// counted by words, with fewer steps than over live lists.
+struct Counted(Span);
+
+const COUNTED: [(Kind, &[u8], Counted); 1] = [(
+    Kind::Bounds,
+    TWICE,
+    Counted(Span(
+        &[b"m0", b"3", b"1.2", b"-"],
+        b"from 1.2 until - solutions 2 steps 1 problem 18dfe1040992a59e text db6c6e26e61cb385\n",
+    )),
+)];
+
 /// What words mean; None where there is no memory.
 fn asked(alloc: Global, words: &[&[u8]]) -> Option<Option<SpanWords>> {
     let all = gathered(alloc, words).ok()?;
@@ -134,9 +147,19 @@ impl Wanted for Span {
     }
 }
 
+impl Wanted for Counted {
+    fn is_so(&self, alloc: Global, problem: &Problem) -> bool {
+        match asked(alloc, self.0.0) {
+            Some(Some(words)) => is_written(alloc, problem, &words, self.0.1),
+            _ => false,
+        }
+    }
+}
+
 #[test]
 fn spans_by_words(rt: HostRuntime) {
     assert_eq!(rt; wrong_row(rt.alloc(), &SPANS), None);
+    assert_eq!(rt; wrong_row(rt.alloc(), &COUNTED), None);
 }
 
 /// Words that mean no span.
