@@ -1,16 +1,15 @@
 -- Words by items and colours, whose bits are set one by one.
 use Rattle.std.proofs.Common.{ℕ, ◌≡◌, ◌≢◌, ◌<◌, ◌≤◌, ◌+◌, ◌*◌, ◌^◌, ◌==◌, ◌&&◌, ◌||◌, ◌⊎◌, inl, inr, ◌∙◌, Bool, true}
 use Rattle.std.proofs.Common.{not, List, [], ◌∷◌, length, get_or, set, take, is_some, refl, sym, ap, subst, arith}
-use Rattle.std.proofs.Common.{false, nat_lt}
-use Rattle.std.proofs.Common.{bit_and, w64, Option, Some, None, get_or-set_same, get_or-set_other, take_all, zero, suc}
+use Rattle.std.proofs.Common.{false}
+use Rattle.std.proofs.Common.{bit_and, w64, Option, Some, None, get_or-set_same, get_or-set_other, zero, suc}
 use Rattle.std.proofs.Common.{eqb, if◌then◌else◌}
 use Rattle.std.specs.Int.{bit_at, bit_not}
 use Rattle.std.specs.List.{AllByRecursion, list_any}
-use Rattle.std.proofs.lemmas.Bool.{cases_eq, cases_lt, cases_order, eq-eqb, ne_eqb, eqb-true, lt-ltb, le-ltb}
+use Rattle.std.proofs.lemmas.Bool.{cases_eq, cases_lt, cases_order, eq-eqb, ne_eqb, eqb-true}
 use Rattle.std.proofs.lemmas.Bool.{or_left, or_right, or_cases, eqb-false}
 use Rattle.std.proofs.Math.Bool.{or-false, and-true}
 use Rattle.std.proofs.lemmas.Nat.Bits.{bit_at_and, bit_at-lt, bit_at_not, bit_at_above}
-use Rattle.std.proofs.lemmas.List.{get_or_past}
 use Rattle.std.proofs.lemmas.List.Elements.{recursion_from_All}
 use Rattle.std.specs.Prelude.{All}
 use Rattle.std.proofs.lemmas.List.Folds.{list_any_more}
@@ -27,7 +26,7 @@ use Rattle.xc_search.specs.inner.FewBounded.{binds, clash, clashes_at}
 use Rattle.xc_search.specs.inner.Filled.{held_at, gives, TellsHolders, TellsColour, colour_place, HasColourRoom}
 use Rattle.xc_search.specs.inner.Filled.{differs_at, shares_at}
 use Rattle.xc_search.proofs.ListingLemmas.{AreApart, apart_from_pairs}
-use Rattle.xc_search.proofs.FillLemmas.{with_bit, set_bit, set_here, uses_are, some_by, up_to, zero_kept}
+use Rattle.xc_search.proofs.FillLemmas.{with_bit, set_bit, set_here, uses_are, some_by}
 
 -- ---- places
 
@@ -85,22 +84,6 @@ gives_none us k j c d within none some =
 
 -- ---- words of no options
 
-pub zero_given : (n : ℕ) (hs : List ℕ) (us : List Use) (k j c : ℕ) (d : Use) → k < length us
-    → colour_place n (get_or us k d).item (get_or us k d).colour < length hs
-    → (gives (take k us) j c ≡ true → get_or hs (colour_place n j c) 0 ≡ 0)
-    → gives (take (k + 1) us) j c ≡ true
-    → get_or (set hs (colour_place n (get_or us k d).item (get_or us k d).colour) 0) (colour_place n j c) 0 ≡ 0
-zero_given n hs us k j c d within room before e =
-    let u = get_or us k d in
-    let at = colour_place n u.item u.colour in
-    elim (or_cases _ _ (sym (gives_more us k j c d within) ∙ e)) [
-      | inl h ↦ zero_kept hs at (colour_place n j c) room (before h)
-      | inr h ↦
-          let g = given_item u j c h in
-          let same : at ≡ colour_place n j c = ap (λ i. colour_place n i u.colour) g.0 ∙ ap (colour_place n j) g.1 in
-          ap (λ z. get_or (set hs at 0) z 0) (sym same) ∙ get_or-set_same hs at 0 0 room
-    ]
-
 -- ---- words of the first options
 
 bit_on : (hs : List ℕ) (x i j y : ℕ) (s h m : Bool) → x < 64 → i < length hs → m ≡ (i == j)
@@ -130,30 +113,6 @@ given_on n hs us x k j c y d s low within room most small before =
     bit_on hs x _ _ y s (gives (take k us) j c) (is_given (get_or us k d) j c) low room
     (same_place n (get_or us k d) j c most small) before
     ∙ ap (λ t. s || ((y == x) && t)) (sym (gives_more us k j c d within))
-
--- an option more
-pub given_all : (p : Puzzle) (os : List ℕ) (us : List Use) (x n j c y : ℕ)
-    → numbered_get p.options (get_or os x 0) ≡ Some us → length us ≤ n
-    → ((nat_lt y x && gives (uses_of p (get_or os y 0)) j c) || ((y == x) && gives (take n us) j c))
-    ≡ (nat_lt y (x + 1) && gives (uses_of p (get_or os y 0)) j c)
-given_all p os us x n j c y is all =
-    let h = gives (uses_of p (get_or os y 0)) j c in
-    let g = gives (take n us) j c in
-    let whole = take_all n us all ∙ sym (uses_are p (get_or os x 0) us is) in
-    let same : ((y == x) && g) ≡ ((y == x) && h) = elim (cases_eq y x) [
-      | inl e ↦ ap (λ b. (y == x) && b) (ap (λ v. gives v j c) whole
-          ∙ ap (λ z. gives (uses_of p (get_or os z 0)) j c) (sym e))
-      | inr ne ↦ ap (λ b. b && g) (ne_eqb y x ne) ∙ sym (ap (λ b. b && h) (ne_eqb y x ne))
-    ] in
-    ap (λ b. (nat_lt y x && h) || b) same ∙ up_to y x h
-
-pub given_whole : (p : Puzzle) (os : List ℕ) (n j c y : ℕ) → length os ≤ n
-    → (nat_lt y n && gives (uses_of p (get_or os y 0)) j c) ≡ gives (uses_of p (get_or os y 0)) j c
-given_whole p os n j c y all = elim (cases_lt y n) [
-  | inl less ↦ ap (λ t. t && gives (uses_of p (get_or os y 0)) j c) (lt-ltb y n less)
-  | inr past ↦ ap (λ t. t && gives (uses_of p (get_or os y 0)) j c) (le-ltb y n past)
-      ∙ sym (ap (λ o. gives (uses_of p o) j c) (get_or_past os y 0 (omega (arith, past, all))))
-]
 
 -- ---- room
 

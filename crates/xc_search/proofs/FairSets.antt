@@ -37,9 +37,6 @@ pub record IsOneOf (w : BoundedWords) (items a m s t : ℕ) : Type 0 where
   pub most : (y : ℕ) → bit_at t y ≡ 1 → (bit_at s y ≡ 1) ⊎ ((a ≤ y) × (bit_at m y ≡ 1))
 
 module _ (w : BoundedWords) (items : ℕ) where
-  sets : ℕ → ℕ → ℕ → ℕ → List ℕ
-  sets a n m s = fair_list w items (bits_from a n m) s
-
   on : (a n m s : ℕ) → bit_at m a ≡ 1
       → fair_list w items (bits_from a (suc n) m) s
       ≡ fair_list w items (bits_from (suc a) n m) s ++ fair_list w items (bits_from (suc a) n m) (joined s a)

@@ -27,7 +27,7 @@ use Rattle.xc_search.specs.inner.Levels.{size_of, residual_of, branches_at, bran
 use Rattle.xc_search.specs.inner.Levels.{IsLevelAt, IsShallow, MayBranch, IsNext, AreStacked, IsPlace, choices_of}
 use Rattle.xc_search.specs.inner.Levels.{to_give, coming, first_level, oldest, tweaked, IsLevel, after_branch}
 use Rattle.xc_search.specs.inner.Levels.{NoTweakAbove, chosen, IsBegun, most_levels, spendings, Levels, IsStanding}
-use Rattle.xc_search.specs.inner.Levels.{MayBegin, IsEntered, begun_level, newest_begun, AreAllWanted}
+use Rattle.xc_search.specs.inner.Levels.{IsEntered, begun_level, newest_begun, AreAllWanted}
 use Rattle.xc_search.specs.inner.Ahead.{cost, times, work_of, work, visits, ahead, AreLedBy, MayLead, ends_ahead}
 use Rattle.xc_search.specs.inner.Ahead.{PaysFor, IsSolved, WentOver, WentPast, WentBy, GoesOn, EntersBranch, branched}
 use Rattle.xc_search.specs.inner.Ahead.{work_left}

@@ -704,20 +704,3 @@ module _ {d e : Dancing} {ls ks : Levels} {from : List ℕ} where
               (moves_made f) (moves_made d) (ap (λ (e : Dancing). e.puzzle) r.still.0) r.way.made s.way.made);
         };
       }
-
-  pub reaches_nowhere : Reaches false 0 from d ls e ks false → Reaches true 1 from d ls e ks false
-  reaches_nowhere r = record {
-    still = r.still;
-    stacked = r.stacked;
-    standing = λ h. absurd (cc h);
-    led = λ h. absurd (cc h);
-    reached = λ h. absurd (cc h);
-    kept = λ h. absurd (cc h);
-    none = r.none;
-    way = record {
-      begun = r.way.begun;
-      counted = r.way.counted;
-      few = omega (arith, r.way.few);
-      made = omega (arith, r.way.made);
-    };
-  }

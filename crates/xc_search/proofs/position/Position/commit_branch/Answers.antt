@@ -1,15 +1,10 @@
 use Rattle.std.proofs.Common.{ne_eqb}
 use Rattle.std.proofs.Common.{arith}
-use Rattle.std.proofs.Common.{◌≡◌, None, Some, subst}
+use Rattle.std.proofs.Common.{◌≡◌, Some, subst}
 use Rattle.xc_moves.specs.Commits.{option_at, IsUseAt}
 use Rattle.xc_search.specs.inner.Levels.{CanBranch}
-use Rattle.xc_search.proofs.LoopSteps.{at_own}
 use Rattle.xc_search.proofs.position.Position.commit_branch.Goals as goal
-use Rattle.xc_search.proofs.position.Position.commit_branch.Goals.{Then-place-item, Else-place-item}
-
--- at the item's own node
-none : (g : _) (c : Then-place-item g) → option_at c.args.self.now.puzzle c.args.item c.args.place ≡ None
-none g c = grind (arith, at_own)
+use Rattle.xc_search.proofs.position.Position.commit_branch.Goals.{Else-place-item}
 
 some : (g : _) (c : Else-place-item g) → (o : _) × (option_at c.args.self.now.puzzle c.args.item c.args.place ≡ Some o)
 some g c = grind (arith, ne_eqb)
