@@ -262,8 +262,8 @@ first_of (x ∷ y ∷ xs) ys zs was e h = absurd (omega (arith, h))
 -- a call that is to come to the next member
 module _ (p : Puzzle) (until : Option (List ℕ)) (most k steps : ℕ) (was shown : List Choice) (w : Went) where
   -- it came there
-  abbrev Next : Option (List ℕ) → Option (List ℕ) → Option (List ℕ) → Type 0
-  Next first r q = (drop k (left_at p until first) ≡ shown ∷ left_at p until q)
+  abbrev Next : Option (List ℕ) → Option (List ℕ) → Type 0
+  Next first q = (drop k (left_at p until first) ≡ shown ∷ left_at p until q)
       × IsAhead p until first q most (k + 1) (steps + w.steps)
 
   -- to a later row
@@ -275,34 +275,6 @@ module _ (p : Puzzle) (until : Option (List ℕ)) (most k steps : ℕ) (was show
         absurd (omega (arith, some, none_there p b, same))
     | inr z ↦ h.later (omega arith) z
   ]
-
-  pub to_member : (first r q : Option (List ℕ)) → IsAhead p until first r most k steps
-      → Called p until r q was shown 1 (most - steps) w → w.halt ≡ Member → Next first r q
-  to_member first None q a h is = absurd (other_end w (h.ended refl).0 (inl is))
-  to_member first (Some b) None a h is = absurd (h.stands (inl is))
-  to_member None (Some b) (Some c) a h is = absurd (cc (a.none refl))
-  to_member (Some f) (Some b) (Some c) a h is =
-      let one : length (between p b (Some c)) ≡ 1 = h.count ∙ (h.member is).0 in
-      let at = first_of (between p b (Some c)) (left_at p until (Some c)) (left_at p until (Some b)) was h.passed one in
-      let later = was_later b c h (omega (arith, one)) in
-      let next : drop k (left_at p until (Some f)) ≡ shown ∷ left_at p until (Some c) =
-      sym a.left ∙ at.0 ∙ ap (λ m. m ∷ left_at p until (Some c)) (sym (h.member is).1) in
-      let ms = left_at p until (Some f) in (
-        next,
-        record {
-          left = rest_next ms k next;
-          within = omega (arith, within_next ms k next);
-          passed = sym (spans_meet p f b (Some c) a.behind (before_either_way b c later))
-              ∙ ap₂ (λ xs ys. xs ++ ys) a.passed (at.1 ∙ ap (λ m. m ∷ []) (sym (h.member is).1))
-              ∙ sym (take_next ms k next);
-          behind = before_either_way f c (not_before_before f b c a.behind later);
-          later = λ _. not_before_before f b c a.behind later;
-          stands = λ _. (refl, h.stands (inl is));
-          none = λ e. absurd (cc e);
-          few = omega (arith, a.few, h.within);
-          start = λ e. absurd (omega (arith, e));
-        },
-      )
 
   -- the row where it stands isn't before the one where it stood
   not_earlier : (b c : List ℕ) → Called p until (Some b) (Some c) was shown 1 (most - steps) w
@@ -345,50 +317,84 @@ module _ (p : Puzzle) (until : Option (List ℕ)) (most k steps : ℕ) (was show
   no_row None = tt
   no_row (Some f) = tt
 
-  pub to_end : (first r q : Option (List ℕ)) → IsAhead p until first r most k steps
-      → Called p until r q was shown 1 (most - steps) w → w.halt ≡ End → Halted first q
-  to_end first r q a h is =
-      let all = all_passed first r q a h is in
+-- how far the search came with the call, by where it halted
+module _ {p : Puzzle} {until : Option (List ℕ)} {most k steps : ℕ} {was shown : List Choice} {w : Went} where
+  -- at the next member
+  pub to_member : {first r q : Option (List ℕ)} → IsAhead p until first r most k steps
+      → Called p until r q was shown 1 (most - steps) w → w.halt ≡ Member
+      → Next p until most k steps was shown w first q
+  to_member {r = None} a h is = absurd (other_end w (h.ended refl).0 (inl is))
+  to_member {r = Some b} {q = None} a h is = absurd (h.stands (inl is))
+  to_member {first = None} {r = Some b} {q = Some c} a h is = absurd (cc (a.none refl))
+  to_member {first = Some f} {r = Some b} {q = Some c} a h is =
+      let one : length (between p b (Some c)) ≡ 1 = h.count ∙ (h.member is).0 in
+      let at = first_of (between p b (Some c)) (left_at p until (Some c)) (left_at p until (Some b)) was h.passed one in
+      let later = was_later p until most k steps was shown w b c h (omega (arith, one)) in
+      let next : drop k (left_at p until (Some f)) ≡ shown ∷ left_at p until (Some c) =
+      sym a.left ∙ at.0 ∙ ap (λ m. m ∷ left_at p until (Some c)) (sym (h.member is).1) in
+      let ms = left_at p until (Some f) in (
+        next,
+        record {
+          left = rest_next ms k next;
+          within = omega (arith, within_next ms k next);
+          passed = sym (spans_meet p f b (Some c) a.behind (before_either_way b c later))
+              ∙ ap₂ (λ xs ys. xs ++ ys) a.passed (at.1 ∙ ap (λ m. m ∷ []) (sym (h.member is).1))
+              ∙ sym (take_next ms k next);
+          behind = before_either_way f c (not_before_before f b c a.behind later);
+          later = λ _. not_before_before f b c a.behind later;
+          stands = λ _. (refl, h.stands (inl is));
+          none = λ e. absurd (cc e);
+          few = omega (arith, a.few, h.within);
+          start = λ e. absurd (omega (arith, e));
+        },
+      )
+
+  -- at the end
+  pub to_end : {first r q : Option (List ℕ)} → IsAhead p until first r most k steps
+      → Called p until r q was shown 1 (most - steps) w → w.halt ≡ End → Halted p until most k steps was shown w first q
+  to_end {first = first} {r = r} {q = q} a h is =
+      let all = all_passed p until most k steps was shown w first r q a h is in
       rw (h.end is) (record {
-        passed = whole_passed first all;
+        passed = whole_passed p until most k steps was shown w first all;
         count = a.within;
         few = omega (arith, a.few, h.within);
         ended = λ _. (refl, all);
-        later = no_row first;
+        later = no_row p until most k steps was shown w first;
         stands = λ e. absurd (other_end w is e);
         steps = λ e. absurd (other_end w is (inr e));
         most_members = λ e. absurd (other_end w is (inl e));
       })
 
-  -- or it used all steps
-  pub to_steps : (first r q : Option (List ℕ)) → 0 < most → IsAhead p until first r most k steps
-      → Called p until r q was shown 1 (most - steps) w → w.halt ≡ Steps → Halted first q
-  to_steps first None q some a h is = absurd (other_end w (h.ended refl).0 (inr is))
-  to_steps first (Some b) None some a h is = absurd (h.stands (inr is))
-  to_steps None (Some b) (Some c) some a h is = absurd (cc (a.none refl))
-  to_steps (Some f) (Some b) (Some c) some a h is =
+  -- where all steps were used
+  pub to_steps : {first r q : Option (List ℕ)} → 0 < most → IsAhead p until first r most k steps
+      → Called p until r q was shown 1 (most - steps) w → w.halt ≡ Steps
+      → Halted p until most k steps was shown w first q
+  to_steps {r = None} some a h is = absurd (other_end w (h.ended refl).0 (inr is))
+  to_steps {r = Some b} {q = None} some a h is = absurd (h.stands (inr is))
+  to_steps {first = None} {r = Some b} {q = Some c} some a h is = absurd (cc (a.none refl))
+  to_steps {first = Some f} {r = Some b} {q = Some c} some a h is =
       let none : length (between p b (Some c)) ≡ 0 = omega (arith, h.count, (h.ran_out is).1) in
       let spent = h.ran_out is in
       record {
-        passed = sym (spans_meet p f b (Some c) a.behind (not_earlier b c h))
+        passed = sym (spans_meet p f b (Some c) a.behind (not_earlier p until most k steps was shown w b c h))
             ∙ ap₂ (λ xs ys. xs ++ ys) a.passed (none_long (between p b (Some c)) none)
             ∙ append-nil (take k (left_at p until (Some f)));
         count = a.within;
         few = omega (arith, a.few, h.within);
         ended = λ e. absurd (other_end w e (inr is));
-        later = behind_first f b c some a h;
+        later = behind_first p until most k steps was shown w f b c some a h;
         stands = λ _. (refl, h.stands (inr is));
         steps = λ _. omega (arith, spent.0, a.few);
         most_members = λ e. absurd (cc (e, is));
       }
 
 -- at the most members
-pub at_most_members : (p : Puzzle) (until first r : Option (List ℕ)) (most k steps : ℕ)
+pub at_most_members : {p : Puzzle} {until first r : Option (List ℕ)} {most k steps : ℕ}
     → IsAhead p until first r most k steps → k ≡ 2 ^ 64 - 1
     → WentOn p until first r most (record { halt = Member; members = k; steps = steps })
-at_most_members p until first None most k steps a e = absurd (a.stands (omega (arith, e))).1
-at_most_members p until None (Some b) most k steps a e = absurd (cc (a.none refl))
-at_most_members p until (Some f) (Some b) most k steps a e = record {
+at_most_members {r = None} a e = absurd (a.stands (omega (arith, e))).1
+at_most_members {first = None} {r = Some b} a e = absurd (cc (a.none refl))
+at_most_members {first = Some f} {r = Some b} a e = record {
   passed = a.passed;
   count = a.within;
   few = a.few;
@@ -400,8 +406,8 @@ at_most_members p until (Some f) (Some b) most k steps a e = record {
 }
 
 -- none were passed
-pub none_passed : (p : Puzzle) (until first : Option (List ℕ)) (most : ℕ) → IsAhead p until first first most 0 0
-none_passed p until first most = record {
+pub none_passed : {p : Puzzle} {until first : Option (List ℕ)} {most : ℕ} → IsAhead p until first first most 0 0
+none_passed {p = p} {first = first} = record {
   left = refl;
   within = omega arith;
   passed = none_before first first refl;
@@ -451,9 +457,9 @@ moves_on r m n o b c d k h i =
     omega (arith, h, i, mul-add r c (2 * k), mul-add r d 2, mul-add r d (2 * (k + 1)), mul-add r (2 * k) 2)
 
 -- one call more
-pub few_next : (s t n : InSpan) (calls a many most : ℕ) (w : Went) → t.puzzle ≡ s.puzzle → GoesFew calls a s t
+pub few_next : {s t n : InSpan} {calls a many most : ℕ} {w : Went} → t.puzzle ≡ s.puzzle → GoesFew calls a s t
     → WentOnBy many most w t n → GoesFew (calls + 1) (a + w.steps) s n
-few_next s t n calls a many most w same few went =
+few_next {s = s} {t = t} {n = n} {calls = calls} same few went =
     let by = went.passes.begun in
     record {
       taken = omega (arith, few.taken, by.1);
@@ -467,8 +473,8 @@ moves_more r m n b c j k h i =
     let more : c + 2 * j ≤ c + 2 * k = omega (arith, i) in omega (arith, h, mul-le-mul_left r more)
 
 -- more calls allow more
-pub few_more : (s n : InSpan) (j k a : ℕ) → j ≤ k → GoesFew j a s n → GoesFew k a s n
-few_more s n j k a h few = record {
+pub few_more : {s n : InSpan} {j k a : ℕ} → j ≤ k → GoesFew j a s n → GoesFew k a s n
+few_more {s = s} {n = n} {j = j} {k = k} h few = record {
   taken = few.taken;
   moves = moves_more (room_for s.puzzle) s.made n.made s.begun n.begun j k few.moves h;
   begun = omega (arith, few.begun, h);

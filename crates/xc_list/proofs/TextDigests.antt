@@ -4,7 +4,6 @@ use Rattle.std.proofs.Common.{sym, ap, ◌∙◌, arith, length, take, drop, get
 use Rattle.std.specs.Prelude.{true, false, flat_map}
 use Rattle.std.proofs.lemmas.Bool.Decides.{nat_tests}
 use Rattle.std.specs.Int.{w64, from_le_bytes}
-use Rattle.std.proofs.lemmas.List.Sums.{fold-append}
 use Rattle.xc_text.specs.Hashing.{taken}
 use Rattle.xc_text.specs.Texts.{SinkState, Took}
 use Rattle.xc_text.proofs.SinkLemmas.{appends_more}
@@ -13,10 +12,6 @@ use Rattle.xc_list.specs.declared.text_digest.TextDigest.{TextDigest}
 use Rattle.xc_list.specs.declared.digest_sink.DigestSink.{DigestSink}
 use Rattle.xc_list.specs.Digests.{after_byte, after_text}
 use Rattle.xc_list.specs.inner.Writing.{digest_multiplier}
-
--- a text in two parts
-pub text_more : (d : TextDigest) (xs ys : List ℕ) → after_text d (xs ++ ys) ≡ after_text (after_text d xs) ys
-text_more d xs ys = fold-append after_byte d xs ys
 
 -- ---- one byte
 

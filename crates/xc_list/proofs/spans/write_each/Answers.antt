@@ -25,14 +25,14 @@ next : (g : _) (c : After-go_on-went g) → c.go_on-went.result.halt ≡ Member
     → drop c.loop-members.members (left_of c.args.span.now)
     ≡ c.go_on-went.new.self.shown
     ∷ left_at c.args.span.now.puzzle c.args.span.now.until c.go_on-went.new.self.row
-next g c is = (to_member _ _ _ _ _ _ _ _ _ _ _ c.loop-members.invariant.ahead (went g c) is).0
+next g c is = (to_member c.loop-members.invariant.ahead (went g c) is).0
 
 pub loop-members-init : goal.loop-members-init
 loop-members-init g c =
     record {
       still = refl;
       node = c.requires.node;
-      ahead = none_passed _ _ _ _;
+      ahead = none_passed;
       few = few_none _;
       taken = took_nothing _;
       noted = took_nothing _;
@@ -40,12 +40,10 @@ loop-members-init g c =
 
 pub write_noted-requires-clause-known : goal.write_noted-requires-clause-known
 write_noted-requires-clause-known g c =
-    rw c.choices.ensures (holds_next _ _ (next g (goal.at.write_noted-requires-clause-known g c).After-go_on-went
-    c.in-Member.is)
-    (All (IsKnownChoice c.args.bodies.now.puzzle)) c.requires.known)
+    let at = next g (goal.at.write_noted-requires-clause-known g c).After-go_on-went c.in-Member.is in
+    rw c.choices.ensures (holds_next _ _ at (All (IsKnownChoice c.args.bodies.now.puzzle)) c.requires.known)
 
-pub returns-in_err-write_noted-in-Member-clause-wrote :
-    goal.returns-in_err-write_noted-in-Member-clause-wrote
+pub returns-in_err-write_noted-in-Member-clause-wrote : goal.returns-in_err-write_noted-in-Member-clause-wrote
 returns-in_err-write_noted-in-Member-clause-wrote g c =
     let at = next g (goal.at.returns-in_err-write_noted-in-Member-clause-wrote g c).After-go_on-went c.in-Member.is in
     if_failed _ _ c.from_residual.ensures.0
@@ -59,12 +57,12 @@ returns-in_default g c =
     record {
       still = grind arith;
       node = c.go_on-went.ensures.comes.node;
-      few = few_next _ _ _ _ _ _ _ _ (ap (λ s. s.puzzle) c.loop-members.invariant.still)
-          c.loop-members.invariant.few c.go_on-went.ensures;
+      few = few_next (ap (λ s. s.puzzle) c.loop-members.invariant.still) c.loop-members.invariant.few
+          c.go_on-went.ensures;
       wrote = (
         elim (halts c.go_on-went.result.halt c.in_default.not-Member) [
-          | inl is ↦ to_end _ _ _ _ _ _ _ _ _ _ _ ahead went is
-          | inr is ↦ to_steps _ _ _ _ _ _ _ _ _ _ _ c.requires.some ahead went is
+          | inl is ↦ to_end ahead went is
+          | inr is ↦ to_steps c.requires.some ahead went is
         ],
         c.loop-members.invariant.taken,
       );
@@ -74,30 +72,26 @@ returns-in_default g c =
 pub loop-members-preserved : goal.loop-members-preserved
 loop-members-preserved g c =
     let at = (goal.at.loop-members-preserved g c).After-go_on-went in
-    let ms = left_of c.args.span.now in
+    let more = texts_next (member_text c.args.bodies.now) (left_of c.args.span.now) c.loop-members.members
+    (next g at c.in-Member.is) in
     let text = rw c.choices.ensures at c.in_ok-write_noted-in-Member.ensures.written in
     let noted = rw c.choices.ensures at c.in_ok-write_noted-in-Member.ensures.noted in
     record {
       still = grind arith;
       node = at.go_on-went.ensures.comes.node;
-      ahead = (to_member _ _ _ _ _ _ _ _ _ _ _ c.loop-members.invariant.ahead (went g at)
-          c.in-Member.is).1;
-      few = few_next _ _ _ _ _ _ _ _ (ap (λ s. s.puzzle) at.loop-members.invariant.still)
-          at.loop-members.invariant.few at.go_on-went.ensures;
-      taken = rw (texts_next (member_text c.args.bodies.now) ms c.loop-members.members (next g at c.in-Member.is))
-          (then_took
-          c.loop-members.invariant.taken text);
-      noted = rw (texts_next (member_text c.args.bodies.now) ms c.loop-members.members (next g at c.in-Member.is))
-          (then_took c.loop-members.invariant.noted noted);
+      ahead = (to_member c.loop-members.invariant.ahead (went g at) c.in-Member.is).1;
+      few = few_next (ap (λ s. s.puzzle) at.loop-members.invariant.still) at.loop-members.invariant.few
+          at.go_on-went.ensures;
+      taken = rw more (then_took c.loop-members.invariant.taken text);
+      noted = rw more (then_took c.loop-members.invariant.noted noted);
     }
 
 pub returns-clause-wrote : goal.returns-clause-wrote
 returns-clause-wrote g c =
     let all : c.loop-members.members ≡ 2 ^ 64 - 1 =
     omega (arith, c.loop-members.auto.members-end, c.loop-members-test.false) in (
-      at_most_members _ _ _ _ _ _ _ (rw all at c.loop-members.invariant.ahead) refl,
-      rw all at
-          c.loop-members.invariant.taken,
+      at_most_members (rw all at c.loop-members.invariant.ahead) refl,
+      rw all at c.loop-members.invariant.taken,
     )
 
 pub returns-clause-noted : goal.returns-clause-noted
@@ -107,4 +101,4 @@ returns-clause-noted g c =
     rw all at c.loop-members.invariant.noted
 
 pub returns-clause-few : goal.returns-clause-few
-returns-clause-few g c = few_more _ _ _ _ _ (grind arith) c.loop-members.invariant.few
+returns-clause-few g c = few_more (grind arith) c.loop-members.invariant.few
