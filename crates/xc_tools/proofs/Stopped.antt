@@ -1,7 +1,12 @@
--- What is known of spans where a run stopped, and of lines read one after another.
+-- What is known of spans where a run stopped, and of lines read one after another. First a line more: it adds to the
+-- text (`adds-more`) or stops the run (`refused`, `unwritten`). Then why reading stopped (`stops-reading`,
+-- `stops-unread`), and what is so of texts then, by the reason (`so_at`). `reached` puts both together for all reasons,
+-- and `run-stopped` and `run-ended` say what the run did. Lemmas about a stop have a line for each reason, since
+-- `says_of` and `StopsReading` go by it; most are alike, only a failed write leaves a text unfinished, and only a
+-- failed read has no last line.
 use Rattle.std.proofs.Common.{◌≡◌, ℕ, Bool, false, List, [], ◌∷◌, ◌++◌, Result, Err, Ok, OnOk, refl, sym, ap, ◌∙◌}
 use Rattle.std.proofs.Common.{arith, append_assoc, append-nil, subst, ◌⊎◌, inl, inr, ◌+◌, flat_map}
-use Rattle.std.specs.Prelude.{◌==◌, IsTrue, codes, if◌then◌else◌}
+use Rattle.std.specs.Prelude.{◌==◌, codes, if◌then◌else◌}
 use Rattle.std.specs.Io.KnownBytes.{Keeps}
 use Rattle.xc_text.specs.Words.{has}
 use Rattle.xc_text.specs.inner.LineFeeds.{ended, AreWhole}
@@ -25,6 +30,7 @@ use Rattle.xc_tools.specs.inner.SpanLines.{join_of}
 use Rattle.xc_tools.specs.inner.Joining.{Adds, EndsAt, StopsIn, StopsReading, stand_reached, says_of, stop_of}
 use Rattle.xc_tools.specs.inner.Joining.{unread_stop, IsLast, JoinsAll, ToldStop, joined_text, NoWriteFailed}
 use Rattle.xc_tools.specs.inner.Joining.{NothingFailed}
+use Rattle.xc_tools.specs.inner.Finished.{DidFinish}
 use Rattle.xc_tools.specs.Joins.{IsFirstGap, AreOfOneProblem, DidJoin, DoMeet, ForShapes, HasBegun, IsBeginning}
 use Rattle.xc_tools.specs.Joins.{OfInput, end_of_texts, joined, spans_in}
 use Rattle.xc_tools.specs.WholeRuns.{Sinks, TookAll, FailedBehind}
@@ -500,12 +506,8 @@ module _ {O E : Type 0} (listed : Bool) (status : ℕ) (i j : SourceState) (from
   all-fed : ended ls ++ rest ≡ flat_map (bytes_of listed) texts
   all-fed = ap (λ r. ended ls ++ r) ends.0 ∙ append-nil (ended ls) ∙ sym shapes.whole
 
-  whole-run : ((status ≡ 0) × (to.out.state.failures ≡ y.failures) × IsTrue to.out.state.settled
-      × Took from.err.state to.err.state (summary_text end))
-      ⊎ ((status ≡ 3) × Rose y.failures to.out.state.failures × IsTrue to.out.state.failed
-      × WasTold from.err.state to.err.state (codes "Write failed.\n"))
-      ⊎ ((status ≡ 3) × (to.out.state.failures ≡ y.failures) × IsTrue to.out.state.settled
-      × BrokeOff from.err.state to.err.state (summary_text end)) → DidJoin listed files status i j from to
+  whole-run : DidFinish status end y to.out.state from.err.state to.err.state
+      → DidJoin listed files status i j from to
   whole-run (inl h) = inl (
     h.0,
     record {
@@ -541,12 +543,7 @@ pub run-ended : {O E : Type 0} (listed : Bool) (new : Joint) (y : SinkState) (st
     → JoinsAll listed new i j from.out.state y (Ok u)
     → end ≡ (if new.total == most_counted then Limit new.total else Done new.total)
     → Keeps y.taken to.out.state.taken → to.out.state.flushes ≡ y.flushes + 1
-    → ((status ≡ 0) × (to.out.state.failures ≡ y.failures) × IsTrue to.out.state.settled
-    × Took from.err.state to.err.state (summary_text end))
-    ⊎ ((status ≡ 3) × Rose y.failures to.out.state.failures × IsTrue to.out.state.failed
-    × WasTold from.err.state to.err.state (codes "Write failed.\n"))
-    ⊎ ((status ≡ 3) × (to.out.state.failures ≡ y.failures) × IsTrue to.out.state.settled
-    × BrokeOff from.err.state to.err.state (summary_text end)) → DidJoin listed files status i j from to
+    → DidFinish status end y to.out.state from.err.state to.err.state → DidJoin listed files status i j from to
 run-ended listed new y status i j from to files end u (inl h) is kept flushed did = absurd (cc h.1)
 run-ended listed new y status i j from to files end u (inr h) is kept flushed did =
     whole-run listed status i j from to files y h.0 h.1 h.2 new h.3 h.4 h.5 h.6 h.7 h.8 kept flushed end is did

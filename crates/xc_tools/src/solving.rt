@@ -1,17 +1,17 @@
 //! A whole run of a program. What it did is one relation by its status: as clauses, one a fact, there were sixteen,
 //! most of them twice, and what holds at a status had to be gathered from all.
-ghost use Rattle.std.specs.Prelude.{◌≡◌, ◌⊎◌, ◌+◌, ℕ, List, IsOkAnd, IsTrue, map, codes};
+ghost use Rattle.std.specs.Prelude.{◌≡◌, ◌⊎◌, ◌+◌, ℕ, List, IsOkAnd, map};
 ghost use Rattle.std.specs.Io.KnownBytes.{Keeps};
 ghost use Rattle.xc_list.specs.Messages.{summary_text};
 ghost use Rattle.xc_list.specs.Output.{output};
 ghost use Rattle.xc_list.specs.declared.ends.End.TheVariants.{WriteFailed};
 ghost use Rattle.xc_list.specs.Settings.{read_words};
-ghost use Rattle.xc_text.specs.Texts.{seen, Took, BrokeOff, WasTold, Begins};
-ghost use Rattle.xc_text.specs.Calls.{Rose};
+ghost use Rattle.xc_text.specs.Texts.{seen, WasTold, Begins};
 ghost use Rattle.xc_input.specs.Named.{Named};
 ghost use Rattle.xc_input.specs.Pieces.{IsWhole};
 ghost use Rattle.xc_tools.specs.Solves.{DidSearch, DidWarnAndSearch, DidSolve};
 ghost use Rattle.xc_tools.specs.WholeRuns.{sinks};
+ghost use Rattle.xc_tools.specs.inner.Finished.{DidFinish};
 
 use crate::failures::no_problem;
 use std::alloc::Global;
@@ -24,13 +24,7 @@ use xc_text::{Memory, Seed, Sink, Source};
 pub(crate) fn finish<O: Sink, E: Sink>(end: &End, out: &mut O, err: &mut E) -> u8
     ensures kept { Keeps (O.state out.old).taken (O.state out.new).taken }
     ensures flushed_once { (O.state out.new).flushes ≡ (O.state out.old).flushes + 1 }
-    ensures did { ((result ≡ 0) × ((O.state out.new).failures ≡ (O.state out.old).failures)
-        × IsTrue (O.state out.new).settled
-        × Took (E.state err.old) (E.state err.new) (summary_text end.now))
-        ⊎ ((result ≡ 3) × Rose (O.state out.old).failures (O.state out.new).failures × IsTrue (O.state out.new).failed
-        × WasTold (E.state err.old) (E.state err.new) (codes "Write failed.\n"))
-        ⊎ ((result ≡ 3) × ((O.state out.new).failures ≡ (O.state out.old).failures) × IsTrue (O.state out.new).settled
-        × BrokeOff (E.state err.old) (E.state err.new) (summary_text end.now)) }
+    ensures did { DidFinish result end.now (O.state out.old) (O.state out.new) (E.state err.old) (E.state err.new) }
 {
     // Status 0 needs this by contract: a flush takes no bytes, so the bytes alone would not show that it failed.
     if let Err(status) = flushed(out, err) {
