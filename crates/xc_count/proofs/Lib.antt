@@ -1,3 +1,4 @@
+pub mod AddedLemmas
 pub mod Below
 pub mod ByNumber
 pub mod ByOption

@@ -14,7 +14,7 @@ use Rattle.xc_input.specs.Problem.{Puzzle, IsValid}
 use Rattle.xc_text.proofs.ListLemmas.{by_bool, by_option}
 use Rattle.xc_input.proofs.OptionLemmas.{numbered_from}
 use Rattle.xc_search.specs.Listing.{Residual, listing}
-use Rattle.xc_count.specs.declared.layer.State.{State}
+use Rattle.xc_count.specs.inner.Worth.{CountState}
 use Rattle.xc_count.specs.declared.plan.Plan.{Plan}
 use Rattle.xc_count.specs.declared.plan.Step.{Step}
 use Rattle.xc_search.specs.Once.{IsOnce}
@@ -40,37 +40,37 @@ sum_both f g (x ∷ xs) =
     omega (arith, both, one, two, rest)
 
 -- each key has two parts
-worth_parts : (f g h : List ℕ → ℕ) → ((key : List ℕ) → f key ≡ g key + h key) → (ss : List State)
+worth_parts : (f g h : List ℕ → ℕ) → ((key : List ℕ) → f key ≡ g key + h key) → (ss : List CountState)
     → worth_by f ss ≡ worth_by g ss + worth_by h ss
 worth_parts f g h e [] = refl
 worth_parts f g h e (s ∷ ss) =
-    let all = sum_by-cons (λ (t : State). t.ways * f t.key.items) s ss in
-    let one = sum_by-cons (λ (t : State). t.ways * g t.key.items) s ss in
-    let two = sum_by-cons (λ (t : State). t.ways * h t.key.items) s ss in
+    let all = sum_by-cons (λ (t : CountState). t.worth * f t.key.items) s ss in
+    let one = sum_by-cons (λ (t : CountState). t.worth * g t.key.items) s ss in
+    let two = sum_by-cons (λ (t : CountState). t.worth * h t.key.items) s ss in
     let rest = worth_parts f g h e ss in
-    let here : s.ways * f s.key.items ≡ s.ways * g s.key.items + s.ways * h s.key.items =
+    let here : s.worth * f s.key.items ≡ s.worth * g s.key.items + s.worth * h s.key.items =
     rw (e s.key.items) (omega arith) in
     omega (arith, all, one, two, rest, here)
 
 -- each key that passes a test is worth as much by another
 worth_same : (f g : List ℕ → ℕ) (q : List ℕ → Bool) → ((key : List ℕ) → q key ≡ true → f key ≡ g key)
-    → (ss : List State) → AllByRecursion (λ s. q s.key.items ≡ true) ss → worth_by f ss ≡ worth_by g ss
+    → (ss : List CountState) → AllByRecursion (λ s. q s.key.items ≡ true) ss → worth_by f ss ≡ worth_by g ss
 worth_same f g q same [] a = refl
 worth_same f g q same (s ∷ ss) a =
-    let one = sum_by-cons (λ (t : State). t.ways * f t.key.items) s ss in
-    let two = sum_by-cons (λ (t : State). t.ways * g t.key.items) s ss in
+    let one = sum_by-cons (λ (t : CountState). t.worth * f t.key.items) s ss in
+    let two = sum_by-cons (λ (t : CountState). t.worth * g t.key.items) s ss in
     let rest = worth_same f g q same ss a.1 in
-    let here : s.ways * f s.key.items ≡ s.ways * g s.key.items = ap (λ n. s.ways * n) (same s.key.items a.0) in
+    let here : s.worth * f s.key.items ≡ s.worth * g s.key.items = ap (λ n. s.worth * n) (same s.key.items a.0) in
     omega (arith, one, two, rest, here)
 
 -- no key is worth anything
-worth_none : (f : List ℕ → ℕ) (q : List ℕ → Bool) → ((key : List ℕ) → q key ≡ true → f key ≡ 0) → (ss : List State)
+worth_none : (f : List ℕ → ℕ) (q : List ℕ → Bool) → ((key : List ℕ) → q key ≡ true → f key ≡ 0) → (ss : List CountState)
     → AllByRecursion (λ s. q s.key.items ≡ true) ss → worth_by f ss ≡ 0
 worth_none f q none [] a = refl
 worth_none f q none (s ∷ ss) a =
-    let all = sum_by-cons (λ (t : State). t.ways * f t.key.items) s ss in
+    let all = sum_by-cons (λ (t : CountState). t.worth * f t.key.items) s ss in
     let rest = worth_none f q none ss a.1 in
-    let here : s.ways * f s.key.items ≡ 0 = rw (none s.key.items a.0) (omega arith) in
+    let here : s.worth * f s.key.items ≡ 0 = rw (none s.key.items a.0) (omega arith) in
     omega (arith, all, rest, here)
 
 -- numbers that are each one
@@ -105,7 +105,7 @@ module _ (p : Puzzle) (plan : Plan) (is : IsPlan p plan) (once : IsOnce p) (v : 
       let parts : all ≡ all + 0 = omega arith in
       parts ∙ sym (ap (λ b. cond b all later + cond b 0 now) (ap is_some e)))
 
-  pub layer_parts : (step : Step) → step.place < length plan.order.items → (ss : List State)
+  pub layer_parts : (step : Step) → step.place < length plan.order.items → (ss : List CountState)
       → worth_left (having x) p plan step.from ss
       ≡ worth_by (worth_passed (having x) p plan step) ss
       + worth_by (taken_here p plan step x) ss
@@ -113,7 +113,7 @@ module _ (p : Puzzle) (plan : Plan) (is : IsPlan p plan) (once : IsOnce p) (v : 
       (worth_passed (having x) p plan step) (taken_here p plan step x) (key_parts step within)
 
   -- nothing is left to take at the end
-  pub layer_end : (from : ℕ) (ss : List State) → EachKey (holds_first plan (length plan.order.items) from) ss
+  pub layer_end : (from : ℕ) (ss : List CountState) → EachKey (holds_first plan (length plan.order.items) from) ss
       → worth_left (having x) p plan from ss ≡ 0
   layer_end from ss held = worth_none (λ key. having x (left_by p (says plan from key)))
       (holds_first plan (length plan.order.items) from)
@@ -137,14 +137,14 @@ module _ (p : Puzzle) (plan : Plan) (is : IsPlan p plan) (once : IsOnce p) (v : 
       ∙ sym (split_once p once v s i (order_at p plan is step.place within) e))
       (λ c e. ap (λ b. cond b (below p s) later) (ap is_some e))
 
-  pub layer_below : (step : Step) → step.place < length plan.order.items → (ss : List State)
+  pub layer_below : (step : Step) → step.place < length plan.order.items → (ss : List CountState)
       → EachKey (holds_first plan step.place step.from) ss
       → worth_by (worth_passed covers_left p plan step) ss ≡ worth p plan step.from ss
   layer_below step within ss held = worth_same (worth_passed covers_left p plan step) (key_below p plan step.from)
       (holds_first plan step.place step.from) (λ key h. key_passed step within key) ss (recursion_from_All _ _ held)
 
   -- at the end there is one below each state
-  pub ends_worth : (from : ℕ) (ss : List State) → EachKey (holds_first plan (length plan.order.items) from) ss
+  pub ends_worth : (from : ℕ) (ss : List CountState) → EachKey (holds_first plan (length plan.order.items) from) ss
       → worth p plan from ss ≡ worth_by (λ key. 1) ss
   ends_worth from ss held = worth_same (key_below p plan from) (λ key. 1)
       (holds_first plan (length plan.order.items) from)
@@ -152,13 +152,13 @@ module _ (p : Puzzle) (plan : Plan) (is : IsPlan p plan) (once : IsOnce p) (v : 
       (recursion_from_All _ _ held)
 
   -- one cover is below each state there
-  pub ends_below : (from : ℕ) (ns : List ℕ) (ss : List State) → length ns ≡ length ss → All (λ n. n ≡ 1) ns
+  pub ends_below : (from : ℕ) (ns : List ℕ) (ss : List CountState) → length ns ≡ length ss → All (λ n. n ≡ 1) ns
       → EachKey (holds_first plan (length plan.order.items) from) ss
       → ns ≡ map (λ s. key_below p plan from s.key.items) ss
   ends_below from ns ss e one held = ones_map (λ s. key_below p plan from s.key.items) ns ss e
       (recursion_from_All _ _ one) (ones ss (recursion_from_All _ _ held))
     where
-      ones : (ss : List State)
+      ones : (ss : List CountState)
           → AllByRecursion (λ s. holds_first plan (length plan.order.items) from s.key.items ≡ true) ss
           → AllByRecursion (λ s. key_below p plan from s.key.items ≡ 1) ss
       ones [] a = tt

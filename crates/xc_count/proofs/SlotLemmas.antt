@@ -8,7 +8,6 @@ use Rattle.std.proofs.lemmas.Bool.{and_parts, or_cases, or_left, or_right}
 use Rattle.std.proofs.lemmas.List.{length-append, length-map, map-append}
 use Rattle.std.proofs.lemmas.List.Sums.{sum_by_push, sum_by-set}
 use Rattle.std.proofs.lemmas.Option.{slice_get-map, slice_get_within, get_or_from_slice_get}
-use Rattle.natural.specs.Numerals.{limbs_above}
 use Rattle.xc_text.proofs.ListLemmas.{by_option, get_left, get_seam, not_some}
 use Rattle.xc_count.specs.declared.layer.Slot.{Slot}
 use Rattle.xc_count.specs.declared.layer.State.{State}
@@ -186,7 +185,7 @@ leads_on slots n m at tag place s k e other l = elim (subst (λ j. LeadsTo slots
 ]
 
 -- the key and the hash of a state
-pub told_at : (ss : List State) (k : ℕ) (s : State) → slice_get ss k ≡ Some s
+pub told_at : {W : Type 0} (ss : List (State W)) (k : ℕ) (s : State W) → slice_get ss k ≡ Some s
     → slice_get (told ss) k ≡ Some (s.key.items, s.hash)
 told_at ss k s e = slice_get-map (λ t. (t.key.items, t.hash)) ss k ∙ ap (option_map (λ t. (t.key.items, t.hash))) e
 
@@ -194,23 +193,34 @@ pub if_none : {X : Type 0} {P Q : Type 0} (o : Option X) → (P → Q) → IfNon
 if_none None f p = f p
 if_none (Some x) f p = p
 
+-- a key whose hash no state has is that of none
+pub no_state : {W : Type 0} (seed : Seed) (ss read : List (State W)) (key : List ℕ) (hash : ℕ) (found : Option ℕ)
+    → AreHashed seed (told ss) → read ≡ ss → hash ≡ hash_by seed key → found ≡ None
+    → IfNone found ((k : ℕ) (s : State W) → slice_get read k ≡ Some s → s.hash ≡ hash → s.key.items ≢ key)
+    → (k : ℕ) (s : State W) → slice_get ss k ≡ Some s → s.key.items ≢ key
+no_state seed ss read key hash None each same is none fresh k s e q =
+    fresh k s (ap (λ ts. slice_get ts k) same ∙ e)
+    (each k (s.key.items, s.hash) (told_at ss k s e) ∙ ap (hash_by seed) q ∙ sym is) q
+no_state seed ss read key hash (Some n) each same is none fresh k s e q = cc
+
 -- one state more
-told_push : (ss : List State) (s : State) → told (ss ++ s ∷ []) ≡ told ss ++ (s.key.items, s.hash) ∷ []
+pub told_push : {W : Type 0} (ss : List (State W)) (s : State W) → told (ss ++ s ∷ []) ≡ told ss ++ (s.key.items, s.hash) ∷ []
 told_push ss s = map-append (λ t. (t.key.items, t.hash)) ss (s ∷ [])
 
-pub bytes_push : (ss : List State) (s : State) → charged (ss ++ s ∷ []) ≡ charged ss + state_bytes s.key.items s.ways
-bytes_push ss s = sum_by_push (λ t. state_bytes t.key.items t.ways) ss s
+pub bytes_push : {W : Type 0} (limbs : W → ℕ) (ss : List (State W)) (s : State W)
+    → charged limbs (ss ++ s ∷ []) ≡ charged limbs ss + state_bytes s.key.items (limbs s.worth)
+bytes_push limbs ss s = sum_by_push (λ t. state_bytes t.key.items (limbs t.worth)) ss s
 
--- another number of one of them
-pub bytes_set : (ss : List State) (k : ℕ) (s t : State) → slice_get ss k ≡ Some s → t.key ≡ s.key
-    → charged (set ss k t) + 8 * limbs_above s.ways ≡ charged ss + 8 * limbs_above t.ways
-bytes_set ss k s t e key =
-    let there = sum_by-set (λ u. state_bytes u.key.items u.ways) ss k t s (slice_get_within ss k s e) in
+-- another worth of one of them
+pub bytes_set : {W : Type 0} (limbs : W → ℕ) (ss : List (State W)) (k : ℕ) (s t : State W) → slice_get ss k ≡ Some s
+    → t.key ≡ s.key → charged limbs (set ss k t) + 8 * limbs s.worth ≡ charged limbs ss + 8 * limbs t.worth
+bytes_set limbs ss k s t e key =
+    let there = sum_by-set (λ u. state_bytes u.key.items (limbs u.worth)) ss k t s (slice_get_within ss k s e) in
     let old : get_or ss k s ≡ s = get_or_from_slice_get ss k s s e in
     let len : length t.key.items ≡ length s.key.items = ap (λ v. length v.items) key in
     omega (arith, rw old at there, len)
 
-pub hashed_push : (seed : Seed) (ss : List State) (s : State) → AreHashed seed (told ss)
+pub hashed_push : {W : Type 0} (seed : Seed) (ss : List (State W)) (s : State W) → AreHashed seed (told ss)
     → s.hash ≡ hash_by seed s.key.items → AreHashed seed (told (ss ++ s ∷ []))
 hashed_push seed ss s each here k t at =
     let x : List ℕ × ℕ = (s.key.items, s.hash) in
@@ -229,13 +239,13 @@ hashed_push seed ss s each here k t at =
     let same : u ≡ t = cc in
     subst (λ (v : List ℕ × ℕ). v.1 ≡ hash_by seed v.0) same (each k u before))
 
-pub found_push : (ss : List State) (s : State) (old new : List Slot) (place : ℕ) → AreFound (told ss) old
-    → ((h k : ℕ) → 0 < k → Finds old h k → Finds new h k) → place ≡ length ss + 1 → Finds new s.hash place
+pub found_push : {W : Type 0} (ss : List (State W)) (s : State W) (old new : List Slot) (place : ℕ)
+    → AreFound (told ss) old → ((h k : ℕ) → 0 < k → Finds old h k → Finds new h k) → place ≡ length ss + 1 → Finds new s.hash place
     → AreFound (told (ss ++ s ∷ [])) new
 found_push ss s old new place found kept e here k t at =
     let x : List ℕ × ℕ = (s.key.items, s.hash) in
     let there : slice_get (told ss ++ x ∷ []) k ≡ Some t = ap (λ ts. slice_get ts k) (sym (told_push ss s)) ∙ at in
-    let len : length (told ss) ≡ length ss = length-map ss (λ (u : State). (u.key.items, u.hash)) in
+    let len : length (told ss) ≡ length ss = length-map ss (λ u. (u.key.items, u.hash)) in
     by_option (slice_get (told ss) k)
     (λ none.
     let past = not_some (told ss) k none in

@@ -1,37 +1,100 @@
 -- What the states of a sweep come to.
 use Rattle.std.proofs.Common.{ℕ, ◌≡◌, ◌<◌, ◌+◌, ◌*◌, Bool, true, List, [], ◌∷◌, ◌++◌, length, drop}
-use Rattle.std.proofs.Common.{Some, arith, subst}
-use Rattle.std.proofs.Math.ListN.{set, get_or}
-use Rattle.std.specs.Prelude.{slice_get, sum_by}
+use Rattle.std.proofs.Common.{refl, sym, ap, ◌∙◌, arith, subst}
+use Rattle.std.proofs.Math.ListN.{get_or}
+use Rattle.std.specs.Prelude.{nat_eq, sum_by}
+use Rattle.std.specs.Cmp.Lexicographic.{pointwise}
+use Rattle.std.specs.List.{AllByRecursion}
 use Rattle.std.proofs.lemmas.List.{get_or_append_left, length-append}
-use Rattle.std.proofs.lemmas.List.Sums.{sum_by_push, sum_by-set, sum_by-drop_more}
-use Rattle.std.proofs.lemmas.Option.{slice_get_within, get_or_from_slice_get}
+use Rattle.std.proofs.lemmas.List.Elements.{All-from_recursion, recursion_from_All}
+use Rattle.std.proofs.lemmas.List.Sums.{sum_by-cons, sum_by_push, sum_by-drop_more}
+use Rattle.std.proofs.lemmas.Slice.Eq.{bytes_eq-Decides}
 use Rattle.std.proofs.Math.Seq.{get_or-append_seam}
-use Rattle.xc_count.specs.declared.layer.State.{State}
-use Rattle.xc_count.specs.inner.Worth.{EachKey, worth_by}
+use Rattle.xc_text.proofs.ListLemmas.{by_bool}
+use Rattle.xc_count.specs.Layers.{keyed, with_added}
+use Rattle.xc_count.specs.inner.Worth.{CountState, EachKey, worth_by}
 
 -- one state more
-pub worth_push : (f : List ℕ → ℕ) (ss : List State) (s : State)
-    → worth_by f (ss ++ s ∷ []) ≡ worth_by f ss + s.ways * f s.key.items
-worth_push f ss s = sum_by_push (λ t. t.ways * f t.key.items) ss s
+pub worth_push : (f : List ℕ → ℕ) (ss : List CountState) (s : CountState)
+    → worth_by f (ss ++ s ∷ []) ≡ worth_by f ss + s.worth * f s.key.items
+worth_push f ss s = sum_by_push (λ t. t.worth * f t.key.items) ss s
 
--- more ways to one of them
-pub worth_set : (f : List ℕ → ℕ) (ss : List State) (k w : ℕ) (s t : State) → slice_get ss k ≡ Some s
-    → t.key ≡ s.key → t.ways ≡ s.ways + w → worth_by f (set ss k t) ≡ worth_by f ss + w * f s.key.items
-worth_set f ss k w s t e key ways =
-    let there = sum_by-set (λ t. t.ways * f t.key.items) ss k t s (slice_get_within ss k s e) in
-    let old : get_or ss k s ≡ s = get_or_from_slice_get ss k s s e in
-    let new : t.ways * f t.key.items ≡ s.ways * f s.key.items + w * f s.key.items =
-    rw (key, ways) (omega arith) in
-    omega (arith, rw old at there, new)
+-- ---- ways that are added to a key
+
+-- the same by keys and their ways
+abbrev keys_worth : (List ℕ → ℕ) → List (List ℕ × ℕ) → ℕ
+keys_worth f ts = sum_by (λ (t : List ℕ × ℕ). t.1 * f t.0) ts
+
+worth_keyed : (f : List ℕ → ℕ) (ss : List CountState) → worth_by f ss ≡ keys_worth f (keyed ss)
+worth_keyed f [] = refl
+worth_keyed f (s ∷ ss) =
+    let one = sum_by-cons (λ (t : CountState). t.worth * f t.key.items) s ss in
+    let two = sum_by-cons (λ (t : List ℕ × ℕ). t.1 * f t.0) (s.key.items, s.worth) (keyed ss) in
+    let rest = worth_keyed f ss in
+    omega (arith, one, two, rest)
+
+keys_added : (f : List ℕ → ℕ) (key : List ℕ) (w : ℕ) (ts : List (List ℕ × ℕ))
+    → keys_worth f (with_added (λ a b. a + b) key w ts) ≡ keys_worth f ts + w * f key
+keys_added f key w [] =
+    let one = sum_by-cons (λ (t : List ℕ × ℕ). t.1 * f t.0) (key, w) [] in
+    omega (arith, one)
+keys_added f key w (t ∷ ts) =
+    let m : List ℕ × ℕ → ℕ = λ u. u.1 * f u.0 in
+    let old = sum_by-cons m t ts in
+    by_bool (pointwise nat_eq t.0 key)
+    (λ e.
+    let is : t.0 ≡ key = (bytes_eq-Decides t.0 key).0 e in
+    let new = sum_by-cons m (t.0, t.1 + w) ts in
+    let value : f t.0 ≡ f key = ap f is in
+    let here : (t.1 + w) * f t.0 ≡ t.1 * f t.0 + w * f key = rw value (omega arith) in
+    rw e (omega (arith, old, new, here)))
+    (λ e.
+    let new = sum_by-cons m t (with_added (λ a b. a + b) key w ts) in
+    let rest = keys_added f key w ts in
+    rw e (omega (arith, old, new, rest)))
+
+pub worth_added : (f : List ℕ → ℕ) (key : List ℕ) (w : ℕ) (ss ts : List CountState)
+    → keyed ts ≡ with_added (λ a b. a + b) key w (keyed ss) → worth_by f ts ≡ worth_by f ss + w * f key
+worth_added f key w ss ts e = worth_keyed f ts ∙ ap (keys_worth f) e ∙ keys_added f key w (keyed ss)
+    ∙ ap (λ n. n + w * f key) (sym (worth_keyed f ss))
+
+-- each key of these passes a test
+abbrev Pass : (List ℕ → Bool) → List (List ℕ × ℕ) → Type 0
+Pass q ts = AllByRecursion (λ (t : List ℕ × ℕ). q t.0 ≡ true) ts
+
+to_keyed : (q : List ℕ → Bool) (ss : List CountState) → AllByRecursion (λ s. q s.key.items ≡ true) ss
+    → Pass q (keyed ss)
+to_keyed q [] a = tt
+to_keyed q (s ∷ ss) a = (a.0, to_keyed q ss a.1)
+
+from_keyed : (q : List ℕ → Bool) (ss : List CountState) → Pass q (keyed ss)
+    → AllByRecursion (λ s. q s.key.items ≡ true) ss
+from_keyed q [] a = tt
+from_keyed q (s ∷ ss) a = (a.0, from_keyed q ss a.1)
+
+pass_added : (q : List ℕ → Bool) (key : List ℕ) (w : ℕ) (ts : List (List ℕ × ℕ)) → Pass q ts → q key ≡ true
+    → Pass q (with_added (λ a b. a + b) key w ts)
+pass_added q key w [] a h = (h, tt)
+pass_added q key w (t ∷ ts) a h = by_bool (pointwise nat_eq t.0 key)
+    (λ e. rw e (a.0, a.1))
+    (λ e. rw e (a.0, pass_added q key w ts a.1 h))
+
+pub keys_added_to : (q : List ℕ → Bool) (key : List ℕ) (w : ℕ) (ss ts : List CountState)
+    → keyed ts ≡ with_added (λ a b. a + b) key w (keyed ss) → EachKey q ss → q key ≡ true → EachKey q ts
+keys_added_to q key w ss ts e each h = All-from_recursion (λ s. q s.key.items ≡ true) ts (from_keyed q ts
+    (subst (Pass q) (sym e) (pass_added q key w (keyed ss)
+    (to_keyed q ss (recursion_from_All (λ s. q s.key.items ≡ true) ss each)) h)))
+
+-- ---- one state less
 
 -- the last taken off
-pub keys_before : (q : List ℕ → Bool) (ss : List State) (s : State) → EachKey q (ss ++ s ∷ []) → EachKey q ss
+pub keys_before : (q : List ℕ → Bool) (ss : List CountState) (s : CountState) → EachKey q (ss ++ s ∷ []) → EachKey q ss
 keys_before q ss s a k d h =
     let more : k < length (ss ++ s ∷ []) = omega (arith, h, length-append ss (s ∷ [])) in
     subst (λ t. q t.key.items ≡ true) (get_or_append_left ss (s ∷ []) d k h) (a k d more)
 
-pub key_last : (q : List ℕ → Bool) (ss : List State) (s : State) → EachKey q (ss ++ s ∷ []) → q s.key.items ≡ true
+pub key_last : (q : List ℕ → Bool) (ss : List CountState) (s : CountState) → EachKey q (ss ++ s ∷ [])
+    → q s.key.items ≡ true
 key_last q ss s a =
     let more : length ss < length (ss ++ s ∷ []) = omega (arith, length-append ss (s ∷ [])) in
     subst (λ t. q t.key.items ≡ true) (get_or-append_seam ss s [] s) (a (length ss) s more)

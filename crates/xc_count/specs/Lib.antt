@@ -1,3 +1,4 @@
+pub mod Layers
 pub mod Number
 pub mod Occurrences
 pub mod Turns

@@ -7,11 +7,11 @@ ghost use Rattle.xc_count.specs.inner.Passed.{AreBelow, AreMore, IsKept, step_it
 ghost use Rattle.xc_count.specs.inner.Plans.{IsPlan, IsStep, options_with};
 ghost use Rattle.xc_count.specs.inner.Worth.{holds_first, key_below, says, with_number};
 
+use crate::counted::CountState;
 use crate::errors::CountError;
 use crate::holders::options_of;
 use crate::kept::{Ahead, Kept};
 use crate::keys::{do_agree, mark_of, mark_uses, without_first};
-use crate::layer::State;
 use crate::plan::{Plan, Step};
 use natural::Natural;
 use std::alloc::Global;
@@ -97,7 +97,7 @@ fn below_free(
     plan: &Plan,
     step: Step,
     ahead: &Ahead,
-    state: &State,
+    state: &CountState,
     options: &[u32],
     scratch: &mut Vec<u32>,
     counts: &mut Vec<Natural>,
@@ -113,7 +113,7 @@ fn below_free(
     requires held { holds_first plan.now step.place step.from state.now.key.items ≡ true }
     requires len { length counts.old.items ≡ option_count problem.now.puzzle }
     ensures below { IfOk result (λ n. n ≡ key_below problem.now.puzzle plan.now step.from state.now.key.items) }
-    ensures counts { OnOk result (AreMore (λ x. state.now.ways * sum_by
+    ensures counts { OnOk result (AreMore (λ x. state.now.worth * sum_by
         (with_same problem.now.puzzle (says plan.now step.from state.now.key.items) x) options.now)
         counts.old.items counts.new.items) }
 {
@@ -132,7 +132,7 @@ fn below_free(
             continue;
         };
         sum.add_assign(below)?;
-        add_covers(counts, options[k], &state.ways, below)?;
+        add_covers(counts, options[k], &state.worth, below)?;
     }
     Ok(sum)
 }
@@ -145,7 +145,7 @@ fn below_state(
     plan: &Plan,
     step: Step,
     ahead: &Ahead,
-    state: &State,
+    state: &CountState,
     scratch: &mut Vec<u32>,
     counts: &mut Vec<Natural>,
 ) -> Result<Natural, CountError>
@@ -158,7 +158,7 @@ fn below_state(
     requires held { holds_first plan.now step.place step.from state.now.key.items ≡ true }
     requires len { length counts.old.items ≡ option_count problem.now.puzzle }
     ensures below { IfOk result (λ n. n ≡ key_below problem.now.puzzle plan.now step.from state.now.key.items) }
-    ensures counts { OnOk result (AreMore (λ x. state.now.ways
+    ensures counts { OnOk result (AreMore (λ x. state.now.worth
         * taken_here problem.now.puzzle plan.now step x state.now.key.items) counts.old.items counts.new.items) }
 {
     let item = plan.order[step.place];

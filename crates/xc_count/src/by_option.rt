@@ -12,8 +12,9 @@ ghost use Rattle.xc_count.specs.inner.Plans.{IsPlan};
 ghost use Rattle.xc_count.specs.inner.Worth.{worth_by};
 
 use crate::beside::Beside;
+use crate::counted::{CountLayer, CountState, add_ways, layer_of};
 use crate::errors::{CountError, Halted};
-use crate::layer::{Layer, State, layer_of, pop_state};
+use crate::layer::pop_state;
 use crate::marks::{are_met, forget, take_uses};
 use crate::options::{holders_left, options_in_order, remove_uses};
 use crate::order::filled;
@@ -32,7 +33,7 @@ fn add_left(
     problem: &Problem,
     left: &[u32],
     uses: &[Use],
-    layer: &mut Layer,
+    layer: &mut CountLayer,
     key: &mut Vec<u32>,
     ways: &Natural,
 ) -> Result<(), CountError>
@@ -46,7 +47,7 @@ fn add_left(
     if !forget(problem, left, key, uses)? {
         return Ok(());
     }
-    layer.add(key.as_slice(), ways)
+    add_ways(layer, key.as_slice(), ways)
 }
 
 /// Adds what a state becomes once an option is passed over.
@@ -54,20 +55,20 @@ fn leave(
     problem: &Problem,
     left: &[u32],
     uses: &[Use],
-    layer: &mut Layer,
+    layer: &mut CountLayer,
     scratch: &mut Vec<u32>,
-    state: &State,
+    state: &CountState,
 ) -> Result<(), CountError>
     requires { All (λ u. IsItem problem.now.puzzle u.item) uses.now }
     ensures worth { (os : List ℕ) → AtMost problem.now.puzzle os left.now → OnOk result (
         worth_by (ways_from problem.now.puzzle os) layer.new.states.items
         ≡ worth_by (ways_from problem.now.puzzle os) layer.old.states.items
-        + state.now.ways * ways_from problem.now.puzzle os state.now.key.items) }
+        + state.now.worth * ways_from problem.now.puzzle os state.now.key.items) }
     ensures bound { layer.new.bound ≡ layer.old.bound }
 {
     scratch.clear();
     scratch.extend_from_slice(state.key.as_slice())?;
-    add_left(problem, left, uses, layer, scratch, &state.ways)
+    add_left(problem, left, uses, layer, scratch, &state.worth)
 }
 
 /// Adds what a state becomes once an option is taken, if it may be.
@@ -75,21 +76,21 @@ fn take(
     problem: &Problem,
     left: &[u32],
     uses: &[Use],
-    layer: &mut Layer,
+    layer: &mut CountLayer,
     scratch: &mut Vec<u32>,
-    state: &State,
+    state: &CountState,
 ) -> Result<(), CountError>
     requires { All (λ u. IsItem problem.now.puzzle u.item × (u.colour ≤ most_uses)) uses.now }
     ensures worth { (os : List ℕ) → AtMost problem.now.puzzle os left.now → OnOk result (
         worth_by (ways_from problem.now.puzzle os) layer.new.states.items
         ≡ worth_by (ways_from problem.now.puzzle os) layer.old.states.items
-        + state.now.ways * ways_taken problem.now.puzzle os uses.now state.now.key.items) }
+        + state.now.worth * ways_taken problem.now.puzzle os uses.now state.now.key.items) }
     ensures bound { layer.new.bound ≡ layer.old.bound }
 {
     if !take_uses(problem, state.key.as_slice(), scratch, uses)? {
         return Ok(());
     }
-    add_left(problem, left, uses, layer, scratch, &state.ways)
+    add_left(problem, left, uses, layer, scratch, &state.worth)
 }
 
 /// A step of a sweep that passes over an option or takes it. So many options after it hold each item.
@@ -114,8 +115,8 @@ impl<'p> PassOn for Choosing<'p> {
 
     fn pass_on<B: Beside>(
         &self,
-        state: &State,
-        next: &mut Layer,
+        state: &CountState,
+        next: &mut CountLayer,
         scratch: &mut Vec<u32>,
         beside: &mut B,
     ) -> Result<(), Halted> {
@@ -130,7 +131,7 @@ impl<'p> PassOn for Choosing<'p> {
 }
 
 /// The first layer: one state, in which no item is held.
-fn first_layer(alloc: Global, problem: &Problem, bound: usize) -> Result<Layer, CountError>
+fn first_layer(alloc: Global, problem: &Problem, bound: usize) -> Result<CountLayer, CountError>
     ensures { (os : List ℕ) → IfOk result (λ l. worth_by (ways_from problem.now.puzzle os) l.states.items
         ≡ ways problem.now.puzzle os (λ i. 0)) }
 {
@@ -139,14 +140,14 @@ fn first_layer(alloc: Global, problem: &Problem, bound: usize) -> Result<Layer, 
 }
 
 /// The ways to the states in which all lower bounds are met.
-fn total(alloc: Global, problem: &Problem, layer: Layer) -> Result<Natural, CountError>
+fn total(alloc: Global, problem: &Problem, layer: CountLayer) -> Result<Natural, CountError>
     ensures { IfOk result (λ n. n ≡ worth_by (ways_from problem.now.puzzle []) layer.states.items) }
 {
     let mut states = layer.states;
     let mut sum = Natural::zero(alloc);
     while let Some(state) = pop_state(&mut states) {
         if are_met(problem, state.key.as_slice()) {
-            sum.add_assign(&state.ways)?;
+            sum.add_assign(&state.worth)?;
         }
     }
     Ok(sum)

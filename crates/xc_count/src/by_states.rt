@@ -8,10 +8,10 @@ ghost use Rattle.xc_count.specs.inner.Plans.{IsPlan};
 ghost use Rattle.xc_count.specs.inner.Worth.{EachKey, holds_first};
 
 use crate::backward::back;
+use crate::counted::CountLayer;
 use crate::errors::CountError;
 use crate::forward::keep_layers;
 use crate::kept::{Ahead, Kept};
-use crate::layer::Layer;
 use crate::plan::Plan;
 use natural::Natural;
 use std::alloc::Global;
@@ -34,7 +34,7 @@ fn end(
     alloc: Global,
     problem: &Problem,
     plan: &Plan,
-    layer: Layer,
+    layer: CountLayer,
     from: usize,
 ) -> Result<Ahead, CountError>
     requires once { IsOnce problem.now.puzzle }

@@ -9,10 +9,10 @@ ghost use Rattle.xc_count.specs.inner.Plans.{IsPlan, IsStep};
 ghost use Rattle.xc_count.specs.inner.Worth.{EachKey, holds_first, worth_by};
 
 use crate::beside::Nothing;
+use crate::counted::{CountLayer, layer_of};
 use crate::errors::{CountError, Halted};
 use crate::holding::Holding;
 use crate::kept::{Kept, Swept};
-use crate::layer::{Layer, layer_of};
 use crate::plan::{Plan, Step};
 use crate::sweeping::pass;
 use std::alloc::Global;
@@ -24,9 +24,9 @@ fn next_layer(
     problem: &Problem,
     plan: &Plan,
     step: Step,
-    layer: &Layer,
+    layer: &CountLayer,
     room: usize,
-) -> Result<Layer, CountError>
+) -> Result<CountLayer, CountError>
     requires plan { IsPlan problem.now.puzzle plan.now }
     requires step { IsStep problem.now.puzzle plan.now step }
     requires valid { IsValid problem.now.puzzle }

@@ -8,10 +8,10 @@ ghost use Rattle.xc_count.specs.inner.Plans.{IsPlan, IsStep, options_with};
 ghost use Rattle.xc_count.specs.inner.Worth.{EachKey, holds_first, says};
 
 use crate::beside::Beside;
+use crate::counted::{CountLayer, CountState, add_ways};
 use crate::errors::{CountError, Halted};
 use crate::holders::options_of;
 use crate::keys::{agree_counting, mark_of, mark_uses, without_first};
-use crate::layer::{Layer, State};
 use crate::plan::{Plan, Step};
 use crate::sweeping::PassOn;
 use xc_input::Problem;
@@ -43,9 +43,9 @@ fn take(
     problem: &Problem,
     plan: &Plan,
     step: Step,
-    layer: &mut Layer,
+    layer: &mut CountLayer,
     scratch: &mut Vec<u32>,
-    state: &State,
+    state: &CountState,
     option: u32,
     tried: &mut u64,
 ) -> Result<(), CountError>
@@ -56,7 +56,7 @@ fn take(
     requires held { holds_first plan.now step.place step.from state.now.key.items ≡ true }
     ensures left { OnOk result ((h : Residual → ℕ) → worth_left h problem.now.puzzle plan.now step.next
         layer.new.states.items ≡ worth_left h problem.now.puzzle plan.now step.next layer.old.states.items
-        + state.now.ways * worth_taken h problem.now.puzzle (says plan.now step.from state.now.key.items) option) }
+        + state.now.worth * worth_taken h problem.now.puzzle (says plan.now step.from state.now.key.items) option) }
     ensures held { OnOk result (EachKey (holds_first plan.now (step.place + 1) step.next) layer.old.states.items
         → EachKey (holds_first plan.now (step.place + 1) step.next) layer.new.states.items) }
     ensures bound { layer.new.bound ≡ layer.old.bound }
@@ -74,7 +74,7 @@ fn take(
     mark_uses(ranks, step.from, scratch, uses)?;
     *tried = tried.wrapping_add(work_of_marks(read, state.key.len(), scratch.len()));
     let rest = without_first(scratch.as_slice(), step.next - step.from);
-    layer.add(rest, &state.ways)
+    add_ways(layer, rest, &state.worth)
 }
 
 /// Adds what a state becomes in which the step's item is free: a state for each option of it that fits.
@@ -82,9 +82,9 @@ fn split<B: Beside>(
     problem: &Problem,
     plan: &Plan,
     step: Step,
-    layer: &mut Layer,
+    layer: &mut CountLayer,
     scratch: &mut Vec<u32>,
-    state: &State,
+    state: &CountState,
     options: &[u32],
     beside: &mut B,
 ) -> Result<(), Halted>
@@ -95,7 +95,7 @@ fn split<B: Beside>(
     requires others { EachKey (holds_first plan.now (step.place + 1) step.next) layer.old.states.items }
     ensures left { OnOk result ((h : Residual → ℕ) → worth_left h problem.now.puzzle plan.now step.next
         layer.new.states.items ≡ worth_left h problem.now.puzzle plan.now step.next layer.old.states.items
-        + state.now.ways * sum_by (worth_taken h problem.now.puzzle (says plan.now step.from state.now.key.items))
+        + state.now.worth * sum_by (worth_taken h problem.now.puzzle (says plan.now step.from state.now.key.items))
         options.now) }
     ensures others { OnOk result (EachKey (holds_first plan.now (step.place + 1) step.next) layer.new.states.items) }
     ensures bound { layer.new.bound ≡ layer.old.bound }
@@ -118,9 +118,9 @@ fn hold<B: Beside>(
     problem: &Problem,
     plan: &Plan,
     step: Step,
-    layer: &mut Layer,
+    layer: &mut CountLayer,
     scratch: &mut Vec<u32>,
-    state: &State,
+    state: &CountState,
     beside: &mut B,
 ) -> Result<(), Halted>
     requires plan { IsPlan problem.now.puzzle plan.now }
@@ -130,7 +130,7 @@ fn hold<B: Beside>(
     requires others { EachKey (holds_first plan.now (step.place + 1) step.next) layer.old.states.items }
     ensures left { OnOk result ((h : Residual → ℕ) → worth_left h problem.now.puzzle plan.now step.next
         layer.new.states.items ≡ worth_left h problem.now.puzzle plan.now step.next layer.old.states.items
-        + state.now.ways * worth_passed h problem.now.puzzle plan.now step state.now.key.items) }
+        + state.now.worth * worth_passed h problem.now.puzzle plan.now step state.now.key.items) }
     ensures others { OnOk result (EachKey (holds_first plan.now (step.place + 1) step.next) layer.new.states.items) }
     ensures bound { layer.new.bound ≡ layer.old.bound }
     ensures same { B.searched beside.new ≡ B.searched beside.old }
@@ -138,7 +138,11 @@ fn hold<B: Beside>(
     let item = plan.order[step.place];
     let key = state.key.as_slice();
     if mark_of(plan.ranking.ranks.as_slice(), step.from, key, item) > 0 {
-        layer.add(without_first(key, step.next - step.from), &state.ways)?;
+        add_ways(
+            layer,
+            without_first(key, step.next - step.from),
+            &state.worth,
+        )?;
         if beside.ends_first(0, layer.work()) {
             return Err(Halted::Overtaken);
         }
@@ -169,8 +173,8 @@ impl<'p> PassOn for Holding<'p> {
 
     fn pass_on<B: Beside>(
         &self,
-        state: &State,
-        next: &mut Layer,
+        state: &CountState,
+        next: &mut CountLayer,
         scratch: &mut Vec<u32>,
         beside: &mut B,
     ) -> Result<(), Halted> {

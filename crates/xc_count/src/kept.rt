@@ -1,13 +1,13 @@
 //! The layers that a sweep keeps, and the covers below their states.
 
-use crate::layer::Layer;
+use crate::counted::CountLayer;
 use crate::plan::Step;
 use natural::Natural;
 
 /// A layer, and the step from it to the next.
 #[derive(Drop)]
 pub struct Kept {
-    pub layer: Layer,
+    pub layer: CountLayer,
     pub step: Step,
 }
 
@@ -15,7 +15,7 @@ pub struct Kept {
 #[derive(Drop)]
 pub struct Swept {
     pub kept: Vec<Kept>,
-    pub last: Layer,
+    pub last: CountLayer,
     pub from: usize,
 }
 
@@ -23,7 +23,7 @@ pub struct Swept {
 /// states.
 #[derive(Drop)]
 pub struct Ahead {
-    pub layer: Layer,
+    pub layer: CountLayer,
     pub from: usize,
     pub below: Vec<Natural>,
 }

@@ -1,26 +1,26 @@
-//! The states that a sweep has come to, and how many ways there are to each.
+//! The states that a sweep has come to, and what each is worth.
 
 ghost use Rattle.std.specs.Prelude.{ℕ, Bool, ◌≡◌, ◌≢◌, ◌<◌, ◌≤◌, ◌+◌, ◌-◌, ◌*◌, ◌/◌, ◌%◌, ◌^◌, [], ◌∷◌, ◌++◌};
 ghost use Rattle.std.specs.Prelude.{List, All, length, Some, true, false, IfSome, IfNone, IfOk, OnOk, OnErr};
 ghost use Rattle.std.specs.Prelude.{slice_get};
 ghost use Rattle.xc_count.specs.declared.layer.State.{State};
 ghost use Rattle.xc_count.specs.inner.Layers.{AreFound, AreHashed, Finds, state_bytes, charged, hash_by, slot_after};
-ghost use Rattle.xc_count.specs.inner.Layers.{told};
-ghost use Rattle.xc_count.specs.inner.Worth.{EachKey, worth_by};
+ghost use Rattle.xc_count.specs.inner.Layers.{AreApart, told};
+ghost use Rattle.xc_count.specs.Layers.{keyed, with_added};
 
 use crate::errors::CountError;
-use natural::Natural;
+use crate::worth::Worth;
 use std::alloc::Global;
 use std::hash::{BuildHasher, Hasher};
 use xc_input::Problem;
 use xc_text::Seed;
 
-/// A state: its key, and how many ways there are to it.
+/// A state: its key, and what it is worth.
 #[derive(Drop)]
-pub struct State {
+pub struct State<W> {
     pub key: Vec<u32>,
     pub hash: u64,
-    pub ways: Natural,
+    pub worth: W,
 }
 
 /// One more than the place of a state, or 0, and the upper half of its hash.
@@ -30,37 +30,38 @@ struct Slot {
     tag: u32,
 }
 
-/// States, and slots by which each is found.
+/// States, no two of one key, and slots by which each is found.
 #[derive(Drop)]
-pub struct Layer {
+pub struct Layer<W: Worth> {
     alloc: Global,
     /// The seed by which keys are hashed.
     seed: Seed,
-    pub states: Vec<State>,
+    pub states: Vec<State<W>>,
     slots: Vec<Slot>,
     /// How many bytes the states take, and may take.
     bytes: usize,
     bound: usize,
     /// How much work it was to add the states so far, in about nanoseconds.
     work: u64,
-    ghost taken: { bytes ≡ charged states.items },
+    ghost taken: { bytes ≡ charged W.limbs_of states.items },
     ghost within: { (bytes ≤ bound) × (bound < 2 ^ 64 - 1) },
     ghost found: { AreFound (told states.items) slots.items },
     ghost hashed: { AreHashed seed (told states.items) },
+    ghost apart: { AreApart (told states.items) },
 }
 
 /// How many bytes a state counts for, beside its marks and limbs: itself, its slots, what its two allocations need.
 const STATE_BYTES: usize = 160;
 /// How many a mark counts for.
 const MARK_BYTES: usize = 4;
-/// How many a limb of its number counts for.
+/// How many a limb of its worth counts for.
 const LIMB_BYTES: usize = 8;
 
 /// How many states the caches hold, about.
 const CACHED: usize = 8192;
 /// The work of looking at a slot in vain, in about nanoseconds.
 const PROBE_WORK: u64 = 4;
-/// The work of adding a limb of a number.
+/// The work of adding a limb of a worth.
 const LIMB_WORK: u64 = 2;
 
 /// How much the second of two marks counts that are hashed as one number.
@@ -152,7 +153,7 @@ fn fill_slot(slots: &mut Vec<Slot>, hash: u64, place: u32) -> bool
 }
 
 /// Slots for states, four for each.
-fn slots_for(alloc: Global, states: &[State]) -> Result<Vec<Slot>, CountError>
+fn slots_for<W>(alloc: Global, states: &[State<W>]) -> Result<Vec<Slot>, CountError>
     ensures { IfOk result (λ slots. AreFound (told states.now) slots.items) }
 {
     let mut slots = empty_slots(alloc, states.len().saturating_mul(4).saturating_add(64))?;
@@ -165,7 +166,7 @@ fn slots_for(alloc: Global, states: &[State]) -> Result<Vec<Slot>, CountError>
 }
 
 /// Whether a state is the one of this key.
-fn is_state(state: &State, key: &[u32]) -> bool
+fn is_state<W>(state: &State<W>, key: &[u32]) -> bool
     ensures same { result ≡ true → state.now.key.items ≡ key.now }
     ensures other { result ≡ false → state.now.key.items ≢ key.now }
 {
@@ -174,11 +175,11 @@ fn is_state(state: &State, key: &[u32]) -> bool
 
 /// Whether the state that a slot has is there and is the one of this key.
 #[inline(always)]
-fn is_at(states: &[State], place: u32, key: &[u32]) -> bool
+fn is_at<W>(states: &[State<W>], place: u32, key: &[u32]) -> bool
     requires { 0 < place }
     ensures some { result ≡ true
-        → (s : State) × (slice_get states.now (place - 1) ≡ Some s) × (s.key.items ≡ key.now) }
-    ensures none { result ≡ false → (s : State) → slice_get states.now (place - 1) ≡ Some s → s.key.items ≢ key.now }
+        → (s : State W) × (slice_get states.now (place - 1) ≡ Some s) × (s.key.items ≡ key.now) }
+    ensures none { result ≡ false → (s : State W) → slice_get states.now (place - 1) ≡ Some s → s.key.items ≢ key.now }
 {
     let k = place as usize - 1;
     k < states.len() && is_state(&states[k], key)
@@ -186,10 +187,16 @@ fn is_at(states: &[State], place: u32, key: &[u32]) -> bool
 
 /// The place of the state of this key and hash; none where there is no such state. Adds to `probes` how many slots it
 /// looked at in vain.
-fn find(states: &[State], slots: &[Slot], key: &[u32], hash: u64, probes: &mut u64) -> Option<usize>
+fn find<W>(
+    states: &[State<W>],
+    slots: &[Slot],
+    key: &[u32],
+    hash: u64,
+    probes: &mut u64,
+) -> Option<usize>
     requires { AreFound (told states.now) slots.now }
-    ensures some { IfSome result (λ k. (s : State) × (slice_get states.now k ≡ Some s) × (s.key.items ≡ key.now)) }
-    ensures none { IfNone result ((k : ℕ) (s : State) → slice_get states.now k ≡ Some s → s.hash ≡ hash
+    ensures some { IfSome result (λ k. (s : State W) × (slice_get states.now k ≡ Some s) × (s.key.items ≡ key.now)) }
+    ensures none { IfNone result ((k : ℕ) (s : State W) → slice_get states.now k ≡ Some s → s.hash ≡ hash
         → s.key.items ≢ key.now) }
 {
     let many = slots.len();
@@ -211,28 +218,28 @@ fn find(states: &[State], slots: &[Slot], key: &[u32], hash: u64, probes: &mut u
     None
 }
 
-/// Adds ways to a state. Returns how many limbs its number had, and has.
-fn more_ways(
-    states: &mut Vec<State>,
+/// Joins a worth to that of a state. Returns how many limbs it had, and has.
+fn join_at<W: Worth>(
+    states: &mut Vec<State<W>>,
     place: usize,
-    ways: &Natural,
+    worth: &W,
 ) -> Result<(usize, usize), CountError>
     requires { place < length states.old.items }
-    ensures worth { IfOk result (λ _. (s : State) → slice_get states.old.items place ≡ Some s → (f : List ℕ → ℕ)
-        → worth_by f states.new.items ≡ worth_by f states.old.items + ways.now * f s.key.items) }
-    ensures keys { IfOk result (λ _. (q : List ℕ → Bool) → EachKey q states.old.items → EachKey q states.new.items) }
+    ensures joined { IfOk result (λ _. (s : State W) → slice_get states.old.items place ≡ Some s
+        → AreApart (told states.old.items) → keyed states.new.items
+        ≡ with_added W.joined s.key.items worth.now (keyed states.old.items)) }
     ensures same { told states.new.items ≡ told states.old.items }
-    ensures limbs { IfOk result (λ limbs. charged states.new.items + 8 * limbs.0
-        ≡ charged states.old.items + 8 * limbs.1) }
-    ensures failed { OnErr result (charged states.new.items ≡ charged states.old.items) }
+    ensures limbs { IfOk result (λ limbs. charged W.limbs_of states.new.items + 8 * limbs.0
+        ≡ charged W.limbs_of states.old.items + 8 * limbs.1) }
+    ensures failed { OnErr result (charged W.limbs_of states.new.items ≡ charged W.limbs_of states.old.items) }
 {
-    let before = states[place].ways.limbs();
-    states[place].ways.add_assign(ways)?;
-    Ok((before, states[place].ways.limbs()))
+    let before = states[place].worth.limbs();
+    states[place].worth.join(worth)?;
+    Ok((before, states[place].worth.limbs()))
 }
 
 /// The last state, taken off.
-pub fn pop_state(states: &mut Vec<State>) -> Option<State>
+pub fn pop_state<W>(states: &mut Vec<State<W>>) -> Option<State<W>>
     ensures some { IfSome result (λ s. states.old.items ≡ states.new.items ++ s ∷ []) }
     ensures none { IfNone result (states.old.items ≡ []) }
 {
@@ -240,7 +247,7 @@ pub fn pop_state(states: &mut Vec<State>) -> Option<State>
 }
 
 /// Adds a state at the end.
-fn push_state(states: &mut Vec<State>, state: State) -> Result<(), CountError>
+fn push_state<W: Drop>(states: &mut Vec<State<W>>, state: State<W>) -> Result<(), CountError>
     ensures pushed { OnOk result (states.new.items ≡ states.old.items ++ state ∷ []) }
     ensures full { OnErr result (states.new.items ≡ states.old.items) }
 {
@@ -249,21 +256,26 @@ fn push_state(states: &mut Vec<State>, state: State) -> Result<(), CountError>
 }
 
 /// A state of this key.
-fn new_state(alloc: Global, key: &[u32], hash: u64, ways: &Natural) -> Result<State, CountError>
+fn new_state<W: Worth>(
+    alloc: Global,
+    key: &[u32],
+    hash: u64,
+    worth: &W,
+) -> Result<State<W>, CountError>
     ensures key { IfOk result (λ s. s.key.items ≡ key.now) }
     ensures hash { IfOk result (λ s. s.hash ≡ hash) }
-    ensures ways { IfOk result (λ s. s.ways ≡ ways.now) }
+    ensures worth { IfOk result (λ s. s.worth ≡ worth.now) }
 {
     Ok(State {
         key: Vec::from_slice(alloc, key)?,
         hash,
-        ways: ways.clone()?,
+        worth: worth.copy_worth()?,
     })
 }
 
-impl Layer {
+impl<W: Worth> Layer<W> {
     /// No states of a problem, and how many bytes they may take. Their keys are hashed by the problem's seed.
-    pub fn new(alloc: Global, problem: &Problem, bound: usize) -> Layer
+    pub fn new(alloc: Global, problem: &Problem, bound: usize) -> Layer<W>
         ensures none { result.states.items ≡ [] }
         ensures bound { result.bound ≤ bound }
         ensures seed { result.seed ≡ problem.now.seed }
@@ -292,10 +304,10 @@ impl Layer {
         bound.saturating_sub(self.bytes)
     }
 
-    /// The work of adding ways to the state of a key, which is new or not, after looking at so many slots in vain, in
+    /// The work of adding a worth to the state of a key, which is new or not, after looking at so many slots in vain, in
     /// about nanoseconds.
     #[inline(always)]
-    fn work_of(&self, key: &[u32], ways: &Natural, is_new: bool, probes: u64) -> u64 {
+    fn work_of(&self, key: &[u32], worth: &W, is_new: bool, probes: u64) -> u64 {
         let table: u64 = match (is_new, self.states.len() < CACHED) {
             (false, true) => 20,
             (false, false) => 230,
@@ -305,19 +317,19 @@ impl Layer {
         let marks = key.len() as u64;
         table
             .wrapping_add(marks.wrapping_add(marks / 2))
-            .wrapping_add((ways.limbs() as u64).wrapping_mul(LIMB_WORK))
+            .wrapping_add((worth.limbs() as u64).wrapping_mul(LIMB_WORK))
             .wrapping_add(probes.wrapping_mul(PROBE_WORK))
     }
 
-    /// How many bytes the states take with one of this key and number.
-    fn bytes_with(&self, key: &[u32], ways: &Natural) -> Result<usize, CountError>
-        ensures more { IfOk result (λ bytes. bytes ≡ self.now.bytes + state_bytes key.now ways.now) }
+    /// How many bytes the states take with one of this key and worth.
+    fn bytes_with(&self, key: &[u32], worth: &W) -> Result<usize, CountError>
+        ensures more { IfOk result (λ bytes. bytes ≡ self.now.bytes + state_bytes key.now (W.limbs_of worth.now)) }
         ensures within { IfOk result (λ bytes. bytes ≤ self.now.bound) }
     {
         let bytes = key
             .len()
             .saturating_mul(MARK_BYTES)
-            .saturating_add(ways.limbs().saturating_mul(LIMB_BYTES))
+            .saturating_add(worth.limbs().saturating_mul(LIMB_BYTES))
             .saturating_add(STATE_BYTES)
             .saturating_add(self.bytes);
         if bytes > self.bound {
@@ -341,10 +353,12 @@ impl Layer {
     }
 
     /// Adds a state, with which they take so many bytes.
-    fn push(&mut self, state: State, bytes: usize) -> Result<(), CountError>
-        requires more { bytes ≡ self.old.bytes + state_bytes state.key.items state.ways }
+    fn push(&mut self, state: State<W>, bytes: usize) -> Result<(), CountError>
+        requires more { bytes ≡ self.old.bytes + state_bytes state.key.items (W.limbs_of state.worth) }
         requires within { bytes ≤ self.old.bound }
         requires hashed { state.hash ≡ hash_by self.old.seed state.key.items }
+        requires fresh { (k : ℕ) (s : State W) → slice_get self.old.states.items k ≡ Some s
+            → s.key.items ≢ state.key.items }
         ensures states { OnOk result (self.new.states.items ≡ self.old.states.items ++ state ∷ []) }
         ensures bound { self.new.bound ≡ self.old.bound }
     {
@@ -360,9 +374,9 @@ impl Layer {
 
     /// The place of the state of a key; none where there is no such state.
     pub fn place_of(&self, key: &[u32]) -> Option<usize>
-        ensures some { IfSome result (λ k. (s : State) × (slice_get self.now.states.items k ≡ Some s)
+        ensures some { IfSome result (λ k. (s : State W) × (slice_get self.now.states.items k ≡ Some s)
             × (s.key.items ≡ key.now)) }
-        ensures none { IfNone result ((k : ℕ) (s : State) → slice_get self.now.states.items k ≡ Some s
+        ensures none { IfNone result ((k : ℕ) (s : State W) → slice_get self.now.states.items k ≡ Some s
             → s.key.items ≢ key.now) }
     {
         find(
@@ -374,18 +388,15 @@ impl Layer {
         )
     }
 
-    /// Adds ways to the state at a place.
+    /// Joins a worth to that of the state at a place.
     #[inline(always)]
-    fn add_at(&mut self, place: usize, ways: &Natural) -> Result<(), CountError>
+    fn add_at(&mut self, place: usize, worth: &W) -> Result<(), CountError>
         requires { place < length self.old.states.items }
-        ensures worth { OnOk result ((s : State) → slice_get self.old.states.items place ≡ Some s
-            → (f : List ℕ → ℕ) → worth_by f self.new.states.items
-            ≡ worth_by f self.old.states.items + ways.now * f s.key.items) }
-        ensures keys { OnOk result ((q : List ℕ → Bool) → EachKey q self.old.states.items
-            → EachKey q self.new.states.items) }
+        ensures added { OnOk result ((s : State W) → slice_get self.old.states.items place ≡ Some s
+            → keyed self.new.states.items ≡ with_added W.joined s.key.items worth.now (keyed self.old.states.items)) }
         ensures bound { self.new.bound ≡ self.old.bound }
     {
-        let (before, after) = more_ways(&mut self.states, place, ways)?;
+        let (before, after) = join_at(&mut self.states, place, worth)?;
         if before == after {
             return Ok(());
         }
@@ -400,12 +411,15 @@ impl Layer {
         Ok(())
     }
 
-    /// Adds ways to the state of a key, which is added if it is not there.
-    pub fn add(&mut self, key: &[u32], ways: &Natural) -> Result<(), CountError>
-        ensures worth { OnOk result ((f : List ℕ → ℕ) → worth_by f self.new.states.items
-            ≡ worth_by f self.old.states.items + ways.now * f key.now) }
-        ensures keys { OnOk result ((q : List ℕ → Bool) → EachKey q self.old.states.items → q key.now ≡ true
-            → EachKey q self.new.states.items) }
+    /// Adds a worth to the state of a key: it is joined to what that was worth, or is all that it is worth where there
+    /// was no such state.
+    ///
+    /// # Errors
+    /// `OutOfBound` where the states would take more bytes than they may, and `Memory` where there is none. The layer
+    /// is then of no more use.
+    pub fn add(&mut self, key: &[u32], worth: &W) -> Result<(), CountError>
+        ensures added { OnOk result (keyed self.new.states.items
+            ≡ with_added W.joined key.now worth.now (keyed self.old.states.items)) }
         ensures bound { self.new.bound ≡ self.old.bound }
     {
         let hash = hash_of(self.seed, key);
@@ -417,29 +431,13 @@ impl Layer {
             hash,
             &mut probes,
         );
-        let work = self.work_of(key, ways, found.is_none(), probes);
+        let work = self.work_of(key, worth, found.is_none(), probes);
         self.work = self.work.wrapping_add(work);
         if let Some(place) = found {
-            return self.add_at(place, ways);
+            return self.add_at(place, worth);
         }
-        let bytes = self.bytes_with(key, ways)?;
-        let state = new_state(self.alloc, key, hash, ways)?;
+        let bytes = self.bytes_with(key, worth)?;
+        let state = new_state(self.alloc, key, hash, worth)?;
         self.push(state, bytes)
     }
-}
-
-/// A layer of one state, to which there is one way.
-pub fn layer_of(
-    alloc: Global,
-    problem: &Problem,
-    key: &[u32],
-    bound: usize,
-) -> Result<Layer, CountError>
-    ensures worth { IfOk result (λ l. (f : List ℕ → ℕ) → worth_by f l.states.items ≡ f key.now) }
-    ensures keys { IfOk result (λ l. (q : List ℕ → Bool) → q key.now ≡ true → EachKey q l.states.items) }
-    ensures room { IfOk result (λ l. l.bytes ≤ bound) }
-{
-    let mut layer = Layer::new(alloc, problem, bound);
-    layer.add(key, &Natural::from_u64(alloc, 1))?;
-    Ok(layer)
 }

@@ -7,10 +7,11 @@ ghost use Rattle.xc_search.specs.Once.{IsOnce};
 ghost use Rattle.xc_count.specs.inner.Plans.{IsPlan, IsStep};
 ghost use Rattle.xc_count.specs.inner.Worth.{holds_first, key_below, worth_by};
 
+use crate::counted::{CountLayer, layer_of};
 use crate::errors::{CountError, Halted};
 use crate::holding::Holding;
 use crate::keys::{mark_of, without_first};
-use crate::layer::{Layer, layer_of, pop_state};
+use crate::layer::pop_state;
 use crate::plan::{Plan, Step};
 use crate::rival::Rival;
 use crate::sweeping::pass;
@@ -19,13 +20,13 @@ use std::alloc::Global;
 use xc_input::Problem;
 
 /// The ways to all states of a layer.
-fn total(alloc: Global, layer: Layer) -> Result<Natural, CountError>
+fn total(alloc: Global, layer: CountLayer) -> Result<Natural, CountError>
     ensures { IfOk result (λ n. n ≡ worth_by (λ key. 1) layer.states.items) }
 {
     let mut states = layer.states;
     let mut sum = Natural::zero(alloc);
     while let Some(state) = pop_state(&mut states) {
-        sum.add_assign(&state.ways)?;
+        sum.add_assign(&state.worth)?;
     }
     Ok(sum)
 }

@@ -6,6 +6,7 @@ mod beside;
 mod branches;
 mod by_option;
 mod by_states;
+mod counted;
 mod counting;
 mod errors;
 mod finding;
@@ -33,6 +34,7 @@ mod states;
 mod sweeping;
 mod taken;
 mod times;
+mod worth;
 
 pub use counting::{Counting, count, count_by_turns, one_number_of_covers};
 pub use finding::{Finding, nth, nth_by_turns};

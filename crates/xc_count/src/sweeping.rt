@@ -11,8 +11,9 @@ ghost use Rattle.std.specs.Prelude.{ℕ, ◌≡◌, ◌≤◌, ◌+◌, ◌*◌,
 ghost use Rattle.xc_count.specs.inner.Worth.{EachKey, worth_by};
 
 use crate::beside::Beside;
+use crate::counted::{CountLayer, CountState};
 use crate::errors::Halted;
-use crate::layer::{Layer, State};
+use crate::layer::Layer;
 use crate::states::States;
 use std::alloc::Global;
 use xc_input::Problem;
@@ -33,8 +34,8 @@ pub trait PassOn {
     /// Adds what a state becomes to the next layer, unless what is beside the sweep ends first.
     fn pass_on<B: Beside>(
         &self,
-        state: &State,
-        next: &mut Layer,
+        state: &CountState,
+        next: &mut CountLayer,
         scratch: &mut Vec<u32>,
         beside: &mut B,
     ) -> Result<(), Halted>
@@ -42,7 +43,7 @@ pub trait PassOn {
         requires takes { takes self.now state.now.key.items ≡ true }
         requires makes { EachKey (makes self.now) next.old.states.items }
         ensures worth { OnOk result ((f g : List ℕ → ℕ) → weighs self.now f g → worth_by g next.new.states.items
-            ≡ worth_by g next.old.states.items + state.now.ways * f state.now.key.items) }
+            ≡ worth_by g next.old.states.items + state.now.worth * f state.now.key.items) }
         ensures makes { OnOk result (EachKey (makes self.now) next.new.states.items) }
         ensures bound { next.new.bound ≡ next.old.bound }
         ensures same { B.searched beside.new ≡ B.searched beside.old };
@@ -56,7 +57,7 @@ pub fn pass<P: PassOn, S: States + Drop, B: Beside>(
     mut states: S,
     room: usize,
     beside: &mut B,
-) -> Result<Layer, Halted>
+) -> Result<CountLayer, Halted>
     requires step { P.is_step passing.now }
     requires takes { EachKey (P.takes passing.now) (S.left states) }
     ensures worth { IfOk result (λ l. (f g : List ℕ → ℕ) → P.weighs passing.now f g

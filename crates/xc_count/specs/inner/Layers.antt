@@ -3,23 +3,22 @@
 use Rattle.std.specs.Prelude.{ℕ, zero, suc, ◌≡◌, ◌+◌, ◌*◌, ◌^◌, ◌/◌, ◌%◌, ◌==◌, ◌&&◌, ◌||◌, Bool, true, false, not}
 use Rattle.std.specs.Prelude.{List, [], ◌∷◌, Option, Some, None, fold, length, map, sum_by, slice_get, if◌then◌else◌}
 use Rattle.std.specs.Hash.{le_bytes}
-use Rattle.natural.specs.Numerals.{limbs_above}
 use Rattle.xc_text.specs.Hashing.{folded, hashed}
 use Rattle.xc_text.specs.declared.seed.Seed.{Seed}
 use Rattle.xc_count.specs.declared.layer.Slot.{Slot}
 use Rattle.xc_count.specs.declared.layer.State.{State}
 
 -- the key and the hash of each state
-abbrev pub told : List State → List (List ℕ × ℕ)
+abbrev pub told : {W : Type 0} → List (State W) → List (List ℕ × ℕ)
 told ss = map (λ s. (s.key.items, s.hash)) ss
 
--- the bytes that a state counts for: 160, four for each mark of its key, and eight for each limb of its number
+-- the bytes that a state counts for: 160, four for each mark of its key, and eight for each limb of its worth
 abbrev pub state_bytes : List ℕ → ℕ → ℕ
-state_bytes key ways = 4 * length key + 8 * limbs_above ways + 160
+state_bytes key limbs = 4 * length key + 8 * limbs + 160
 
--- and all of them
-abbrev pub charged : List State → ℕ
-charged ss = sum_by (λ s. state_bytes s.key.items s.ways) ss
+-- and all of them, by how many limbs a worth has
+abbrev pub charged : {W : Type 0} → (W → ℕ) → List (State W) → ℕ
+charged limbs ss = sum_by (λ s. state_bytes s.key.items (limbs s.worth)) ss
 
 -- what a key writes to its hash: two marks as one number
 abbrev pub key_words : List ℕ → List (List ℕ)
@@ -34,6 +33,10 @@ hash_by seed key = folded seed.multiplier (fold (hashed seed.multiplier) seed.st
 -- each state has the hash of its key
 abbrev pub AreHashed : Seed → List (List ℕ × ℕ) → Type 0
 AreHashed seed ts = (k : ℕ) (t : List ℕ × ℕ) → slice_get ts k ≡ Some t → t.1 ≡ hash_by seed t.0
+
+-- no two places have one key
+abbrev pub AreApart : List (List ℕ × ℕ) → Type 0
+AreApart ts = (j k : ℕ) (s t : List ℕ × ℕ) → slice_get ts j ≡ Some s → slice_get ts k ≡ Some t → s.0 ≡ t.0 → j ≡ k
 
 -- the slot after this one of so many; after the last is the first
 abbrev pub slot_after : ℕ → ℕ → ℕ

@@ -5,7 +5,7 @@ use Rattle.xc_input.specs.Problem.{Puzzle, uses_of}
 use Rattle.xc_search.specs.Listing.{Residual}
 use Rattle.xc_count.specs.declared.kept.Ahead.{Ahead}
 use Rattle.xc_count.specs.declared.kept.Kept.{Kept}
-use Rattle.xc_count.specs.declared.layer.State.{State}
+use Rattle.xc_count.specs.inner.Worth.{CountState}
 use Rattle.xc_count.specs.declared.plan.Plan.{Plan}
 use Rattle.xc_count.specs.declared.plan.Step.{Step}
 use Rattle.xc_count.specs.inner.Held.{Held, agree, left_by, holding_uses}
@@ -17,7 +17,7 @@ abbrev pub left_worth : (Residual → ℕ) → Puzzle → Plan → ℕ → List 
 left_worth h p plan from key = h (left_by p (says plan from key))
 
 -- the states by what is left of them
-abbrev pub worth_left : (Residual → ℕ) → Puzzle → Plan → ℕ → List State → ℕ
+abbrev pub worth_left : (Residual → ℕ) → Puzzle → Plan → ℕ → List CountState → ℕ
 worth_left h p plan from ss = worth_by (left_worth h p plan from) ss
 
 -- what is left once option o is taken, if it fits

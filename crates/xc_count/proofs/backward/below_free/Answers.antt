@@ -28,8 +28,8 @@ loop-k-init c =
     (order_at p plan c.requires.plan step.place c.requires.step.within) c.requires.free) in
     record {
       sum = omega (arith, whole);
-      counts = more_none (λ x. c.args.state.now.ways * sum_by (with_same p s x) (take 0 c.args.options.now))
-          c.args.counts.now.items c.args.counts.now.items refl (λ x. times_none c.args.state.now.ways);
+      counts = more_none (λ x. c.args.state.now.worth * sum_by (with_same p s x) (take 0 c.args.options.now))
+          c.args.counts.now.items c.args.counts.now.items refl (λ x. times_none c.args.state.now.worth);
     }
 
 pub below_option-requires-clause-known : goal.below_option-requires-clause-known
@@ -62,7 +62,7 @@ loop-k-preserved-in_default c =
     record {
       sum = sum_less (with_number p s) k c.loop-k.sum 0 c.loop-k.sum _ os (omega arith) c.loop-k.invariant.sum
           (omega arith) (sym none);
-      counts = same_passed p s c.args.state.now.ways os k (omega arith) c.args.counts.now.items c.loop-k.counts.items
+      counts = same_passed p s c.args.state.now.worth os k (omega arith) c.args.counts.now.items c.loop-k.counts.items
           c.loop-k.invariant.counts none;
     }
 
@@ -79,6 +79,6 @@ loop-k-preserved c =
     record {
       sum = sum_less (with_number p s) k c.loop-k.sum n c.add_assign.new.self _ os (omega arith)
           c.loop-k.invariant.sum c.in_ok-add_assign.ensures.sum agreed;
-      counts = same_added p s c.args.state.now.ways os k (omega arith) c.args.counts.now.items c.loop-k.counts.items
+      counts = same_added p s c.args.state.now.worth os k (omega arith) c.args.counts.now.items c.loop-k.counts.items
           c.loop-k.invariant.counts n c.add_covers.new.counts.items agreed c.in_ok-add_covers.ensures;
     }

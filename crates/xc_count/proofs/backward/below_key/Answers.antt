@@ -1,5 +1,5 @@
 use Rattle.std.proofs.Common.{◌∙◌, ◌-◌, ap, sym, drop, get_or}
-use Rattle.xc_count.specs.declared.layer.State.{State}
+use Rattle.xc_count.specs.inner.Worth.{CountState}
 use Rattle.xc_count.specs.inner.Worth.{key_below}
 use Rattle.xc_count.proofs.Passed.{at_map}
 use Rattle.xc_count.proofs.PlanLemmas.{key_moved}
@@ -13,7 +13,7 @@ returns-in-Some c =
     let ahead = c.args.ahead.now in
     let key = c.args.key.now in
     let found = c.in-Some.ensures.some in
-    let f = λ (s : State). key_below p plan ahead.from s.key.items in
+    let f = λ (s : CountState). key_below p plan ahead.from s.key.items in
     let at = at_map f ahead.layer.states.items c.in-Some.place found.0 found.1 in
     c.index.ensures
     ∙ ap (λ ns. get_or ns c.in-Some.place c.index.result.now) c.requires.below

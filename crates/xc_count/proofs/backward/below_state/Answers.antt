@@ -21,9 +21,9 @@ returns-clause-counts c =
     let options : c.options_of-options.result.now ≡ options_with p (step_item plan step) =
     grind (arith, common_steps) in
     on_ok_weaker c.below_free.result (λ more. more_same
-    (λ x. c.args.state.now.ways * sum_by (with_same p (says plan step.from key) x) c.options_of-options.result.now)
-    (λ x. c.args.state.now.ways * taken_here p plan step x key) _ _ more
-    (λ x. ap (λ os. c.args.state.now.ways * sum_by (with_same p (says plan step.from key) x) os) options
-    ∙ sym (ap (λ o. c.args.state.now.ways * cond (is_some o) 0
+    (λ x. c.args.state.now.worth * sum_by (with_same p (says plan step.from key) x) c.options_of-options.result.now)
+    (λ x. c.args.state.now.worth * taken_here p plan step x key) _ _ more
+    (λ x. ap (λ os. c.args.state.now.worth * sum_by (with_same p (says plan step.from key) x) os) options
+    ∙ sym (ap (λ o. c.args.state.now.worth * cond (is_some o) 0
     (sum_by (with_same p (says plan step.from key) x) (options_with p (step_item plan step)))) free)))
     c.below_free.ensures.counts

@@ -1,7 +1,7 @@
 use Rattle.std.proofs.Common.{arith, ◌≡◌, ◌+◌, ◌*◌, ◌∙◌, ap, sym, refl, get_or, take, map, subst}
 use Rattle.std.proofs.lemmas.List.{take_all}
 use Rattle.std.proofs.lemmas.List.Sums.{sum_by_more}
-use Rattle.xc_count.specs.declared.layer.State.{State}
+use Rattle.xc_count.specs.inner.Worth.{CountState}
 use Rattle.xc_count.specs.inner.Passed.{AreMore, taken_here}
 use Rattle.xc_count.specs.inner.Worth.{key_below, worth_by}
 use Rattle.xc_count.proofs.Passed.{map_pushed, more_none, more_then}
@@ -24,24 +24,24 @@ loop-state-preserved c =
     let s = c.state-item.result in
     let at : s ≡ get_or ss k s = c.state-item.is ∙ ap (λ ts. get_or ts k s) c.deref-state-items.ensures.value in
     record {
-      below = map_pushed (λ (t : State). key_below p plan step.from t.key.items) ss c.loop-state.below.items
+      below = map_pushed (λ (t : CountState). key_below p plan step.from t.key.items) ss c.loop-state.below.items
           c.push.new.self.items k c.in_ok-covers.covers s (omega arith) c.loop-state.invariant.below
-          (c.in_ok-covers.ensures.below ∙ ap (λ (t : State). key_below p plan step.from t.key.items) at)
+          (c.in_ok-covers.ensures.below ∙ ap (λ (t : CountState). key_below p plan step.from t.key.items) at)
           c.in_ok-push.ensures.items;
       counts = more_then (λ x. worth_by (taken_here p plan step x) (take k ss))
-          (λ x. s.ways * taken_here p plan step x s.key.items)
+          (λ x. s.worth * taken_here p plan step x s.key.items)
           (λ x. worth_by (taken_here p plan step x) (take (k + 1) ss)) c.args.counts.now.items c.loop-state.counts.items
           c.below_state.new.counts.items c.loop-state.invariant.counts c.in_ok-covers.ensures.counts
           (λ x.
-          let f = λ (t : State). t.ways * taken_here p plan step x t.key.items in
+          let f = λ (t : CountState). t.worth * taken_here p plan step x t.key.items in
           let more = sum_by_more f ss k s (omega arith) in
-          let here : f (get_or ss k s) ≡ s.ways * taken_here p plan step x s.key.items = ap f (sym at) in
+          let here : f (get_or ss k s) ≡ s.worth * taken_here p plan step x s.key.items = ap f (sym at) in
           omega (arith, more, here));
     }
 
 pub returns-clause-below : goal.returns-clause-below
 returns-clause-below c = c.loop-state.invariant.below
-    ∙ ap (map (λ (t : State).
+    ∙ ap (map (λ (t : CountState).
     key_below c.args.problem.now.puzzle c.args.plan.now c.args.kept.now.step.from t.key.items))
     (take_all c.loop-state.state-index c.args.kept.now.layer.states.items (omega arith))
 

@@ -3,7 +3,6 @@ use Rattle.std.specs.Prelude.{nat_lt}
 use Rattle.std.proofs.lemmas.List.{get_or_past}
 use Rattle.std.proofs.lemmas.Result.{IfOk-weaker}
 use Rattle.xc_text.proofs.ListLemmas.{by_bool}
-use Rattle.xc_count.specs.declared.layer.Layer.{Layer}
 use Rattle.xc_count.specs.inner.ByOption.{marks_in, ways, ways_from}
 use Rattle.xc_count.specs.inner.Worth.{worth_by}
 use Rattle.xc_count.proofs.Forgetting.{ways_same}
@@ -20,5 +19,5 @@ returns c = λ os.
     let same : f key ≡ ways p os (λ i. 0) = ways_same p os (marks_in key) (λ i. 0) zero in
     let here : f read ≡ f key = ap f c.as_slice.ensures.value in
     IfOk-weaker c.layer_of.result
-    (λ (l : Layer). (f : List ℕ → ℕ) → worth_by f l.states.items ≡ f read)
-    (λ (l : Layer). worth_by f l.states.items ≡ ways p os (λ i. 0)) (λ l e. e f ∙ here ∙ same) c.layer_of.ensures.worth
+    (λ l. (f : List ℕ → ℕ) → worth_by f l.states.items ≡ f read)
+    (λ l. worth_by f l.states.items ≡ ways p os (λ i. 0)) (λ l e. e f ∙ here ∙ same) c.layer_of.ensures.worth

@@ -33,8 +33,8 @@ returns-then-mark_of-gt0-clause-left g c = λ h.
     (c.without_first.ensures ∙ ap (drop (step.next - step.from)) c.as_slice-key.ensures.value)
     ∙ ap h (left_moved p plan c.requires.plan step c.requires.step key c.requires.valid held)
     ∙ sym (ap (λ b. cond b (h (left_by p s)) (sum_by (worth_taken h p s) (options_with p i))) here) in
-    c.in_ok-add.ensures.worth (left_worth h p plan step.next)
-    ∙ ap (λ n. worth_left h p plan step.next c.args.layer.now.states.items + c.args.state.now.ways * n) same
+    c.in_ok-add_ways.ensures.worth (left_worth h p plan step.next)
+    ∙ ap (λ n. worth_left h p plan step.next c.args.layer.now.states.items + c.args.state.now.worth * n) same
 
 pub returns-then-mark_of-gt0-clause-others : goal.returns-then-mark_of-gt0-clause-others
 returns-then-mark_of-gt0-clause-others g c =
@@ -49,7 +49,7 @@ returns-then-mark_of-gt0-clause-others g c =
     ∙ ap s (c.index-item.ensures
     ∙ get_or_default plan.order.items step.place c.index-item.result.now 0 c.requires.step.within) in
     let here : is_some (s i) ≡ true = marked c.mark_of.result (s i) mark (omega (arith, c.if-mark_of-gt0.true)) in
-    c.in_ok-add.ensures.keys (holds_first plan (step.place + 1) step.next) c.requires.others
+    c.in_ok-add_ways.ensures.keys (holds_first plan (step.place + 1) step.next) c.requires.others
     (ap (holds_first plan (step.place + 1) step.next)
     (c.without_first.ensures ∙ ap (drop (step.next - step.from)) c.as_slice-key.ensures.value)
     ∙ held_moved p plan c.requires.plan step c.requires.step key
@@ -71,7 +71,7 @@ returns-clause-left g c =
     let free = unmarked c.mark_of.result (s i) mark (omega (arith, c.if-mark_of-gt0.false)) in
     let options = c.options_of-options.ensures ∙ ap (options_with p) item in
     on_ok_weaker c.split.result (λ left h. left h
-    ∙ ap (λ n. worth_left h p plan step.next c.args.layer.now.states.items + c.args.state.now.ways * n)
+    ∙ ap (λ n. worth_left h p plan step.next c.args.layer.now.states.items + c.args.state.now.worth * n)
     (ap (sum_by (worth_taken h p s)) options
     ∙ sym (ap (λ o. cond (is_some o) (h (left_by p s)) (sum_by (worth_taken h p s) (options_with p i))) free)))
     c.split.ensures.left

@@ -21,7 +21,7 @@ pub loop-k-preserved : goal.loop-k-preserved
 loop-k-preserved g c =
     let s = says c.args.plan.now c.args.step.from c.args.state.now.key.items in
     record {
-      left = λ h. sum_more (worth_taken h c.args.problem.now.puzzle s) c.loop-k.k c.args.state.now.ways _ _ _
+      left = λ h. sum_more (worth_taken h c.args.problem.now.puzzle s) c.loop-k.k c.args.state.now.worth _ _ _
           c.args.options.now (omega arith) (c.loop-k.invariant.left h) (c.in_ok-take.ensures.left h);
       others = c.in_ok-take.ensures.held c.loop-k.invariant.others;
       bound = c.take.ensures.bound ∙ c.loop-k.invariant.bound;
@@ -34,5 +34,5 @@ returns-clause-left g c = λ h.
     let f = worth_taken h c.args.problem.now.puzzle s in
     let end : sum_by f (drop c.loop-k.k c.args.options.now) ≡ 0 =
     ap (sum_by f) (drop_all c.loop-k.k c.args.options.now (omega arith)) in
-    let none : c.args.state.now.ways * sum_by f (drop c.loop-k.k c.args.options.now) ≡ 0 = rw end (omega arith) in
+    let none : c.args.state.now.worth * sum_by f (drop c.loop-k.k c.args.options.now) ≡ 0 = rw end (omega arith) in
     omega (arith, none, c.loop-k.invariant.left h)

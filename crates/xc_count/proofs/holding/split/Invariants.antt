@@ -8,10 +8,10 @@ use Rattle.xc_count.proofs.holding.split.Given as goal
 abbrev pub invariant-loop-k : goal.invariant-loop-k
 invariant-loop-k g l = record {
   left : (h : Residual → ℕ) → worth_left h l.problem.puzzle l.plan l.step.next l.layer.states.items
-      + l.state.ways * sum_by (worth_taken h l.problem.puzzle (says l.plan l.step.from l.state.key.items))
+      + l.state.worth * sum_by (worth_taken h l.problem.puzzle (says l.plan l.step.from l.state.key.items))
       (drop l.k l.options)
       ≡ worth_left h l.problem.puzzle l.plan l.step.next l.initial.layer.states.items
-      + l.state.ways * sum_by (worth_taken h l.problem.puzzle (says l.plan l.step.from l.state.key.items)) l.options;
+      + l.state.worth * sum_by (worth_taken h l.problem.puzzle (says l.plan l.step.from l.state.key.items)) l.options;
   others : EachKey (holds_first l.plan (l.step.place + 1) l.step.next) l.layer.states.items;
   bound : l.layer.bound ≡ l.initial.layer.bound;
   same : g.B.Beside.searched l.beside ≡ g.B.Beside.searched l.initial.beside;

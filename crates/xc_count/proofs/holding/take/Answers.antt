@@ -31,9 +31,9 @@ returns-clause-held c =
     let held : holds_first plan (step.place + 1) step.from marked ≡ true =
     held_taken p plan c.requires.plan step c.requires.step key marked c.args.option us uses c.requires.held
     c.requires.option is in
-    on_ok_weaker c.add.result (λ kept others. kept (holds_first plan (step.place + 1) step.next) others
+    on_ok_weaker c.add_ways.result (λ kept others. kept (holds_first plan (step.place + 1) step.next) others
     (ap (holds_first plan (step.place + 1) step.next) c.without_first-rest.ensures
-    ∙ held_moved p plan c.requires.plan step c.requires.step marked held)) c.add.ensures.keys
+    ∙ held_moved p plan c.requires.plan step c.requires.step marked held)) c.add_ways.ensures.keys
 
 pub returns-clause-left : goal.returns-clause-left
 returns-clause-left c =
@@ -62,6 +62,6 @@ returns-clause-left c =
     ∙ ap h (left_moved p plan c.requires.plan step c.requires.step marked valid held)
     ∙ left_taken p plan c.requires.plan step c.requires.step key h valid marked c.args.option us
     c.agree_counting-fits.result uses test agreed is in
-    on_ok_weaker c.add.result (λ more h. more (left_worth h p plan step.next)
-    ∙ ap (λ n. worth_left h p plan step.next c.args.layer.now.states.items + c.args.state.now.ways * n) (same h))
-    c.add.ensures.worth
+    on_ok_weaker c.add_ways.result (λ more h. more (left_worth h p plan step.next)
+    ∙ ap (λ n. worth_left h p plan step.next c.args.layer.now.states.items + c.args.state.now.worth * n) (same h))
+    c.add_ways.ensures.worth

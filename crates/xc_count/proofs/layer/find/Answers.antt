@@ -10,12 +10,12 @@ use Rattle.xc_count.proofs.layer.find.Goals.{else-tag-tag_of-via-else-tag-tag_of
 use Rattle.xc_count.proofs.layer.find.Goals as goal
 
 pub returns-then-many-eq0-clause-none : goal.returns-then-many-eq0-clause-none
-returns-then-many-eq0-clause-none c = λ k s e h q.
+returns-then-many-eq0-clause-none g c = λ k s e h q.
     finds_none c.args.slots.now s.hash (k + 1) c.if-many-eq0.true
     (c.requires k (s.key.items, s.hash) (told_at c.args.states.now k s e))
 
 pub loop-tried-init : goal.loop-tried-init
-loop-tried-init c = record {
+loop-tried-init g c = record {
   within = c.slot_of-slot.ensures.within;
   leads = λ k s e h q. finds_to c.args.slots.now c.args.hash (k + 1) (length c.args.slots.now) c.slot_of-slot.result
       refl c.slot_of-slot.ensures.is (subst (λ x. Finds c.args.slots.now x (k + 1)) h
@@ -23,7 +23,7 @@ loop-tried-init c = record {
 }
 
 pub returns-then-place-eq0-clause-none : goal.returns-then-place-eq0-clause-none
-returns-then-place-eq0-clause-none c = λ k s e h q.
+returns-then-place-eq0-clause-none g c = λ k s e h q.
     let slots = c.args.slots.now in
     let at = c.loop-tried.slot in
     let d : Slot = record { place = 0; tag = 0 } in
@@ -32,10 +32,10 @@ returns-then-place-eq0-clause-none c = λ k s e h q.
     (c.loop-tried.invariant.leads k s e h q) c.if-place-eq0.true
 
 pub returns-then-is_at-clause-some : goal.returns-then-is_at-clause-some
-returns-then-is_at-clause-some c = c.is_at.ensures.some c.if-is_at.true
+returns-then-is_at-clause-some g c = c.is_at.ensures.some c.if-is_at.true
 
 pub loop-tried-preserved : goal.loop-tried-preserved
-loop-tried-preserved c =
+loop-tried-preserved g c =
     let slots = c.args.slots.now in
     let at = c.loop-tried.slot in
     let d : Slot = record { place = 0; tag = 0 } in

@@ -8,7 +8,7 @@ use Rattle.xc_count.proofs.SlotLemmas.{told_at}
 use Rattle.xc_count.proofs.layer.slots_for.Goals as goal
 
 pub loop-k-preserved : goal.loop-k-preserved
-loop-k-preserved c = λ j t h e.
+loop-k-preserved g c = λ j t h e.
     let ss = c.args.states.now in
     let k = c.loop-k.k in
     let slots = c.fill_slot.new.slots.items in
@@ -27,7 +27,7 @@ loop-k-preserved c = λ j t h e.
     (subst (λ x. Finds slots s.hash x) place (c.fill_slot.ensures.filled (grind arith))))
 
 pub returns : goal.returns
-returns c = λ k t e.
+returns g c = λ k t e.
     let within = slice_get_within (told c.args.states.now) k t e in
     let len = length-map {B = List ℕ × ℕ} c.args.states.now (λ s. (s.key.items, s.hash)) in
     c.loop-k.invariant k t (omega (arith, within, len)) e

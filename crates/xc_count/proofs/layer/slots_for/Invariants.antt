@@ -4,5 +4,5 @@ use Rattle.xc_count.specs.inner.Layers.{Finds, told}
 use Rattle.xc_count.proofs.layer.slots_for.Given as goal
 
 abbrev pub invariant-loop-k : goal.invariant-loop-k
-invariant-loop-k l = (j : ℕ) (t : List ℕ × ℕ) → j < l.k → slice_get (told l.states) j ≡ Some t
+invariant-loop-k g l = (j : ℕ) (t : List ℕ × ℕ) → j < l.k → slice_get (told l.states) j ≡ Some t
     → Finds l.slots.items t.1 (j + 1)

@@ -9,7 +9,7 @@ returns-clause-worth g c = λ f k w.
     let o = c.args.self.now.option in
     let us = c.args.self.now.uses.now in
     let key = c.args.state.now.key.items in
-    let n = c.args.state.now.ways in
+    let n = c.args.state.now.worth in
     let os = w.0 in
     let both : ways_from p (o ∷ os) key ≡ ways_from p os key + ways_taken p os us key =
     ap (λ vs. ways_from p os key + ways_taken p os vs key) (sym c.requires.step.0) in
