@@ -10,13 +10,14 @@ use crate::by_states::occurrences_by_states;
 use crate::counting::{Counting, count_by_turns};
 use crate::errors::CountError;
 use crate::members::{all_members, pass};
+use crate::metered::Metered;
 use crate::plan::Plan;
 use crate::times::Times;
 use natural::Natural;
 use std::alloc::{AllocError, Global};
 use std::cell::Cell;
 use xc_input::Problem;
-use xc_search::{Choice, is_once};
+use xc_search::{Choice, Span, is_once};
 use xc_text::Memory;
 
 /// So many options that were never taken.
@@ -47,6 +48,22 @@ fn add_solution(alloc: Global, times: &mut [Times], solution: &[Choice]) -> Resu
     Ok(())
 }
 
+/// Adds one for each option of the solution that a search shows.
+fn add_shown<'a>(
+    alloc: Global,
+    times: &mut [Times],
+    span: &Span<'a, Metered<'a>>,
+) -> Result<(), AllocError>
+    requires known { All (λ o. (1 ≤ o) × (o ≤ length times.old)) (options_of span.now.shown) }
+    requires distinct { AllPairs (λ a b. a ≢ b) (options_of span.now.shown) }
+    ensures times { OnOk result ((o : ℕ) → 1 ≤ o → slice_index times.new (o - 1)
+        ≡ slice_index times.old (o - 1) + (if takes o span.now.shown then 1 else 0)) }
+    ensures len { length times.new ≡ length times.old }
+{
+    let solution = span.choices().to_vec(alloc)?;
+    add_solution(alloc, times, &solution)
+}
+
 /// The numbers of times.
 fn numbers_of(alloc: Global, times: &[Times]) -> Result<Vec<Natural>, AllocError>
     ensures { IfOk result (λ ns. ns.items ≡ times.now) }
@@ -72,7 +89,7 @@ pub fn each_by_search(alloc: Global, problem: &Problem) -> Result<(Natural, Vec<
     let mut span = all_members(alloc, problem, &gone_over)?;
     while pass(&mut span, 1) == 1 {
         covers.count_one(alloc)?;
-        add_solution(alloc, times.as_mut_slice(), span.choices())?;
+        add_shown(alloc, times.as_mut_slice(), &span)?;
     }
     let numbers = numbers_of(alloc, times.as_slice())?;
     Ok((covers.number(alloc)?, numbers))

@@ -70,7 +70,7 @@ pub fn nth_left<'a>(
     if !pass_many(alloc, span, number) || !pass_to(alloc, span, number) {
         return Ok(None);
     }
-    Ok(Some(Vec::from_slice(alloc, span.choices())?))
+    Ok(Some(span.choices().to_vec(alloc)?))
 }
 
 /// The solution of a number, from 1, by a search.

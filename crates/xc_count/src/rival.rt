@@ -317,7 +317,7 @@ impl<'a> Rival<'a> {
             return Ok(Some(nth_left(alloc, &mut span, &mut rest)?));
         }
         if *number == before && passed == most && most > 0 {
-            return Ok(Some(Some(Vec::from_slice(alloc, span.choices())?)));
+            return Ok(Some(Some(span.choices().to_vec(alloc)?)));
         }
         Ok(None)
     }

@@ -14,7 +14,6 @@
 mod asked;
 mod bodies;
 mod checked;
-mod choices;
 mod digest;
 mod digest_sink;
 mod ends;

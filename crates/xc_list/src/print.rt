@@ -3,16 +3,17 @@
 //! The lines of a solution are put together on a page, which is written when the solution ends: a little over half of
 //! the instructions of printing that writing piece by piece takes. The page isn't kept until it is full, so that a
 //! write that fails is one of the solution that it is reported for. The first lines that are those of the solution
-//! before stay on the page, up to 64 (a fifth): the marks of the walk's levels show which. Null lines, lines with a
+//! before stay on the page, up to 64 (a fifth): the marks of the search's levels show which. Null lines, lines with a
 //! number of three digits, and lines for which there is no room don't go on the page: it is written, the line after it
-//! piece by piece, and the next solution starts a new page. All lines of a span are put anew.
+//! piece by piece, and the next solution starts a new page. The solutions of a span go from the page into the digest of
+//! its text too.
 //!
 //! The end of a line is one number of eight bytes. That saves no instructions, but no load waits for bytes that were
 //! just stored. The function that writes a solution's lines is inlined into the run (4 % of the instructions of
 //! printing). A solution that the page doesn't take is written out of line, two digits without a call, and the two
 //! numbers of a line are tested one after the other: 1 % each.
 ghost use Rattle.std.specs.Prelude.{◌≡◌, ◌+◌, ◌<◌, ◌≤◌, ◌++◌, All, flat_map, OnErr, IsTrue, codes, length, take, drop};
-ghost use Rattle.std.specs.Prelude.{IfOk, IfSome, IsNone, MatchResult};
+ghost use Rattle.std.specs.Prelude.{IfOk, IfSome, IsNone, MatchResult, []};
 ghost use Rattle.xc_text.specs.Texts.{Writes, Took};
 ghost use Rattle.xc_input.specs.Problem.{IsItem};
 ghost use Rattle.xc_check.specs.UseTexts.{bytes_at};
@@ -23,14 +24,12 @@ ghost use Rattle.xc_list.specs.Known.{IsKnownChoice};
 ghost use Rattle.xc_list.specs.declared.places.TheConstants.{LINES, PADDING, ROOM};
 
 use crate::bodies::{Bodies, LaidOut};
-use crate::choices::Choices;
 use crate::digest_sink::DigestSink;
 use crate::page::{Kept, Page, put_bytes, put_header};
 use crate::places::{Held, LINES, Line};
 use crate::uses::write_name;
 use xc_input::Problem;
-use xc_moves::Dance;
-use xc_search::{Choice, Mark, Walk};
+use xc_search::{AtMember, Choice, Mark};
 use xc_text::{Sink, SinkFault, write_all, write_number, write_two_numbers};
 
 /// Writes that no option is taken.
@@ -246,13 +245,13 @@ fn write_past<S: Sink>(
 #[inline(always)]
 fn put_line<S: Sink>(
     bodies: &Bodies,
-    laid: &LaidOut,
+    laid: Option<&LaidOut>,
     choice: Choice,
     page: &mut [u8],
     held: Held,
     sink: &mut S,
 ) -> Result<Held, SinkFault>
-    requires same { laid.now ≡ bodies.now }
+    requires same { IfSome laid (λ l. l.now ≡ bodies.now) }
     requires known { IsKnownChoice bodies.now.puzzle choice }
     requires size { length page.old ≡ ROOM }
     requires within { (held.from ≤ held.to) × (held.to ≤ ROOM) }
@@ -261,209 +260,90 @@ fn put_line<S: Sink>(
     ensures within { IfOk result (λ h. (h.from ≤ h.to) × (h.to ≤ ROOM)) }
     ensures size { length page.new ≡ ROOM }
 {
-    if let Some(to) = put_choice(laid, choice, page, held.to) {
-        return Ok(Held {
-            from: held.from,
-            to,
-        });
+    if let Some(laid) = laid {
+        if let Some(to) = put_choice(laid, choice, page, held.to) {
+            return Ok(Held {
+                from: held.from,
+                to,
+            });
+        }
     }
     let Choice { item, option, k, n } = choice;
     write_past(bodies, item, option, k, n, &page[held.from..held.to], sink)?;
     Ok(Held { from: 0, to: 0 })
 }
 
-/// Puts the lines of a solution after what a page holds.
+/// Puts the lines of a solution after what a page holds. Where a line isn't put, what the page holds is written first.
 #[inline(always)]
-fn put_lines<C: Choices + Drop, S: Sink>(
+fn put_lines<W: AtMember, S: Sink>(
     bodies: &Bodies,
-    laid: &LaidOut,
-    solution: C,
+    laid: Option<&LaidOut>,
+    at: &W,
     page: &mut [u8],
     start: Held,
     sink: &mut S,
 ) -> Result<Held, SinkFault>
-    requires same { laid.now ≡ bodies.now }
-    requires known { All (IsKnownChoice bodies.now.puzzle) (C.left solution) }
+    requires same { IfSome laid (λ l. l.now ≡ bodies.now) }
+    requires puzzle { W.puzzle at.now ≡ bodies.now.puzzle }
+    requires known { All (IsKnownChoice bodies.now.puzzle) (W.shown at.now) }
     requires size { length page.old ≡ ROOM }
     requires within { (start.from ≤ start.to) × (start.to ≤ ROOM) }
     ensures put { IsPut (S.state sink.old) (S.state sink.new) (held_text page.old start.from start.to)
-        result page.new (flat_map (choice_text bodies.now) (C.left solution)) }
+        result page.new (flat_map (choice_text bodies.now) (W.shown at.now)) }
     ensures within { IfOk result (λ h. (h.from ≤ h.to) × (h.to ≤ ROOM)) }
     ensures size { length page.new ≡ ROOM }
 {
     let mut held = start;
-    let mut choices = solution;
-    while let Some(choice) = choices.next_choice() {
-        let next = put_line(bodies, laid, choice, page, held, sink)?;
+    let mut marks = at.marks();
+    while let Some(mark) = marks.next() {
+        let next = put_line(bodies, laid, at.choice_of(mark), page, held, sink)?;
         held = next;
     }
     Ok(held)
 }
 
-/// Writes a line for each choice of a solution.
-#[inline(always)]
-fn write_lines<C: Choices + Drop, S: Sink>(
-    solution: C,
-    bodies: &Bodies,
-    sink: &mut S,
-) -> Result<(), SinkFault>
-    requires { All (IsKnownChoice bodies.now.puzzle) (C.left solution) }
-    ensures { Writes (S.state sink.old) (S.state sink.new)
-        result (flat_map (choice_text bodies.now) (C.left solution)) }
-{
-    let mut choices = solution;
-    while let Some(choice) = choices.next_choice() {
-        write_choice(bodies, &choice, sink)?;
-    }
-    Ok(())
-}
-
-/// Writes a solution piece by piece: its number, and a line for each choice.
-#[inline(always)]
-fn write_in_pieces<C: Choices + Drop, S: Sink>(
-    number: u64,
-    solution: C,
-    bodies: &Bodies,
-    sink: &mut S,
-) -> Result<(), SinkFault>
-    requires { All (IsKnownChoice bodies.now.puzzle) (C.left solution) }
-    ensures { Writes (S.state sink.old) (S.state sink.new)
-        result (member_text bodies.now (number, C.left solution)) }
-{
-    write_number(sink, number)?;
-    write_all(sink, b":\n")?;
-    write_lines(solution, bodies, sink)
-}
-
-/// Writes a solution by a page that keeps no line. Where a line isn't put, what the page holds is written first.
-#[inline(always)]
-#[tactic(auto, using(xc_text::proofs::SinkLemmas::then_writes, std::proofs::lemmas::Slice::between_is))]
-pub fn write_afresh<C: Choices + Drop, S: Sink>(
-    number: u64,
-    solution: C,
-    bodies: &Bodies,
-    page: &mut [u8],
-    sink: &mut S,
-) -> Result<(), SinkFault>
-    requires known { All (IsKnownChoice bodies.now.puzzle) (C.left solution) }
-    requires size { length page.old ≡ ROOM }
-    ensures written { Writes (S.state sink.old) (S.state sink.new)
-        result (member_text bodies.now (number, C.left solution)) }
-    ensures size { length page.new ≡ ROOM }
-{
-    let Some(laid) = bodies.laid() else {
-        return write_in_pieces(number, solution, bodies, sink);
-    };
-    let header = put_header(page, number);
-    let held = put_lines(bodies, &laid, solution, page, header, sink)?;
-    write_all(sink, &page[held.from..held.to])
-}
-
-/// Puts a solution on an empty page; none where a line of it isn't put.
-#[inline(always)]
-fn put_all(laid: &LaidOut, number: u64, solution: &[Choice], page: &mut [u8]) -> Option<Held>
-    requires known { All (IsKnownChoice laid.now.puzzle) solution.now }
-    requires size { length page.old ≡ ROOM }
-    ensures put { IfSome result (λ held. held_text page.new held.from held.to
-        ≡ member_text laid.now (number, solution.now)) }
-    ensures within { IfSome result (λ held. (held.from ≤ held.to) × (held.to ≤ ROOM)) }
-    ensures size { length page.new ≡ ROOM }
-{
-    let header = put_header(page, number);
-    let mut to = header.to;
-    for choice in solution {
-        to = put_choice(laid, *choice, page, to)?;
-    }
-    Some(Held {
-        from: header.from,
-        to,
-    })
-}
-
-/// Notes a solution that isn't written by one page.
-fn note_afresh(
-    number: u64,
-    solution: &[Choice],
-    bodies: &Bodies,
-    page: &mut [u8],
-    text: &mut DigestSink,
-)
-    requires known { All (IsKnownChoice bodies.now.puzzle) solution.now }
-    requires size { length page.old ≡ ROOM }
-    ensures noted { Took (⟦<DigestSink as Sink>⟧.state text.old) (⟦<DigestSink as Sink>⟧.state text.new)
-        (member_text bodies.now (number, solution.now)) }
-    ensures size { length page.new ≡ ROOM }
-{
-    let _ = write_afresh(number, solution, bodies, page, text);
-}
-
-/// Writes a solution by a page that keeps no line, and takes it into the digest of a text. One that isn't written by
-/// one page is put together once for each.
-#[tactic(auto, using(std::proofs::lemmas::Slice::between_is))]
-pub fn write_noted<S: Sink>(
-    number: u64,
-    solution: &[Choice],
-    bodies: &Bodies,
-    page: &mut [u8],
-    text: &mut DigestSink,
-    sink: &mut S,
-) -> Result<(), SinkFault>
-    requires known { All (IsKnownChoice bodies.now.puzzle) solution.now }
-    requires size { length page.old ≡ ROOM }
-    ensures written { Writes (S.state sink.old) (S.state sink.new)
-        result (member_text bodies.now (number, solution.now)) }
-    ensures noted { Took (⟦<DigestSink as Sink>⟧.state text.old) (⟦<DigestSink as Sink>⟧.state text.new)
-        (member_text bodies.now (number, solution.now)) }
-    ensures size { length page.new ≡ ROOM }
-{
-    if let Some(laid) = bodies.laid() {
-        if let Some(held) = put_all(&laid, number, solution, page) {
-            let member = &page[held.from..held.to];
-            text.note(member);
-            return write_all(sink, member);
-        }
-    }
-    note_afresh(number, solution, bodies, page, text);
-    write_afresh(number, solution, bodies, page, sink)
-}
-
-/// Calls `write_afresh` with the solution that a walk shows.
+/// Writes a solution by a page that keeps no line.
 // Out of line: few solutions are as long.
+#[tactic(auto, using(xc_text::proofs::SinkLemmas::then_writes, std::proofs::lemmas::Slice::between_is))]
 #[inline(never)]
-fn write_long<'a, D: Dance, S: Sink>(
+fn write_long<W: AtMember, S: Sink>(
     number: u64,
-    walk: &Walk<'a, D>,
+    at: &W,
     bodies: &Bodies,
     page: &mut [u8],
     sink: &mut S,
 ) -> Result<(), SinkFault>
-    requires known { All (IsKnownChoice bodies.now.puzzle) walk.now.shown }
+    requires same { W.puzzle at.now ≡ bodies.now.puzzle }
+    requires known { All (IsKnownChoice bodies.now.puzzle) (W.shown at.now) }
     requires size { length page.old ≡ ROOM }
     ensures written { Writes (S.state sink.old) (S.state sink.new)
-        result (member_text bodies.now (number, walk.now.shown)) }
+        result (member_text bodies.now (number, W.shown at.now)) }
     ensures size { length page.new ≡ ROOM }
 {
-    write_afresh(number, walk.solution(), bodies, page, sink)
+    let laid = bodies.laid();
+    let header = put_header(page, number);
+    let held = put_lines(bodies, laid.as_ref(), at, page, header, sink)?;
+    write_all(sink, &page[held.from..held.to])
 }
 
 /// Keeps the line of a mark if it is on the page after the first `done` lines, else puts it there, and returns where it
 /// ends; none where it isn't put.
 #[inline(always)]
-fn keep_line<'a, D: Dance>(
+fn keep_line<W: AtMember>(
     laid: &LaidOut,
-    walk: &Walk<'a, D>,
+    at: &W,
     mark: Mark,
     done: usize,
-    at: usize,
+    from: usize,
     text: &mut [u8],
     kept: &mut Kept,
 ) -> Option<usize>
-    requires same { walk.now.puzzle ≡ laid.now.puzzle }
+    requires same { W.puzzle at.now ≡ laid.now.puzzle }
     requires mark { IsMark laid.now.puzzle mark }
     requires known { IsKnownChoice laid.now.puzzle (marked laid.now.puzzle mark) }
     requires kept { AreKept laid.now text.old kept.old }
     requires done { done ≤ length kept.old }
-    requires at { at ≡ lines_end laid.now (take done kept.old) }
+    requires from { from ≡ lines_end laid.now (take done kept.old) }
     requires size { length text.old ≡ ROOM }
     ensures kept { IfSome result (λ _. AreKept laid.now text.new kept.new) }
     ensures stands { IfSome result (λ _. MatchMark (done + 1) kept.new (take done kept.old) mark) }
@@ -474,7 +354,7 @@ fn keep_line<'a, D: Dance>(
     if let Some(end) = kept.end_of(done, mark) {
         return Some(end);
     }
-    let end = put_choice(laid, walk.choice_of(mark), text, at)?;
+    let end = put_choice(laid, at.choice_of(mark), text, from)?;
     if kept.put(done, Line { mark, end }) {
         Some(end)
     } else {
@@ -485,61 +365,127 @@ fn keep_line<'a, D: Dance>(
 /// Puts the lines of a solution on a page, where those that are at their places already are kept, and returns where
 /// they end; none where one isn't put.
 #[inline(always)]
-fn keep_lines<'a, D: Dance>(
+fn keep_lines<W: AtMember>(
     laid: &LaidOut,
-    walk: &Walk<'a, D>,
+    at: &W,
     text: &mut [u8],
     kept: &mut Kept,
 ) -> Option<usize>
-    requires same { walk.now.puzzle ≡ laid.now.puzzle }
-    requires known { All (IsKnownChoice laid.now.puzzle) walk.now.shown }
+    requires same { W.puzzle at.now ≡ laid.now.puzzle }
+    requires known { All (IsKnownChoice laid.now.puzzle) (W.shown at.now) }
     requires kept { AreKept laid.now text.old kept.old }
     requires size { length text.old ≡ ROOM }
     ensures kept { IfSome result (λ _. AreKept laid.now text.new kept.new) }
     ensures put { IfSome result (λ to. take to text.new
-        ≡ take LINES text.old ++ flat_map (choice_text laid.now) walk.now.shown) }
+        ≡ take LINES text.old ++ flat_map (choice_text laid.now) (W.shown at.now)) }
     ensures end { IfSome result (λ to. (LINES ≤ to) × (to ≤ ROOM)) }
     ensures size { length text.new ≡ ROOM }
 {
-    let mut at = LINES;
+    let mut end = LINES;
     let mut done = 0;
-    let mut marks = walk.marks();
+    let mut marks = at.marks();
     while let Some(mark) = marks.next() {
-        at = keep_line(laid, walk, mark, done, at, text, kept)?;
+        end = keep_line(laid, at, mark, done, end, text, kept)?;
         done += 1;
     }
-    Some(at)
+    Some(end)
 }
 
-/// Writes the solution that a walk shows. Where options are laid out, its lines are put together on a page and written
-/// at once, and the lines that are on the page from the last solution are kept.
-// It takes the walk and not a `Solution`, which holds its address: out of line the compiler would then copy the walk
-// once more at each call of `pass`. So nothing that takes a `Solution` is out of line.
-#[tactic(auto, using(crate::proofs::Writing::held_more, std::proofs::lemmas::Slice::between_is))]
+/// Puts the solution that a search is at on a page, where the lines that are there from the last solution are kept;
+/// none where it isn't put.
+#[tactic(auto, using(crate::proofs::Writing::held_more))]
 #[inline(always)]
-pub fn write_by_page<'a, D: Dance, S: Sink>(
+fn put_member<W: AtMember>(number: u64, at: &W, bodies: &Bodies, page: &mut Page) -> Option<Held>
+    requires same { W.puzzle at.now ≡ bodies.now.puzzle }
+    requires known { All (IsKnownChoice bodies.now.puzzle) (W.shown at.now) }
+    requires kept { AreKept bodies.now page.old.text page.old.kept }
+    ensures put { IfSome result (λ held. held_text page.new.text held.from held.to
+        ≡ member_text bodies.now (number, W.shown at.now)) }
+    ensures within { IfSome result (λ held. (held.from ≤ held.to) × (held.to ≤ ROOM)) }
+    ensures kept { AreKept bodies.now page.new.text page.new.kept }
+    ensures none { IsNone result → page.new.kept ≡ [] }
+{
+    if let Some(laid) = bodies.laid() {
+        let header = put_header(&mut page.text, number);
+        if let Some(to) = keep_lines(&laid, at, &mut page.text, &mut page.kept) {
+            return Some(Held {
+                from: header.from,
+                to,
+            });
+        }
+    }
+    page.kept.clear();
+    None
+}
+
+/// Writes the solution that a search is at. Where options are laid out, its lines are put together on a page and
+/// written at once, and the lines that are on the page from the last solution are kept.
+// It takes the search and not a `Solution`, which holds its address: out of line the compiler would then copy the walk
+// once more at each call of `pass`. So nothing that takes a `Solution` is out of line.
+#[tactic(auto, using(std::proofs::lemmas::Slice::between_is))]
+#[inline(always)]
+pub fn write_by_page<W: AtMember, S: Sink>(
     number: u64,
-    walk: &Walk<'a, D>,
+    at: &W,
     bodies: &Bodies,
     page: &mut Page,
     sink: &mut S,
 ) -> Result<(), SinkFault>
-    requires same { walk.now.puzzle ≡ bodies.now.puzzle }
-    requires known { All (IsKnownChoice bodies.now.puzzle) walk.now.shown }
+    requires same { W.puzzle at.now ≡ bodies.now.puzzle }
+    requires known { All (IsKnownChoice bodies.now.puzzle) (W.shown at.now) }
     requires kept { AreKept bodies.now page.old.text page.old.kept }
     ensures written { Writes (S.state sink.old) (S.state sink.new)
-        result (member_text bodies.now (number, walk.now.shown)) }
+        result (member_text bodies.now (number, W.shown at.now)) }
     ensures kept { AreKept bodies.now page.new.text page.new.kept }
 {
-    if let Some(laid) = bodies.laid() {
-        let header = put_header(&mut page.text, number);
-        if let Some(to) = keep_lines(&laid, walk, &mut page.text, &mut page.kept) {
-            // Written here, and not kept until the page is full: so a write that fails is one of this solution's.
-            return write_all(sink, &page.text[header.from..to]);
-        }
+    if let Some(held) = put_member(number, at, bodies, page) {
+        // Written here, and not kept until the page is full: so a write that fails is one of this solution's.
+        return write_all(sink, &page.text[held.from..held.to]);
     }
-    page.kept.clear();
-    write_long(number, walk, bodies, &mut page.text, sink)
+    write_long(number, at, bodies, &mut page.text, sink)
+}
+
+/// Does what `write_by_page` does, and takes the solution into the digest of a text. One that isn't put on the page is
+/// put together once for each.
+#[tactic(auto, using(std::proofs::lemmas::Slice::between_is))]
+#[inline(always)]
+pub fn write_noted<W: AtMember, S: Sink>(
+    number: u64,
+    at: &W,
+    bodies: &Bodies,
+    page: &mut Page,
+    text: &mut DigestSink,
+    sink: &mut S,
+) -> Result<(), SinkFault>
+    requires same { W.puzzle at.now ≡ bodies.now.puzzle }
+    requires known { All (IsKnownChoice bodies.now.puzzle) (W.shown at.now) }
+    requires kept { AreKept bodies.now page.old.text page.old.kept }
+    ensures written { Writes (S.state sink.old) (S.state sink.new)
+        result (member_text bodies.now (number, W.shown at.now)) }
+    ensures noted { Took (⟦<DigestSink as Sink>⟧.state text.old) (⟦<DigestSink as Sink>⟧.state text.new)
+        (member_text bodies.now (number, W.shown at.now)) }
+    ensures kept { AreKept bodies.now page.new.text page.new.kept }
+{
+    if let Some(held) = put_member(number, at, bodies, page) {
+        let member = &page.text[held.from..held.to];
+        text.note(member);
+        return write_all(sink, member);
+    }
+    let _ = write_long(number, at, bodies, &mut page.text, text);
+    write_long(number, at, bodies, &mut page.text, sink)
+}
+
+/// Writes a line for each choice of a solution.
+#[inline(always)]
+fn write_lines<S: Sink>(choices: &[Choice], bodies: &Bodies, sink: &mut S) -> Result<(), SinkFault>
+    requires { All (IsKnownChoice bodies.now.puzzle) choices.now }
+    ensures { Writes (S.state sink.old) (S.state sink.new)
+        result (flat_map (choice_text bodies.now) choices.now) }
+{
+    for choice in choices {
+        write_choice(bodies, choice, sink)?;
+    }
+    Ok(())
 }
 
 /// Writes a line for each choice of a solution.
@@ -566,5 +512,7 @@ pub fn write_solution<S: Sink>(
     ensures { Writes (S.state sink.old) (S.state sink.new)
         result (member_text problem.now (number, choices.now)) }
 {
-    write_in_pieces(number, choices, &Bodies::plain(problem), sink)
+    write_number(sink, number)?;
+    write_all(sink, b":\n")?;
+    write_choices(choices, problem, sink)
 }

@@ -24,7 +24,7 @@ use crate::bodies::Bodies;
 use crate::digest::problem_digest;
 use crate::digest_sink::DigestSink;
 use crate::ends::SpanFault;
-use crate::places::ROOM;
+use crate::page::Page;
 use crate::print::write_noted;
 use std::alloc::Global;
 use xc_dance::Links;
@@ -247,6 +247,7 @@ fn write_each<'a, D: Dance, S: Sink>(
     text: &mut DigestSink,
     sink: &mut S,
 ) -> Result<Went, SinkFault>
+    requires same { span.old.puzzle ≡ bodies.now.puzzle }
     requires known { All (All (IsKnownChoice bodies.now.puzzle)) (left_of span.old) }
     requires some { 0 < most }
     requires node { IfSome span.old.row (λ row. IsRowOf (whole span.old.puzzle) row) }
@@ -267,15 +268,13 @@ fn write_each<'a, D: Dance, S: Sink>(
         Took (⟦<DigestSink as Sink>⟧.state text.old) (⟦<DigestSink as Sink>⟧.state text.new)
         (members_text bodies.now (take went.members (left_of span.old)))) }
 {
-    let mut page = [0; ROOM];
+    let mut page = Page::new();
     let mut steps = 0;
     for members in 0..u64::MAX {
         let went = span.go_on(1, most - steps);
         steps += went.steps;
         match went.halt {
-            Halt::Member => {
-                write_noted(members + 1, span.choices(), bodies, &mut page, text, sink)?
-            }
+            Halt::Member => { write_noted(members + 1, span, bodies, &mut page, text, sink)? }
             halt => {
                 return Ok(Went {
                     halt,
@@ -301,6 +300,7 @@ fn write_listing<'a, D: Dance, S: Sink>(
     text: &mut DigestSink,
     sink: &mut S,
 ) -> Result<Went, SinkFault>
+    requires same { span.old.puzzle ≡ texts.now.bodies.puzzle }
     requires known { All (All (IsKnownChoice texts.now.bodies.puzzle)) (left_of span.old) }
     requires some { 0 < most }
     requires node { IfSome span.old.row (λ row. IsRowOf (whole span.old.puzzle) row) }
@@ -351,6 +351,7 @@ fn write_wanted<'a, D: Dance, S: Sink>(
     text: &mut DigestSink,
     sink: &mut S,
 ) -> Result<Went, SinkFault>
+    requires same { span.old.puzzle ≡ texts.now.bodies.puzzle }
     requires known { All (All (IsKnownChoice texts.now.bodies.puzzle)) (left_of span.old) }
     requires node { IfSome span.old.row (λ row. IsRowOf (whole span.old.puzzle) row) }
     ensures still { span.new ≡ record span.old {

@@ -1,10 +1,24 @@
 //! What tests of searches share.
 use xc_dance::{Dance, Lists};
-use xc_search::Choice;
+use xc_search::{AtMember, Choice};
 
 /// Whether lists were handed back without moves. That they are dropped is proved here, and not in each test.
 pub fn are_undone(lists: Lists) -> bool {
     lists.moves().is_empty()
+}
+
+/// Whether the marks of a search are those of these choices.
+pub fn is_marked<W: AtMember>(at: &W, wanted: &[Choice]) -> bool {
+    let mut marks = at.marks();
+    for choice in wanted {
+        let Some(mark) = marks.next() else {
+            return false;
+        };
+        if at.choice_of(mark) != *choice {
+            return false;
+        }
+    }
+    marks.next().is_none()
 }
 
 /// The choices of the one solution of `SEVEN`.

@@ -1,10 +1,10 @@
 //! Searches of spans: the rows at which they halt, and how many members they have.
-use crate::search::made::are_undone;
+use crate::search::made::{SEVEN_CHOICES, are_undone, is_marked};
 use library_tests::fixtures::{SEVEN, Wanted, wrong_row};
 use std::alloc::Global;
 use xc_dance::Lists;
 use xc_input::{Kind, Problem};
-use xc_search::{Halt, RowNumber, Span, Went};
+use xc_search::{Choice, Halt, RowNumber, Span, Went};
 
 /// A search over the one cover of seven items: how many members and steps may come, where it halts, how many came, and
 /// the row. The cover is in the second of two branches of the first item; below the first there is one branch, which
@@ -32,7 +32,15 @@ fn stands_at(alloc: Global, span: &Span<Lists>, wanted: &[(u32, u32)]) -> bool {
     row.len() == wanted.len() && span.number_at(wanted.len()).is_none()
 }
 
-/// Whether a search goes through the steps.
+/// Whether a search of a span shows a member of these choices.
+fn shows(alloc: Global, span: &Span<Lists>, wanted: &[Choice]) -> bool {
+    let Ok(choices) = span.choices().to_vec(alloc) else {
+        return false;
+    };
+    choices.as_slice() == wanted && is_marked(span, wanted)
+}
+
+/// Whether a search goes through the steps, and shows the cover where it halts at it alone.
 fn goes_through(alloc: Global, span: &mut Span<Lists>) -> bool {
     for (many, steps, halt, members, begun, row) in &HALTS {
         let went = Went {
@@ -43,8 +51,12 @@ fn goes_through(alloc: Global, span: &mut Span<Lists>) -> bool {
         if span.go_on(*many, *steps) != went || !stands_at(alloc, span, row) {
             return false;
         }
+        let shown: &[Choice] = if *members == 1 { &SEVEN_CHOICES } else { &[] };
+        if !shows(alloc, span, shown) {
+            return false;
+        }
     }
-    span.choices().is_empty()
+    true
 }
 
 /// A search of a span goes through the steps, and undoes all moves.

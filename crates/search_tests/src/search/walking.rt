@@ -1,5 +1,5 @@
 //! A walk over live lists.
-use crate::search::made::{SEVEN_CHOICES, are_undone};
+use crate::search::made::{SEVEN_CHOICES, are_undone, is_marked};
 use library_tests::fixtures::{SEVEN, Wanted, wrong_row};
 use std::alloc::Global;
 use xc_dance::Lists;
@@ -15,20 +15,6 @@ fn stands_at(walk: &Walk<Lists>, wanted: &[Choice]) -> bool {
         }
     }
     choices.next().is_none()
-}
-
-/// Whether the marks of a walk are those of these choices.
-fn is_marked(walk: &Walk<Lists>, wanted: &[Choice]) -> bool {
-    let mut marks = walk.marks();
-    for choice in wanted {
-        let Some(mark) = marks.next() else {
-            return false;
-        };
-        if walk.choice_of(mark) != *choice {
-            return false;
-        }
-    }
-    marks.next().is_none()
 }
 
 /// Whether a walk is at no solution, then at this one alone, and then at none.

@@ -1,8 +1,8 @@
 -- The invariant: the solutions counted and those left in the span are all, and of each option likewise. `arrived` says
 -- that a pass by one takes the first of those left, which is a cover (`all_head`), so its options are known and differ,
 -- as `add_solution` requires. It is counted (`counted_more`), and fewer are left. At the end none is (`ended`).
-use Rattle.std.proofs.Common.{◌≡◌, ◌≢◌, ◌+◌, ◌-◌, ◌≤◌, ◌∙◌, arith, ap, ap₂, sym, subst, get_or, length}
-use Rattle.std.specs.Prelude.{All, AllPairs, IfSome, count_by, min}
+use Rattle.std.proofs.Common.{◌≡◌, ◌≢◌, ◌+◌, ◌-◌, ◌≤◌, ◌∙◌, arith, ap, sym, subst, get_or, length}
+use Rattle.std.specs.Prelude.{All, IfSome, count_by, min}
 use Rattle.xc_input.specs.Problem.{Puzzle}
 use Rattle.xc_input.specs.Cover.{IsCover}
 use Rattle.xc_search.specs.Cover.{options_of}
@@ -30,8 +30,8 @@ loop-covers-init c =
       len = c.in_ok-times.ensures.len ∙ c.options.ensures.value;
     }
 
-pub add_solution-requires-clause-known : goal.add_solution-requires-clause-known
-add_solution-requires-clause-known c =
+pub add_shown-requires-clause-known : goal.add_shown-requires-clause-known
+add_shown-requires-clause-known c =
     let p = c.args.problem.now.puzzle in
     let old = c.loop-covers.span in
     let new = c.pass.new.span in
@@ -40,11 +40,10 @@ add_solution-requires-clause-known c =
     let cover = all_head (λ m. IsCover p (options_of m)) new.shown (left_of new)
     (subst (All (λ m. IsCover p (options_of m))) came c.loop-covers.invariant.covers) in
     let many = ap length c.as_mut_slice.ensures.value ∙ c.loop-covers.invariant.len in
-    subst (λ m. All (λ o. (1 ≤ o) × (o ≤ length c.as_mut_slice.result.now)) (options_of m)) (sym c.choices.ensures)
-    (options_within p (length c.as_mut_slice.result.now) (options_of new.shown) many cover)
+    options_within p (length c.as_mut_slice.result.now) (options_of new.shown) many cover
 
-pub add_solution-requires-clause-distinct : goal.add_solution-requires-clause-distinct
-add_solution-requires-clause-distinct c =
+pub add_shown-requires-clause-distinct : goal.add_shown-requires-clause-distinct
+add_shown-requires-clause-distinct c =
     let p = c.args.problem.now.puzzle in
     let old = c.loop-covers.span in
     let new = c.pass.new.span in
@@ -52,7 +51,7 @@ add_solution-requires-clause-distinct c =
     (omega (arith, c.loop-covers-test.true)) c.pass.ensures.left c.pass.ensures.shown in
     let cover = all_head (λ m. IsCover p (options_of m)) new.shown (left_of new)
     (subst (All (λ m. IsCover p (options_of m))) came c.loop-covers.invariant.covers) in
-    subst (λ m. AllPairs (λ a b. a ≢ b) (options_of m)) (sym c.choices.ensures) cover.distinct
+    cover.distinct
 
 pub loop-covers-smaller : goal.loop-covers-smaller
 loop-covers-smaller c =
@@ -70,9 +69,9 @@ loop-covers-preserved c =
     let ts = c.loop-covers.times.items in
     let came = arrived c.pass.result (left_of old) (left_of new) old.shown new.shown c.pass.ensures.count
     (omega (arith, c.loop-covers-test.true)) c.pass.ensures.left c.pass.ensures.shown in
-    let done = c.in_ok-add_solution.ensures in
-    let many : length c.add_solution.new.times ≡ length ts = done.len ∙ ap length c.as_mut_slice.ensures.value in
-    let written = refilled c.loop-covers.times.len c.add_solution.new.times ts many c.loop-covers.times.ok.0 in
+    let done = c.in_ok-add_shown.ensures in
+    let many : length c.add_shown.new.times ≡ length ts = done.len ∙ ap length c.as_mut_slice.ensures.value in
+    let written = refilled c.loop-covers.times.len c.add_shown.new.times ts many c.loop-covers.times.ok.0 in
     record {
       number = omega (arith, c.loop-covers.invariant.number, c.in_ok-count_one.ensures, ap length came);
       same = c.pass.ensures.puzzle ∙ c.loop-covers.invariant.same;
@@ -81,7 +80,7 @@ loop-covers-preserved c =
           (subst (λ ms. get_or ts (o - 1) 0 + count_by (takes o) ms ≡ occurrences_of p o) came
           (c.loop-covers.invariant.counted o h))
           (ap (λ l. get_or l (o - 1) 0) written ∙ done.times o h
-          ∙ ap₂ (λ l m. get_or l (o - 1) 0 + hit o (options_of m)) c.as_mut_slice.ensures.value c.choices.ensures);
+          ∙ ap (λ l. get_or l (o - 1) 0 + hit o (options_of new.shown)) c.as_mut_slice.ensures.value);
       covers = all_tail (λ m. IsCover p (options_of m)) new.shown (left_of new)
           (subst (All (λ m. IsCover p (options_of m))) came c.loop-covers.invariant.covers);
       len = ap length written ∙ many ∙ c.loop-covers.invariant.len;

@@ -17,15 +17,15 @@ keep_line-requires-clause-known g c =
 
 pub loop-mark-preserved : goal.loop-mark-preserved
 loop-mark-preserved g c = record {
-  kept = c.in_ok-at.ensures.kept;
-  done = c.in_ok-at.ensures.stands.within;
-  at = c.in_ok-at.ensures.end;
+  kept = c.in_ok-end.ensures.kept;
+  done = c.in_ok-end.ensures.stands.within;
+  end = c.in_ok-end.ensures.end;
   whole = grind (arith, common_steps, one_more);
   right = All-tail (IsMark c.args.laid.now.puzzle) c.in-Some.mark _
       (rw c.in-Some.ensures.some at c.loop-mark.invariant.right);
   known = All-tail (IsKnownChoice c.args.laid.now.puzzle) (marked c.args.laid.now.puzzle c.in-Some.mark) _
       (rw c.in-Some.ensures.some at c.loop-mark.invariant.known);
-  header = c.in_ok-at.ensures.header ∙ c.loop-mark.invariant.header;
+  header = c.in_ok-end.ensures.header ∙ c.loop-mark.invariant.header;
   size = c.keep_line.ensures.size;
 }
 
@@ -36,6 +36,6 @@ pub returns-clause-end : goal.returns-clause-end
 returns-clause-end g c =
     let all =
     all_stand c.args.laid.now _ _ _ _ _ _ _ c.loop-mark.invariant.kept c.loop-mark.invariant.size
-    c.loop-mark.invariant.at c.loop-mark.invariant.header c.loop-mark.invariant.whole
+    c.loop-mark.invariant.end c.loop-mark.invariant.header c.loop-mark.invariant.whole
     (c.in_default.ensures.none refl) in
     (all.1, all.2)

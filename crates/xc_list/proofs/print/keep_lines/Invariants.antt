@@ -11,9 +11,9 @@ abbrev pub invariant-loop-mark : goal.invariant-loop-mark
 invariant-loop-mark g l = record {
   kept : AreKept l.laid l.text l.kept;
   done : l.done ≤ length l.kept;
-  at : l.at ≡ lines_end l.laid (take l.done l.kept);
+  end : l.end ≡ lines_end l.laid (take l.done l.kept);
   whole : map (λ k. marked l.laid.puzzle k.mark) (take l.done l.kept) ++ map (marked l.laid.puzzle) l.marks
-      ≡ l.fn.walk.shown;
+      ≡ g.W.AtMember.shown l.fn.at;
   right : All (IsMark l.laid.puzzle) l.marks;
   known : All (IsKnownChoice l.laid.puzzle) (map (marked l.laid.puzzle) l.marks);
   header : take LINES l.text ≡ take LINES l.fn.text;

@@ -1,17 +1,11 @@
-use Rattle.std.proofs.Common.{length, []}
-use Rattle.std.specs.Prelude.{All}
-use Rattle.xc_list.specs.Known.{IsKnownChoice}
+use Rattle.std.proofs.Common.{take}
+use Rattle.std.specs.Prelude.{flat_map}
+use Rattle.xc_text.specs.Texts.{Took}
 use Rattle.xc_list.specs.Output.{choice_text}
-use Rattle.xc_list.proofs.Writing.{PutsFront}
 use Rattle.xc_list.proofs.print.write_lines.Given as goal
 
--- the lines of the choices before those that are left were taken
+-- the lines so far were taken, and no failure came
 abbrev pub invariant-loop-choice : goal.invariant-loop-choice
-invariant-loop-choice g l = record {
-  took : PutsFront (g.S.Sink.state l.fn.sink) (g.S.Sink.state l.sink) [] [] (choice_text l.bodies)
-      (g.C.Choices.left l.choices) (g.C.Choices.left l.fn.solution);
-  known : All (IsKnownChoice l.bodies.puzzle) (g.C.Choices.left l.choices);
-}
-
-abbrev pub decreases-loop-choice : goal.decreases-loop-choice
-decreases-loop-choice g l = length (g.C.Choices.left l.choices)
+invariant-loop-choice g l =
+    Took (g.S.Sink.state l.fn.sink) (g.S.Sink.state l.sink)
+    (flat_map (choice_text l.bodies) (take l.choice-index l.choices))

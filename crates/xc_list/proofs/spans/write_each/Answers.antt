@@ -36,19 +36,23 @@ loop-members-init g c =
       few = few_none _;
       taken = took_nothing _;
       noted = took_nothing _;
+      kept = c.new-page.ensures _;
     }
 
 pub write_noted-requires-clause-known : goal.write_noted-requires-clause-known
 write_noted-requires-clause-known g c =
     let at = next g (goal.at.write_noted-requires-clause-known g c).After-go_on-went c.in-Member.is in
-    rw c.choices.ensures (holds_next _ _ at (All (IsKnownChoice c.args.bodies.now.puzzle)) c.requires.known)
+    holds_next _ _ at (All (IsKnownChoice c.args.bodies.now.puzzle)) c.requires.known
+
+pub write_noted-requires-clause-same : goal.write_noted-requires-clause-same
+write_noted-requires-clause-same g c = grind (arith, c.requires.same, c.loop-members.invariant.still)
 
 pub returns-in_err-write_noted-in-Member-clause-wrote : goal.returns-in_err-write_noted-in-Member-clause-wrote
 returns-in_err-write_noted-in-Member-clause-wrote g c =
     let at = next g (goal.at.returns-in_err-write_noted-in-Member-clause-wrote g c).After-go_on-went c.in-Member.is in
     if_failed _ _ c.from_residual.ensures.0
     (texts_broke_all (member_text c.args.bodies.now) (left_of c.args.span.now) c.loop-members.members at
-    c.loop-members.invariant.taken (rw c.choices.ensures at c.in_err-write_noted-in-Member.ensures.written))
+    c.loop-members.invariant.taken c.in_err-write_noted-in-Member.ensures.written)
 
 pub returns-in_default : goal.returns-in_default
 returns-in_default g c =
@@ -74,8 +78,8 @@ loop-members-preserved g c =
     let at = (goal.at.loop-members-preserved g c).After-go_on-went in
     let more = texts_next (member_text c.args.bodies.now) (left_of c.args.span.now) c.loop-members.members
     (next g at c.in-Member.is) in
-    let text = rw c.choices.ensures at c.in_ok-write_noted-in-Member.ensures.written in
-    let noted = rw c.choices.ensures at c.in_ok-write_noted-in-Member.ensures.noted in
+    let text = c.in_ok-write_noted-in-Member.ensures.written in
+    let noted = c.in_ok-write_noted-in-Member.ensures.noted in
     record {
       still = grind arith;
       node = at.go_on-went.ensures.comes.node;
@@ -84,6 +88,7 @@ loop-members-preserved g c =
           at.go_on-went.ensures;
       taken = rw more (then_took c.loop-members.invariant.taken text);
       noted = rw more (then_took c.loop-members.invariant.noted noted);
+      kept = c.in_ok-write_noted-in-Member.ensures.kept;
     }
 
 pub returns-clause-wrote : goal.returns-clause-wrote

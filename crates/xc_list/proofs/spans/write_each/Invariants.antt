@@ -4,7 +4,7 @@ use Rattle.xc_search.specs.Nodes.{IsRowOf}
 use Rattle.xc_search.specs.InSpan.{left_of}
 use Rattle.xc_list.specs.Output.{member_text}
 use Rattle.xc_text.specs.Texts.{Took}
-use Rattle.xc_list.specs.inner.Writing.{GoesFew}
+use Rattle.xc_list.specs.inner.Writing.{GoesFew, AreKept}
 use Rattle.xc_list.proofs.Writing.{first_texts}
 use Rattle.xc_list.proofs.SpanLemmas.{IsAhead}
 use Rattle.xc_list.proofs.TextDigests.{sunk}
@@ -21,5 +21,6 @@ invariant-loop-members g l = record {
   few : GoesFew l.members l.steps l.fn.span l.span;
   taken : Took (g.S.Sink.state l.fn.sink) (g.S.Sink.state l.sink)
       (first_texts (member_text l.bodies) (left_of l.fn.span) l.members);
+  kept : AreKept l.bodies l.page.text l.page.kept;
   noted : Took (sunk l.fn.text) (sunk l.text) (first_texts (member_text l.bodies) (left_of l.fn.span) l.members);
 }

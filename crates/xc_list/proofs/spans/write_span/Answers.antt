@@ -20,6 +20,7 @@ small g c =
 
 pub write_wanted-requires : goal.write_wanted-requires
 write_wanted-requires g c = record {
+  same = c.requires.begun.puzzle;
   known = known_left _ _ _ _ c.requires.begun;
   node = rw c.requires.begun.puzzle c.requires.begun.node;
 }

@@ -1,6 +1,6 @@
 use Rattle.std.proofs.Common.{arith}
 use Rattle.xc_text.proofs.SinkLemmas.{then_took, then_broke, broke_before, then_writes, failed}
-use Rattle.xc_list.proofs.print.write_in_pieces.Goals as goal
+use Rattle.xc_list.proofs.print.write_solution.Goals as goal
 
 pub returns-in_err-write_number : goal.returns-in_err-write_number
 returns-in_err-write_number g c = grind (arith, failed, broke_before)
