@@ -1,6 +1,6 @@
 -- A worth that is added to a key, and keys of which no two are the same.
-use Rattle.std.proofs.Common.{ℕ, zero, suc, ◌≡◌, ◌≢◌, ◌⊎◌, true, false, List, [], ◌∷◌, ◌++◌, length, Option, Some, None}
-use Rattle.std.proofs.Common.{inl, inr, refl, sym, ap, ap₂, ◌∙◌, arith, subst}
+use Rattle.std.proofs.Common.{ℕ, zero, suc, ◌≡◌, ◌≢◌, ◌⊎◌, true, false, List, [], ◌∷◌, ◌++◌, length, Some, None}
+use Rattle.std.proofs.Common.{inl, inr, refl, sym, ap, ap₂, ◌∙◌, arith}
 use Rattle.std.proofs.Math.ListN.{set}
 use Rattle.std.specs.Prelude.{nat_eq, option_map, slice_get}
 use Rattle.std.specs.Cmp.Lexicographic.{pointwise}
@@ -9,7 +9,7 @@ use Rattle.std.proofs.lemmas.Option.{slice_get-map, slice_get_within}
 use Rattle.std.proofs.lemmas.Slice.Eq.{bytes_eq-Decides}
 use Rattle.xc_text.proofs.ListLemmas.{by_bool, by_option, get_left, get_seam, not_some}
 use Rattle.xc_count.specs.declared.layer.State.{State}
-use Rattle.xc_count.specs.Layers.{keyed, with_added}
+use Rattle.xc_count.specs.inner.Added.{keyed, with_added}
 use Rattle.xc_count.specs.inner.Layers.{AreApart, told}
 use Rattle.xc_count.proofs.SlotLemmas.{told_at, told_push}
 

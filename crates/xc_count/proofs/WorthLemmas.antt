@@ -11,7 +11,7 @@ use Rattle.std.proofs.lemmas.List.Sums.{sum_by-cons, sum_by_push, sum_by-drop_mo
 use Rattle.std.proofs.lemmas.Slice.Eq.{bytes_eq-Decides}
 use Rattle.std.proofs.Math.Seq.{get_or-append_seam}
 use Rattle.xc_text.proofs.ListLemmas.{by_bool}
-use Rattle.xc_count.specs.Layers.{keyed, with_added}
+use Rattle.xc_count.specs.inner.Added.{keyed, with_added}
 use Rattle.xc_count.specs.inner.Worth.{CountState, EachKey, worth_by}
 
 -- one state more

@@ -1,4 +1,3 @@
-pub mod Layers
 pub mod Number
 pub mod Occurrences
 pub mod Turns

@@ -1,12 +1,12 @@
 //! The states that a sweep has come to, and what each is worth.
 
-ghost use Rattle.std.specs.Prelude.{ℕ, Bool, ◌≡◌, ◌≢◌, ◌<◌, ◌≤◌, ◌+◌, ◌-◌, ◌*◌, ◌/◌, ◌%◌, ◌^◌, [], ◌∷◌, ◌++◌};
-ghost use Rattle.std.specs.Prelude.{List, All, length, Some, true, false, IfSome, IfNone, IfOk, OnOk, OnErr};
+ghost use Rattle.std.specs.Prelude.{ℕ, ◌≡◌, ◌≢◌, ◌<◌, ◌≤◌, ◌+◌, ◌-◌, ◌*◌, ◌/◌, ◌%◌, ◌^◌, [], ◌∷◌, ◌++◌};
+ghost use Rattle.std.specs.Prelude.{length, Some, true, false, IfSome, IfNone, IfOk, OnOk, OnErr};
 ghost use Rattle.std.specs.Prelude.{slice_get};
 ghost use Rattle.xc_count.specs.declared.layer.State.{State};
 ghost use Rattle.xc_count.specs.inner.Layers.{AreFound, AreHashed, Finds, state_bytes, charged, hash_by, slot_after};
 ghost use Rattle.xc_count.specs.inner.Layers.{AreApart, told};
-ghost use Rattle.xc_count.specs.Layers.{keyed, with_added};
+ghost use Rattle.xc_count.specs.inner.Added.{keyed, with_added};
 
 use crate::errors::CountError;
 use crate::worth::Worth;

@@ -1,6 +1,6 @@
 use Rattle.std.proofs.Common.{◌≡◌, ◌∷◌, ◌++◌, [], ◌∙◌, ap, subst₂}
 use Rattle.std.proofs.lemmas.Result.{on_ok_weaker}
-use Rattle.xc_count.specs.Layers.{keyed, with_added}
+use Rattle.xc_count.specs.inner.Added.{keyed, with_added}
 use Rattle.xc_count.proofs.AddedLemmas.{added_last}
 use Rattle.xc_count.proofs.SlotLemmas.{no_state}
 use Rattle.xc_count.proofs.layer.Layer.add.Goals as goal
