@@ -4,20 +4,20 @@ use Rattle.std.proofs.Common.{cond, map}
 use Rattle.std.proofs.Common.{Option, Some, None, refl, sym, ap, ◌∙◌, arith, subst, eqb-true, eq-eqb, drop, drop-cons}
 use Rattle.std.proofs.Common.{◌-◌, append-nil, append_assoc}
 use Rattle.std.proofs.Math.ListN.{set, get_or}
-use Rattle.std.specs.Prelude.{slice_get, is_some, option_map, All, Contains}
+use Rattle.std.specs.Prelude.{slice_get, is_some, option_map, unwrap_or, All, Contains}
 use Rattle.std.specs.List.{AllByRecursion}
 use Rattle.std.proofs.lemmas.List.{drop_all, length-map}
 use Rattle.std.proofs.lemmas.List.FromFn.{length-enumerate_from}
 use Rattle.xc_input.specs.declared.problem.Use.{Use}
 use Rattle.xc_input.specs.Problem.{Puzzle, Numbered, numbered_get, numbered_options, holding, holds, option_count}
-use Rattle.xc_input.specs.Problem.{colour_in, IsItem, IsOption, uses_of}
+use Rattle.xc_input.specs.Problem.{colour_in, IsItem, IsOption, IsPrimary, uses_of}
 use Rattle.xc_text.proofs.ListLemmas.{by_bool, by_option, EachTwo, in-map, in-filter, in-contains, contains-in}
 use Rattle.xc_text.proofs.ListLemmas.{each_from}
 use Rattle.xc_input.proofs.OptionLemmas.{numbered_from}
 use Rattle.xc_input.proofs.TokenLemmas.{numbered_get-at}
 use Rattle.xc_search.proofs.ListingLemmas.{numbered_at, uses_known}
 use Rattle.std.proofs.lemmas.List.Elements.{All-from_recursion}
-use Rattle.std.proofs.lemmas.Option.{get_or_from_slice_get}
+use Rattle.std.proofs.lemmas.Option.{get_or_from_slice_get, slice_get-get_or, slice_get_within}
 use Rattle.xc_count.specs.inner.Plans.{AreHolders, if_held, options_with}
 
 -- ---- one option
@@ -202,3 +202,25 @@ option_known p i o c =
 pub options_known : (p : Puzzle) (i : ℕ) → All (IsOption p) (options_with p i)
 options_known p i = All-from_recursion (IsOption p) (options_with p i)
     (each_from _ _ (λ o h. (option_known p i o (contains-in _ _ h)).0))
+
+-- ---- lists by their numbers
+
+-- a primary item is an item
+pub item_of : (p : Puzzle) (i : ℕ) → IsPrimary p i → IsItem p i
+item_of p i h = (h.0, omega (arith, h.1))
+
+-- the list of a number
+pub at_number : {X : Type 0} (f : X → List ℕ) (ls : List X) (i k : ℕ) (x : X) → k < length ls → x ≡ get_or ls k x
+    → i ≡ suc k → f x ≡ unwrap_or (numbered_get (map f ls) i) []
+at_number f ls i k x h e place =
+    let read : slice_get ls k ≡ Some x = slice_get-get_or ls k x h ∙ ap Some (sym e) in
+    let there : slice_get (map f ls) k ≡ Some (f x) = get_map f ls k ∙ ap (option_map f) read in
+    sym (ap (λ j. unwrap_or (numbered_get (map f ls) j) []) place ∙ ap (λ o. unwrap_or o []) there)
+
+-- a number that no list has
+pub no_number : {X : Type 0} (f : X → List ℕ) (ls : List X) (i : ℕ) → ((k : ℕ) → i ≡ suc k → length ls ≤ k)
+    → [] ≡ unwrap_or (numbered_get (map f ls) i) []
+no_number f ls zero past = refl
+no_number f ls (suc k) past = by_option (slice_get ls k)
+    (λ none. sym (ap (λ o. unwrap_or o []) (get_map f ls k ∙ ap (option_map f) none)))
+    (λ x e. let within = slice_get_within ls k x e in absurd (omega (arith, within, past k refl)))

@@ -1,7 +1,8 @@
 //! The covers below the states of a layer, from those below the states of the next.
-ghost use Rattle.std.specs.Prelude.{◌≡◌, ◌≤◌, ◌<◌, ◌+◌, ◌*◌, ◌==◌, Contains, length, map, sum_by, true, None};
+ghost use Rattle.std.specs.Prelude.{◌≡◌, ◌≤◌, ◌*◌, ◌==◌, Contains, length, map, sum_by, true, None};
 ghost use Rattle.std.specs.Prelude.{IfOk, MatchOption, OnOk, if◌then◌else◌};
-ghost use Rattle.xc_input.specs.Problem.{IsOption, IsValid, option_count};
+ghost use Rattle.xc_input.specs.Problem.{Puzzle, IsOption, IsValid, option_count};
+ghost use Rattle.xc_count.specs.declared.plan.Plan.{Plan};
 ghost use Rattle.xc_search.specs.Once.{IsOnce};
 ghost use Rattle.xc_count.specs.inner.Passed.{AreBelow, AreMore, IsKept, step_item, taken_by, taken_here, with_same};
 ghost use Rattle.xc_count.specs.inner.Plans.{IsPlan, IsStep, options_with};
@@ -9,7 +10,6 @@ ghost use Rattle.xc_count.specs.inner.Worth.{holds_first, key_below, says, with_
 
 use crate::counted::CountState;
 use crate::errors::CountError;
-use crate::holders::options_of;
 use crate::kept::{Ahead, Kept};
 use crate::keys::{do_agree, mark_of, mark_uses, without_first};
 use crate::plan::{Plan, Step};
@@ -17,27 +17,16 @@ use natural::Natural;
 use std::alloc::Global;
 use xc_input::Problem;
 
-/// The covers below a key in which the step's item is held.
-fn below_key<'a>(
-    problem: &Problem,
-    plan: &Plan,
-    step: Step,
-    ahead: &'a Ahead,
-    key: &[u32],
-) -> Result<&'a Natural, CountError>
-    requires plan { IsPlan problem.now.puzzle plan.now }
-    requires step { IsStep problem.now.puzzle plan.now step }
-    requires valid { IsValid problem.now.puzzle }
-    requires below { AreBelow problem.now.puzzle plan.now ahead.now }
-    requires next { step.next ≡ ahead.now.from }
-    requires held { holds_first plan.now (step.place + 1) step.from key.now ≡ true }
-    ensures { IfOk result (λ n. n.now ≡ key_below problem.now.puzzle plan.now step.from key.now) }
+/// The covers below a key of the layer ahead.
+fn below_key<'a>(ahead: &'a Ahead, key: &[u32]) -> Result<&'a Natural, CountError>
+    ensures { IfOk result (λ n. (p : Puzzle) (plan : Plan) → AreBelow p plan ahead.now
+        → n.now ≡ key_below p plan ahead.now.from key.now) }
 {
-    match ahead
-        .layer
-        .place_of(without_first(key, step.next - step.from))
-    {
-        Some(place) => Ok(&ahead.below[place]),
+    let Some(place) = ahead.layer.place_of(key) else {
+        return Err(CountError::Lost);
+    };
+    match ahead.below.get(place) {
+        Some(below) => Ok(below),
         None => Err(CountError::Lost),
     }
 }
@@ -71,7 +60,8 @@ fn below_option<'a>(
     scratch.clear();
     scratch.extend_from_slice(key)?;
     mark_uses(ranks, step.from, scratch, uses)?;
-    Ok(Some(below_key(problem, plan, step, ahead, scratch.as_slice())?))
+    let rest = without_first(scratch.as_slice(), step.next - step.from);
+    Ok(Some(below_key(ahead, rest)?))
 }
 
 /// Adds so many ways to so many covers to the number of an option.
@@ -164,9 +154,10 @@ fn below_state(
     let item = plan.order[step.place];
     let key = state.key.as_slice();
     if mark_of(plan.ranking.ranks.as_slice(), step.from, key, item) > 0 {
-        return Ok(below_key(problem, plan, step, ahead, key)?.clone()?);
+        let rest = without_first(key, step.next - step.from);
+        return Ok(below_key(ahead, rest)?.clone()?);
     }
-    let options = options_of(problem, plan.holders.as_slice(), item);
+    let options = plan.options_of(item);
     below_free(
         alloc, problem, plan, step, ahead, state, options, scratch, counts,
     )

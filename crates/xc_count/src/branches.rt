@@ -1,6 +1,6 @@
 //! The branches of the listing, and how many covers are behind each.
 
-ghost use Rattle.std.specs.Prelude.{ℕ, ◌≡◌, ◌<◌, ◌≤◌, Some, true, false, IfOk, IfSome, MatchOption, length};
+ghost use Rattle.std.specs.Prelude.{ℕ, ◌≡◌, Some, true, false, IfOk, IfSome, MatchOption, length};
 ghost use Rattle.xc_input.specs.Problem.{IsItem, IsOption, IsValid, IsWithinLimits, holding, uses_of};
 ghost use Rattle.xc_search.specs.Once.{IsOnce};
 ghost use Rattle.xc_count.specs.inner.Held.{agree, holding_uses};
@@ -9,7 +9,6 @@ ghost use Rattle.xc_count.specs.inner.Plans.{IsPlan};
 ghost use Rattle.xc_count.specs.inner.Worth.{says};
 
 use crate::errors::{CountError, Halted};
-use crate::holders::options_of;
 use crate::keys::{do_agree, mark_of, mark_uses};
 use crate::left::count_left;
 use crate::plan::Plan;
@@ -27,7 +26,7 @@ fn options_left(problem: &Problem, plan: &Plan, key: &[u32], item: u32) -> u32
     ensures { result ≡ length (holding item (left_by_key problem.now.puzzle plan.now key.now).options) }
 {
     let ranks = plan.ranking.ranks.as_slice();
-    let options = options_of(problem, plan.holders.as_slice(), item);
+    let options = plan.options_of(item);
     let mut many: u32 = 0;
     for k in 0..options.len() {
         if do_agree(ranks, 0, key, problem.option(options[k])) {
@@ -126,7 +125,7 @@ pub fn branch_with(
         IsLess problem.now.puzzle plan.now t.key.items key.now)) }
     ensures same { rival.new.puzzle ≡ rival.old.puzzle }
 {
-    let options = options_of(problem, plan.holders.as_slice(), fork.0);
+    let options = plan.options_of(fork.0);
     let mut k: u32 = 0;
     for place in 0..options.len() {
         let option = options[place];

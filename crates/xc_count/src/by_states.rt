@@ -1,7 +1,8 @@
 //! In how many covers each option is, by two sweeps.
 ghost use Rattle.std.specs.Prelude.{◌≡◌, ◌++◌, [], ◌∷◌, All, length, IfNone, IfOk, IfSome};
-ghost use Rattle.xc_input.specs.Problem.{IsValid};
+ghost use Rattle.xc_input.specs.Problem.{Puzzle, IsValid};
 ghost use Rattle.xc_count.specs.Occurrences.{occurrences};
+ghost use Rattle.xc_count.specs.declared.plan.Plan.{Plan};
 ghost use Rattle.xc_search.specs.Once.{IsOnce};
 ghost use Rattle.xc_count.specs.inner.Passed.{AreBelow};
 ghost use Rattle.xc_count.specs.inner.Plans.{IsPlan};
@@ -30,18 +31,9 @@ fn numbers(alloc: Global, many: usize, each: u64) -> Result<Vec<Natural>, CountE
 }
 
 /// The last layer, below each state of which is one cover.
-fn end(
-    alloc: Global,
-    problem: &Problem,
-    plan: &Plan,
-    layer: CountLayer,
-    from: usize,
-) -> Result<Ahead, CountError>
-    requires once { IsOnce problem.now.puzzle }
-    requires plan { IsPlan problem.now.puzzle plan.now }
-    requires valid { IsValid problem.now.puzzle }
-    requires held { EachKey (holds_first plan.now (length plan.now.order.items) from) layer.states.items }
-    ensures { IfOk result (λ a. AreBelow problem.now.puzzle plan.now a) }
+fn end(alloc: Global, layer: CountLayer, from: usize) -> Result<Ahead, CountError>
+    ensures { IfOk result (λ a. (p : Puzzle) (plan : Plan) → IsOnce p → IsPlan p plan → IsValid p
+        → EachKey (holds_first plan (length plan.order.items) from) layer.states.items → AreBelow p plan a) }
 {
     let below = numbers(alloc, layer.states.len(), 1)?;
     Ok(Ahead { layer, from, below })
@@ -74,7 +66,7 @@ pub fn occurrences_by_states(
     let mut counts = numbers(alloc, problem.options() as usize, 0)?;
     let sweep = keep_layers(alloc, problem, plan, bound / 4 * 3)?;
     let mut kept = sweep.kept;
-    let mut ahead = end(alloc, problem, plan, sweep.last, sweep.from)?;
+    let mut ahead = end(alloc, sweep.last, sweep.from)?;
     while let Some(before) = pop_kept(&mut kept) {
         ahead = back(alloc, problem, plan, before, &ahead, &mut counts)?;
     }

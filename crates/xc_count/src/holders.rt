@@ -1,8 +1,8 @@
 //! Which options hold each item.
-ghost use Rattle.std.specs.Prelude.{ℕ, ◌≡◌, ◌≢◌, ◌++◌, ◌≤◌, [], ◌∷◌, length, map, option_map, Some, All, AllPairs};
+ghost use Rattle.std.specs.Prelude.{ℕ, ◌≡◌, ◌≢◌, ◌++◌, ◌≤◌, [], ◌∷◌, length, map, option_map, All, AllPairs};
 ghost use Rattle.std.specs.Prelude.{IfOk, OnOk};
-ghost use Rattle.xc_input.specs.Problem.{numbered_get, IsItem};
-ghost use Rattle.xc_count.specs.inner.Plans.{AreHolders, if_held, options_with};
+ghost use Rattle.xc_input.specs.Problem.{numbered_get};
+ghost use Rattle.xc_count.specs.inner.Plans.{AreHolders, if_held};
 
 use crate::errors::CountError;
 use std::alloc::Global;
@@ -53,13 +53,4 @@ pub fn options_by_item(alloc: Global, problem: &Problem) -> Result<Vec<Vec<u32>>
         list_option(&mut lists, problem.option(o + 1), o + 1)?;
     }
     Ok(lists)
-}
-
-/// The options that hold an item.
-pub fn options_of<'a>(problem: &Problem, holders: &'a [Vec<u32>], item: u32) -> &'a [u32]
-    requires holders { AreHolders problem.now.puzzle (map (λ l. l.items) holders.now) }
-    requires item { IsItem problem.now.puzzle item }
-    ensures { result.now ≡ options_with problem.now.puzzle item }
-{
-    holders[item as usize - 1].as_slice()
 }

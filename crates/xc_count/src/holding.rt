@@ -2,7 +2,6 @@
 ghost use Rattle.std.specs.Prelude.{ℕ, ◌≡◌, ◌+◌, ◌*◌, Contains, slice_index, sum_by, true, OnOk};
 ghost use Rattle.xc_input.specs.Problem.{IsOption, IsValid};
 ghost use Rattle.xc_search.specs.Listing.{Residual};
-ghost use Rattle.xc_count.specs.inner.Held.{left_by};
 ghost use Rattle.xc_count.specs.inner.Passed.{left_worth, worth_left, worth_passed, worth_taken};
 ghost use Rattle.xc_count.specs.inner.Plans.{IsPlan, IsStep, options_with};
 ghost use Rattle.xc_count.specs.inner.Worth.{EachKey, holds_first, says};
@@ -10,7 +9,6 @@ ghost use Rattle.xc_count.specs.inner.Worth.{EachKey, holds_first, says};
 use crate::beside::Beside;
 use crate::counted::{CountLayer, CountState, add_ways};
 use crate::errors::{CountError, Halted};
-use crate::holders::options_of;
 use crate::keys::{agree_counting, mark_of, mark_uses, without_first};
 use crate::plan::{Plan, Step};
 use crate::sweeping::PassOn;
@@ -148,7 +146,7 @@ fn hold<B: Beside>(
         }
         return Ok(());
     }
-    let options = options_of(problem, plan.holders.as_slice(), item);
+    let options = plan.options_of(item);
     split(problem, plan, step, layer, scratch, state, options, beside)
 }
 

@@ -1,10 +1,10 @@
 //! The count of what a key leaves.
 
-ghost use Rattle.std.specs.Prelude.{◌≡◌, ◌≤◌, ◌+◌, length, true, IfOk};
+ghost use Rattle.std.specs.Prelude.{◌≡◌, ◌≤◌, length, true, IfOk};
 ghost use Rattle.xc_input.specs.Problem.{IsValid};
 ghost use Rattle.xc_search.specs.Cover.{members};
 ghost use Rattle.xc_search.specs.Once.{IsOnce};
-ghost use Rattle.xc_count.specs.inner.Plans.{IsPlan, IsStep};
+ghost use Rattle.xc_count.specs.inner.Plans.{IsPlan};
 ghost use Rattle.xc_count.specs.inner.Worth.{holds_first, key_below, worth_by};
 
 use crate::counted::{CountLayer, layer_of};
@@ -40,19 +40,6 @@ struct Start<'a> {
     key: &'a [u32],
 }
 
-/// The marks of a key after a step whose item is held.
-fn marks_after<'a>(problem: &Problem, plan: &Plan, step: Step, key: &'a [u32]) -> &'a [u32]
-    requires plan { IsPlan problem.now.puzzle plan.now }
-    requires step { IsStep problem.now.puzzle plan.now step }
-    requires valid { IsValid problem.now.puzzle }
-    requires held { holds_first plan.now (step.place + 1) step.from key.now ≡ true }
-    ensures held { holds_first plan.now (step.place + 1) step.next result.now ≡ true }
-    ensures below { key_below problem.now.puzzle plan.now step.next result.now
-        ≡ key_below problem.now.puzzle plan.now step.from key.now }
-{
-    without_first(key, step.next - step.from)
-}
-
 /// The start of a key that has a mark for each item. The items of the places before it are held.
 fn start_of<'a>(problem: &Problem, plan: &Plan, key: &'a [u32]) -> Start<'a>
     requires plan { IsPlan problem.now.puzzle plan.now }
@@ -74,7 +61,7 @@ fn start_of<'a>(problem: &Problem, plan: &Plan, key: &'a [u32]) -> Start<'a>
             };
         }
         let step = plan.step(place, from);
-        rest = marks_after(problem, plan, step, rest);
+        rest = without_first(rest, step.next - step.from);
         from = step.next;
     }
     Start {

@@ -14,6 +14,7 @@ use crate::errors::CountError;
 use crate::narrow::near::{near_steps, neighbours};
 use crate::narrow::reach::Reach;
 use std::alloc::Global;
+pub use values::list_of;
 use xc_input::Problem;
 
 /// How many steps orders may take in all: about a tenth of a second.

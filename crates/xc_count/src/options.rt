@@ -1,13 +1,12 @@
 //! The order of the options, and how many options from a place of it on hold each item.
 
-ghost use Rattle.std.specs.Prelude.{ℕ, ◌≡◌, ◌≢◌, ◌+◌, ◌-◌, ◌<◌, ◌≤◌, length, is_some, All, AllPairs, Contains};
+ghost use Rattle.std.specs.Prelude.{ℕ, ◌≡◌, ◌≢◌, ◌+◌, ◌-◌, ◌<◌, ◌≤◌, length, is_some, All, AllPairs};
 ghost use Rattle.std.specs.Prelude.{IfOk, OnOk, slice_index, if◌then◌else◌};
-ghost use Rattle.xc_input.specs.Problem.{IsItem, IsOption, colour_in, item_count, uses_of};
+ghost use Rattle.xc_input.specs.Problem.{IsOption, colour_in, item_count};
 ghost use Rattle.xc_count.specs.inner.ByOption.{AreOnce, AtMost, IsEachOnce};
 ghost use Rattle.xc_count.specs.inner.Plans.{IsPlan};
 
 use crate::errors::CountError;
-use crate::holders::options_of;
 use crate::order::{filled, push_once};
 use crate::plan::Plan;
 use std::alloc::Global;
@@ -38,11 +37,7 @@ pub fn options_in_order(
     let mut order = Vec::new(alloc);
     let mut seen = filled(alloc, problem.options() as usize, 0)?;
     for item in &plan.order {
-        push_each(
-            &mut order,
-            &mut seen,
-            options_of(problem, plan.holders.as_slice(), *item),
-        )?;
+        push_each(&mut order, &mut seen, plan.options_of(*item))?;
     }
     for o in 0..problem.options() {
         push_once(&mut order, &mut seen, o + 1)?;

@@ -1,13 +1,13 @@
 //! How a plan is made for a problem, and the steps of one.
 
-ghost use Rattle.std.specs.Prelude.{ℕ, ◌≡◌, ◌<◌, ◌≤◌, ◌-◌, length, take, true, Some, All, Contains, IfOk, is_some};
+ghost use Rattle.std.specs.Prelude.{ℕ, ◌≡◌, ◌<◌, ◌≤◌, ◌-◌, length, take, true, All, Contains, IfOk, is_some};
 ghost use Rattle.xc_input.specs.Problem.{Puzzle, IsItem, IsOption, IsPrimary, colour_in, primary_count};
 ghost use Rattle.xc_count.specs.inner.Keys.{rank_of};
 ghost use Rattle.xc_count.specs.inner.Plans.{AreWindows, HoldsPast, IsOver, IsPlan, IsStep, options_with};
 
 use crate::errors::CountError;
-use crate::holders::{options_by_item, options_of};
-use crate::narrow::{narrow_order, narrow_work};
+use crate::holders::options_by_item;
+use crate::narrow::{list_of, narrow_order, narrow_work};
 use crate::order::{ends, places, whole_order};
 use crate::plan::{Plan, Step};
 use crate::ranking::rank_items;
@@ -117,12 +117,7 @@ fn is_over(plan: &Plan, problem: &Problem, past: usize, item: u32) -> bool
     if !is_settled(plan, problem, past, item) {
         return false;
     }
-    are_past(
-        plan,
-        problem,
-        past,
-        options_of(problem, plan.holders.as_slice(), item),
-    )
+    are_past(plan, problem, past, plan.options_of(item))
 }
 
 /// The rank from which on keys have marks, once the sweep has held the first `past` of the order.
@@ -191,6 +186,13 @@ impl Plan {
         ensures { result ≡ bound - self.now.bytes }
     {
         bound.saturating_sub(self.bytes)
+    }
+
+    /// The options that hold an item, in order.
+    pub fn options_of(&self, item: u32) -> &[u32]
+        ensures { (p : Puzzle) → IsPlan p self.now → IsItem p item → result.now ≡ options_with p item }
+    {
+        list_of(self.holders.as_slice(), item)
     }
 
     /// The step that holds the item at a place of the order, where keys have marks from this rank on.

@@ -6,7 +6,6 @@
 //! sweep took a third to a sixtieth of the search's time, with no table that has to be kept, and one invariant over a
 //! list of states proves it. Queens, Langford's pairs and pentominoes leave hardly fewer states than solutions; there
 //! neither gains, and the sweep is the slower one.
-ghost use Rattle.std.specs.Prelude.{ℕ, ◌≡◌, ◌<◌, ◌≤◌, ◌+◌, ◌-◌, ◌*◌, [], Contains, length, slice_index, sum_by, true};
 ghost use Rattle.std.specs.Prelude.{ℕ, ◌≡◌, ◌≤◌, ◌+◌, ◌*◌, Bool, List, true, IfOk, OnOk};
 ghost use Rattle.xc_count.specs.inner.Worth.{EachKey, worth_by};
 

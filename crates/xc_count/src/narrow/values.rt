@@ -1,4 +1,6 @@
 //! Values of items, and lists of them, by the items' numbers. What no number names is passed over.
+ghost use Rattle.std.specs.Prelude.{◌≡◌, [], map, unwrap_or};
+ghost use Rattle.xc_input.specs.Problem.{numbered_get};
 
 /// What is the value of an item.
 pub fn value_at(values: &[u32], item: u32) -> u32 {
@@ -30,7 +32,9 @@ pub fn take_one(values: &mut Vec<u32>, item: u32) {
 }
 
 /// The list of an item.
-pub fn list_of(lists: &[Vec<u32>], item: u32) -> &[u32] {
+pub fn list_of(lists: &[Vec<u32>], item: u32) -> &[u32]
+    ensures { result.now ≡ unwrap_or (numbered_get (map (λ l. l.items) lists.now) item) [] }
+{
     match lists.get((item as usize).wrapping_sub(1)) {
         Some(list) => list.as_slice(),
         None => &[],

@@ -14,15 +14,9 @@ use Rattle.xc_count.specs.inner.Worth.{says}
 use Rattle.xc_count.proofs.ByNumber.{fork_primary, fork_listing, fork_many, members_with, few_options}
 use Rattle.xc_count.proofs.ByNumber.{more_than, number_empty, at_none, at_last, at_taken, at_passed, choice_of}
 use Rattle.xc_count.proofs.ByNumber.{agree_step, that_agree}
-use Rattle.xc_count.proofs.HolderLemmas.{option_known}
+use Rattle.xc_count.proofs.HolderLemmas.{item_of, option_known}
 use Rattle.xc_count.proofs.TakenKeys.{is_listed, left_with, less_with, solution_with}
 use Rattle.xc_count.proofs.branches.branch_with.Goals as goal
-
-pub options_of-options-requires-clause-item : goal.options_of-options-requires-clause-item
-options_of-options-requires-clause-item c =
-    let primary = fork_primary c.args.problem.now.puzzle c.requires.valid c.requires.once
-    (says c.args.plan.now 0 c.args.key.now) c.args.fork c.requires.fork in
-    (primary.0, omega (arith, primary.1))
 
 pub loop-place-init : goal.loop-place-init
 loop-place-init c =
@@ -32,9 +26,13 @@ loop-place-init c =
     record {
       solution = ap (λ ms. numbered_get ms c.args.number.now)
           (fork_listing p c.requires.valid c.requires.once s fork c.requires.fork
-          ∙ ap (members_with p s fork.0 fork.1 1) (sym c.options_of-options.ensures));
+          ∙ ap (members_with p s fork.0 fork.1 1) (sym (c.options_of-options.ensures c.args.problem.now.puzzle c.requires.plan (item_of c.args.problem.now.puzzle c.args.fork.0
+          (fork_primary c.args.problem.now.puzzle c.requires.valid c.requires.once (says c.args.plan.now 0 c.args.key.now)
+          c.args.fork c.requires.fork)))));
       few = omega arith;
-      ahead = let many = ap (λ os. length (that_agree p s os)) c.options_of-options.ensures
+      ahead = let many = ap (λ os. length (that_agree p s os)) (c.options_of-options.ensures c.args.problem.now.puzzle c.requires.plan (item_of c.args.problem.now.puzzle c.args.fork.0
+          (fork_primary c.args.problem.now.puzzle c.requires.valid c.requires.once (says c.args.plan.now 0 c.args.key.now)
+          c.args.fork c.requires.fork)))
           ∙ fork_many p c.requires.valid c.requires.once s fork c.requires.fork in omega (arith, many);
       same = refl;
     }
@@ -44,7 +42,9 @@ key_with-requires-clause-known c =
     let os = c.options_of-options.result.now in
     (option_known c.args.problem.now.puzzle c.args.fork.0 (get_or os c.loop-place.place 0)
     (is_listed os (options_with c.args.problem.now.puzzle c.args.fork.0) c.loop-place.place (omega arith)
-    c.options_of-options.ensures)).0
+    (c.options_of-options.ensures c.args.problem.now.puzzle c.requires.plan (item_of c.args.problem.now.puzzle c.args.fork.0
+    (fork_primary c.args.problem.now.puzzle c.requires.valid c.requires.once (says c.args.plan.now 0 c.args.key.now)
+    c.args.fork c.requires.fork))))).0
 
 pub loop-place-preserved-in_default : goal.loop-place-preserved-in_default
 loop-place-preserved-in_default c =
@@ -65,7 +65,9 @@ loop-place-preserved-in_default c =
 pub overflow_add-k : goal.overflow_add-k
 overflow_add-k c =
     let few : length c.options_of-options.result.now ≤ option_count c.args.problem.now.puzzle =
-    subst (λ xs. length xs ≤ option_count c.args.problem.now.puzzle) (sym c.options_of-options.ensures)
+    subst (λ xs. length xs ≤ option_count c.args.problem.now.puzzle) (sym (c.options_of-options.ensures c.args.problem.now.puzzle c.requires.plan (item_of c.args.problem.now.puzzle c.args.fork.0
+    (fork_primary c.args.problem.now.puzzle c.requires.valid c.requires.once (says c.args.plan.now 0 c.args.key.now)
+    c.args.fork c.requires.fork))))
     (few_options c.args.problem.now.puzzle c.args.fork.0) in
     omega (arith, few, c.loop-place.invariant.few, c.loop-place-test.true, c.key_with.ensures.limits.options)
 
@@ -91,7 +93,9 @@ returns-then-k-fork-clause-less c =
     let p = c.args.problem.now.puzzle in
     let os = c.options_of-options.result.now in
     let listed = is_listed os (options_with p c.args.fork.0) c.loop-place.place (omega arith)
-    c.options_of-options.ensures in
+    (c.options_of-options.ensures c.args.problem.now.puzzle c.requires.plan (item_of c.args.problem.now.puzzle c.args.fork.0
+    (fork_primary c.args.problem.now.puzzle c.requires.valid c.requires.once (says c.args.plan.now 0 c.args.key.now)
+    c.args.fork c.requires.fork))) in
     let agreed = rw c.in-Some.is at c.in_ok-next.ensures.key in
     subst (λ t. IsLess p c.args.plan.now t.key.items c.args.key.now) (sym c.taking.ensures)
     (less_with p c.requires.valid c.args.plan.now c.args.key.now c.in-Some.next.items (get_or os c.loop-place.place 0)
@@ -107,7 +111,7 @@ returns-then-le-clause-solution c =
     let agreed = rw c.in-Some.is at c.in_ok-next.ensures.key in
     let left = left_with p c.requires.valid plan c.args.key.now next o agreed.1 in
     let many = c.in_ok-covers.ensures.count
-    ∙ ap (λ k. length (listing (left_by_key p plan k))) c.as_slice-in-loop-place.ensures.value
+    ∙ ap (λ k. length (listing (left_by_key p plan k))) c.as_slice.ensures.value
     ∙ ap (λ r. length (listing r)) left in
     let few = le_from_is_le c.loop-place.number c.in_ok-covers.covers (sym c.le.ensures ∙ c.if-le.true) in
     c.loop-place.invariant.solution
@@ -122,7 +126,9 @@ returns-then-le-clause-less c =
     let p = c.args.problem.now.puzzle in
     let os = c.options_of-options.result.now in
     let listed = is_listed os (options_with p c.args.fork.0) c.loop-place.place (omega arith)
-    c.options_of-options.ensures in
+    (c.options_of-options.ensures c.args.problem.now.puzzle c.requires.plan (item_of c.args.problem.now.puzzle c.args.fork.0
+    (fork_primary c.args.problem.now.puzzle c.requires.valid c.requires.once (says c.args.plan.now 0 c.args.key.now)
+    c.args.fork c.requires.fork))) in
     let agreed = rw c.in-Some.is at c.in_ok-next.ensures.key in
     subst (λ t. IsLess p c.args.plan.now t.key.items c.args.key.now) (sym c.taking-then-le.ensures)
     (less_with p c.requires.valid c.args.plan.now c.args.key.now c.in-Some.next.items (get_or os c.loop-place.place 0)
@@ -138,7 +144,7 @@ loop-place-preserved c =
     let agreed = rw c.in-Some.is at c.in_ok-next.ensures.key in
     let left = left_with p c.requires.valid plan c.args.key.now c.in-Some.next.items o agreed.1 in
     let many = c.in_ok-covers.ensures.count
-    ∙ ap (λ k. length (listing (left_by_key p plan k))) c.as_slice-in-loop-place.ensures.value
+    ∙ ap (λ k. length (listing (left_by_key p plan k))) c.as_slice.ensures.value
     ∙ ap (λ r. length (listing r)) left in
     let more = more_than c.loop-place.number c.in_ok-covers.covers (sym c.le.ensures ∙ c.if-le.false) in
     record {

@@ -3,8 +3,7 @@ use Rattle.xc_count.proofs.Passed.{ends_below}
 use Rattle.xc_count.proofs.by_states.end.Goals as goal
 
 pub returns : goal.returns
-returns c =
+returns c p plan once is valid held =
     let len : length c.in_ok-below.below.items ≡ c.len.result = c.in_ok-below.ensures.len in
-    ends_below c.args.problem.now.puzzle c.args.plan.now c.requires.plan c.requires.once c.requires.valid
-    c.args.from c.in_ok-below.below.items c.args.layer.states.items (omega (arith, len)) c.in_ok-below.ensures.each
-    c.requires.held
+    ends_below p plan is once valid c.args.from c.in_ok-below.below.items c.args.layer.states.items (omega (arith, len))
+    c.in_ok-below.ensures.each held

@@ -10,7 +10,8 @@ use Rattle.xc_count.proofs.by_states.occurrences_by_states.Goals as goal
 pub loop-before-init : goal.loop-before-init
 loop-before-init c = record {
   kept = c.in_ok-sweep.ensures.kept;
-  below = c.in_ok-ahead.ensures;
+  below = c.in_ok-ahead.ensures c.args.problem.now.puzzle c.args.plan.now c.requires.once c.requires.plan
+      c.requires.valid c.in_ok-sweep.ensures.held;
   len = omega (arith, c.in_ok-counts.ensures.len);
   counts = λ j.
       let none = zeros_at c.in_ok-counts.counts.items (recursion_from_All _ _ c.in_ok-counts.ensures.each) j in

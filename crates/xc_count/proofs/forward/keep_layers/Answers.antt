@@ -2,7 +2,7 @@
 -- worth (`worth_left`) are together its solutions; the keys hold the items before `place`; and the bytes are within the
 -- bound. A step splits the worth of a layer into what it takes and what it passes on (`layer_parts`). Behind the last
 -- item nothing is left to be worth (`layer_end`).
-use Rattle.std.proofs.Common.{arith, ◌≡◌, ◌<◌, ◌+◌, ◌*◌, ◌∙◌, ◌∷◌, ◌++◌, [], ap, length, refl, subst, sym}
+use Rattle.std.proofs.Common.{arith, ◌≡◌, ◌<◌, ◌+◌, ◌∙◌, ◌∷◌, ◌++◌, [], ap, length, refl, subst, sym}
 use Rattle.std.specs.Prelude.{All, sum_by}
 use Rattle.std.proofs.lemmas.List.Elements.{All-push}
 use Rattle.std.proofs.lemmas.List.Sums.{sum_by_push}

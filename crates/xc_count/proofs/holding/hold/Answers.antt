@@ -1,17 +1,19 @@
 -- `mark` reads the mark of the step's item as what the key says of it. If the item is held, the key without its front
 -- leaves the same problem (`holds_next`, `left_moved`), and its worth goes to the next layer as it is. If it is free,
 -- `split` adds what the key becomes by each of the item's options, which is the worth passed on by definition.
-use Rattle.std.proofs.Common.{arith, ◌≡◌, ◌+◌, ◌*◌, ◌-◌, ◌∙◌, ap, ap₂, sym, cond, drop, get_or, Some, true}
+use Rattle.std.proofs.Common.{arith, ◌≡◌, ◌+◌, ◌*◌, ◌-◌, ◌∙◌, ap, ap₂, sym, subst, cond, drop, get_or, Some, true}
 use Rattle.std.specs.Prelude.{is_some, sum_by}
 use Rattle.std.proofs.lemmas.List.{get_or_default}
 use Rattle.std.proofs.lemmas.Result.{on_ok_weaker}
+use Rattle.xc_input.specs.Problem.{IsItem}
 use Rattle.xc_count.specs.inner.Held.{left_by}
 use Rattle.xc_count.specs.inner.Keys.{held_in, mark_says}
 use Rattle.xc_count.specs.inner.Passed.{left_worth, worth_left, worth_passed, worth_taken}
 use Rattle.xc_count.specs.inner.Plans.{options_with}
 use Rattle.xc_count.specs.inner.Worth.{holds_first, says}
+use Rattle.xc_count.proofs.HolderLemmas.{item_of}
 use Rattle.xc_count.proofs.Passed.{marked, unmarked}
-use Rattle.xc_count.proofs.PlanLemmas.{held_moved, holds_next, left_moved}
+use Rattle.xc_count.proofs.PlanLemmas.{held_moved, holds_next, left_moved, order_at}
 use Rattle.xc_count.proofs.holding.hold.Goals as goal
 
 pub returns-then-mark_of-gt0-clause-left : goal.returns-then-mark_of-gt0-clause-left
@@ -69,7 +71,9 @@ returns-clause-left g c =
     ∙ ap₂ (λ r k. held_in r step.from k c.index-item.result.now) c.as_slice.ensures.value c.as_slice-key.ensures.value
     ∙ ap s item in
     let free = unmarked c.mark_of.result (s i) mark (omega (arith, c.if-mark_of-gt0.false)) in
-    let options = c.options_of-options.ensures ∙ ap (options_with p) item in
+    let primary = order_at p plan c.requires.plan step.place c.requires.step.within in
+    let known : IsItem p c.index-item.result.now = subst (IsItem p) (sym item) (item_of p i primary) in
+    let options = c.options_of-options.ensures p c.requires.plan known ∙ ap (options_with p) item in
     on_ok_weaker c.split.result (λ left h. left h
     ∙ ap (λ n. worth_left h p plan step.next c.args.layer.now.states.items + c.args.state.now.worth * n)
     (ap (sum_by (worth_taken h p s)) options

@@ -7,7 +7,7 @@ use Rattle.std.proofs.lemmas.Result.{on_ok_weaker}
 use Rattle.std.specs.Prelude.{unwrap_or}
 use Rattle.xc_input.specs.Problem.{IsItem, uses_of}
 use Rattle.xc_search.specs.Listing.{Residual}
-use Rattle.xc_count.specs.inner.Held.{agree, holding_uses, left_by}
+use Rattle.xc_count.specs.inner.Held.{agree, holding_uses}
 use Rattle.xc_count.specs.inner.Keys.{held_in}
 use Rattle.xc_count.specs.inner.Passed.{left_worth, worth_left, worth_taken}
 use Rattle.xc_count.specs.inner.Worth.{holds_first, says}

@@ -1,5 +1,4 @@
 use Rattle.std.proofs.Common.{arith, ◌≡◌, ◌<◌, ◌+◌, ◌∙◌, Some, ap, length, refl, subst, sym}
-use Rattle.xc_input.specs.Problem.{Puzzle}
 use Rattle.xc_count.specs.inner.Passed.{left_worth, worth_passed}
 use Rattle.xc_count.specs.inner.Worth.{EachKey, holds_first, key_below, worth}
 use Rattle.xc_count.proofs.Passed.{covers_left, ends_worth, layer_below}

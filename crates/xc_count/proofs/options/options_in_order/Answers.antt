@@ -1,15 +1,20 @@
 use Rattle.std.proofs.Common.{arith, ◌≡◌, ◌≤◌, ◌+◌, ◌∙◌, sym, subst, get_or, length, ltb-true, ltb-false}
 use Rattle.std.specs.Prelude.{nat_lt, All, Contains}
+use Rattle.xc_input.specs.Problem.{IsItem, IsPrimary}
 use Rattle.xc_text.proofs.ListLemmas.{by_bool}
 use Rattle.xc_count.specs.inner.Plans.{options_with}
-use Rattle.xc_count.proofs.HolderLemmas.{options_known}
+use Rattle.xc_count.proofs.HolderLemmas.{item_of, options_known}
 use Rattle.xc_count.proofs.options.options_in_order.Goals as goal
 
 pub push_each-requires-clause-options : goal.push_each-requires-clause-options
 push_each-requires-clause-options c =
     let p = c.args.problem.now.puzzle in
     let item = get_or c.deref-item-items.result.now c.loop-item.item-index 0 in
-    subst (λ os. All (λ o. (1 ≤ o) × (o ≤ length c.loop-item.seen.items)) os) (sym c.options_of.ensures)
+    let known : IsItem p item = item_of p item
+    (subst (λ ys. IsPrimary p (get_or ys c.loop-item.item-index 0)) (sym c.deref-item-items.ensures.value)
+    (c.requires.order.primary c.loop-item.item-index 0 (grind arith))) in
+    subst (λ os. All (λ o. (1 ≤ o) × (o ≤ length c.loop-item.seen.items)) os)
+    (sym (c.options_of.ensures p c.requires known))
     (subst (λ n. All (λ o. (1 ≤ o) × (o ≤ n)) (options_with p item)) (sym c.loop-item.invariant.len)
     (options_known p item))
 
