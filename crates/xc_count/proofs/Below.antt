@@ -184,6 +184,3 @@ left_same p v s t same = left_over p v s t [] (λ i. false) (λ j c. absurd (ome
   where
     no : false ≡ true → ⊥
     no e = cc
-
-pub below_same : (p : Puzzle) → IsValid p → (s t : Held) → ((i : ℕ) → IsItem p i → t i ≡ s i) → below p t ≡ below p s
-below_same p v s t same = ap (λ r. length (listing r)) (left_same p v s t same)

@@ -166,25 +166,6 @@ pub lists_begin : {X : Type 0} (f : X → List ℕ) (p : Puzzle) (ls : List X) (
 lists_begin f p ls zero a h k = absurd (omega (arith, h))
 lists_begin f p ls (suc i) a h k = rw (empty_at f ls i a (omega (arith, k))) refl
 
--- the list of an item
-pub holders_at : {X : Type 0} (f : X → List ℕ) (p : Puzzle) (ls : List X) (i : ℕ) (x : X) → AreHolders p (map f ls)
-    → IsItem p i → x ≡ get_or ls (i - 1) x → f x ≡ options_with p i
-holders_at f p ls zero x all item e = absurd (omega (arith, item.0))
-holders_at f p ls (suc k) x all item e =
-    let at : option_map f (slice_get ls k) ≡ Some (options_with p (suc k)) = sym (get_map f ls k) ∙ all (suc k) item in
-    let place : suc k - 1 ≡ k = omega arith in
-    by_option (slice_get ls k)
-    (λ q. absurd (nothing (rw q at at)))
-    (λ y q.
-    let is : x ≡ y = e ∙ ap (λ j. get_or ls j x) place ∙ get_or_from_slice_get ls k y x q in
-    ap f is ∙ some (f y) (options_with p (suc k)) (rw q at at))
-  where
-    nothing : {l : List ℕ} → None ≡ Some l → ⊥
-    nothing q = cc
-
-    some : (a b : List ℕ) → Some a ≡ Some b → a ≡ b
-    some a b q = cc
-
 -- an option of the list of an item is one of the problem, and holds it
 pub option_known : (p : Puzzle) (i o : ℕ) → Contains (options_with p i) o
     → IsOption p o × (is_some (colour_in (uses_of p o) i) ≡ true)

@@ -11,12 +11,6 @@ use Rattle.xc_count.specs.inner.Held.{Held, holding_uses}
 use Rattle.xc_count.specs.inner.Keys.{mark_says, held_in, rank_of}
 use Rattle.xc_count.specs.inner.Plans.{IsRanking}
 
--- two items have two ranks
-pub ranks_apart : (n : ℕ) (ranks items : List ℕ) → IsRanking n ranks items → (i j : ℕ) → 1 ≤ i → i ≤ n → 1 ≤ j → j ≤ n
-    → i ≢ j → rank_of ranks i ≢ rank_of ranks j
-ranks_apart n ranks items is i j l h m k differ e =
-    differ (sym (is.1 i l h) ∙ ap (λ r. get_or items r 0) e ∙ is.1 j m k)
-
 -- the first marks are left out
 pub held_dropped : (ranks : List ℕ) (from next : ℕ) (key : List ℕ) (i : ℕ) → from ≤ next
     → held_in ranks next (drop (next - from) key) i ≡ cond (nat_lt (rank_of ranks i) next) (Some 0)

@@ -32,30 +32,6 @@ set_there (x ∷ xs) (suc k) (suc i) v h = set_there xs k i v (λ e. h (ap suc e
 held_cons : (u : Use) (us : List Use) (i : ℕ) → u.item ≢ i → held_by (u ∷ us) i ≡ held_by us i
 held_cons u us i h = let e : eqb u.item i ≡ false = ne_eqb _ _ h in rw e refl
 
--- a step over uses: one more for the item of each
-pub more_left : (us : List Use) (k : ℕ) (d : Use) (left : List ℕ) (total : ℕ → ℕ) (v : ℕ) → k < length us
-    → (get_or us k d).item < length left → v ≡ get_or left (get_or us k d).item 0 + 1
-    → ((i : ℕ) → total i ≤ held_by (drop k us) i + get_or left i 0)
-    → (i : ℕ) → total i ≤ held_by (drop (k + 1) us) i + get_or (set left (get_or us k d).item v) i 0
-more_left us k d left total v h within more so i =
-    let u = get_or us k d in
-    let here : drop k us ≡ u ∷ drop (k + 1) us = drop-cons us k d h ∙ ap (λ n. u ∷ drop n us)
-    (let z : suc k ≡ k + 1 = omega arith in z) in
-    let was : total i ≤ held_by (u ∷ drop (k + 1) us) i + get_or left i 0 =
-    subst (λ vs. total i ≤ held_by vs i + get_or left i 0) here (so i) in
-    by_bool (eqb u.item i)
-    (λ e.
-    let is = eqb-true _ _ e in
-    let new : get_or (set left u.item v) i 0 ≡ v =
-    subst (λ j. get_or (set left u.item v) j 0 ≡ v) is (set_here left u.item v within) in
-    let old : v ≡ get_or left i 0 + 1 = subst (λ j. v ≡ get_or left j 0 + 1) is more in
-    let one : held_by (u ∷ drop (k + 1) us) i ≡ 1 = rw e refl in
-    omega (arith, was, one, old, new))
-    (λ e.
-    let other : u.item ≢ i = λ q. let t = eq-eqb _ _ q in cc (t, e) in
-    let new = set_there left u.item i v other in
-    omega (arith, was, held_cons u (drop (k + 1) us) i other, new))
-
 -- and one less: each item that these uses hold has one less once its use is behind
 pub less_left : (us : List Use) (k : ℕ) (d : Use) (left : List ℕ) (old : ℕ → ℕ) (v : ℕ)
     → EachTwo (λ u v. u.item ≢ v.item) us → k < length us → held_by us (get_or us k d).item ≡ 1
@@ -86,47 +62,7 @@ less_left us k d left old v two h holds within less so i =
     let new = set_there left u.item i v other in
     omega (arith, was, held_cons u (drop (k + 1) us) i other, new))
 
--- an option before others
-pub at_most_more : (p : Puzzle) (o : ℕ) (os left new : List ℕ) → AtMost p os left
-    → ((i : ℕ) → held_by (uses_of p o) i + get_or left i 0 ≤ get_or new i 0) → AtMost p (o ∷ os) new
-at_most_more p o os left new a more i = omega (arith, a i, more i, holders_cons p o os i)
-
 -- and once it is behind
 pub at_most_less : (p : Puzzle) (o : ℕ) (os left new : List ℕ) → AtMost p (o ∷ os) left
     → ((i : ℕ) → get_or new i 0 ≡ get_or left i 0 - held_by (uses_of p o) i) → AtMost p os new
 at_most_less p o os left new a less i = omega (arith, a i, less i, holders_cons p o os i)
-
--- an option that isn't there yet is added
-pub once_more : (order seen : List ℕ) (o v : ℕ) → AreOnce order seen → 1 ≤ o → o ≤ length seen
-    → get_or seen (o - 1) 0 ≡ 0 → v ≢ 0 → AreOnce (order ++ o ∷ []) (set seen (o - 1) v)
-once_more order seen o v a h l free mark = record {
-  known = subst (λ n. All (λ x. (1 ≤ x) × (x ≤ n)) (order ++ o ∷ [])) (sym (length-set seen (o - 1) v))
-      (All-append (λ x. (1 ≤ x) × (x ≤ length seen)) order (o ∷ []) a.known
-      (All-from_recursion (λ x. (1 ≤ x) × (x ≤ length seen)) (o ∷ []) ((h, l), tt)));
-  distinct = AllPairs-from_each_two _ _ (EachTwo-append (λ a b. a ≢ b) order (o ∷ [])
-      (each_two_from_AllPairs _ _ a.distinct) (tt, tt) (λ x y k m e. elim m [
-        | inl q ↦ a.unlisted o h l free (subst (Contains order) (e ∙ sym q) (contains-in order x k))
-        | inr q ↦ absurd q
-      ]));
-  listed = λ x b c n. by_bool (eqb x o)
-      (λ e. subst (Contains (order ++ o ∷ [])) (sym (eqb-true _ _ e))
-      (Contains-append_right order (o ∷ []) o (contains-in (o ∷ []) o (inl refl))))
-      (λ e.
-      let other : o - 1 ≢ x - 1 = λ q. let s : x ≡ o = omega (arith, q, b, h) in let t = eq-eqb _ _ s in cc (t, e) in
-      Contains-append_left order (o ∷ []) x
-      (a.listed x b (omega (arith, c, length-set seen (o - 1) v))
-      (λ z. n (set_there seen (o - 1) (x - 1) v other ∙ z))));
-  unlisted = λ x b c z k. by_bool (eqb x o)
-      (λ e.
-      let is = eqb-true _ _ e in
-      let there : get_or (set seen (o - 1) v) (o - 1) 0 ≡ v = set_here seen (o - 1) v (omega (arith, h, l)) in
-      mark (sym there ∙ ap (λ n. get_or (set seen (o - 1) v) (n - 1) 0) (sym is) ∙ z))
-      (λ e.
-      let different : x ≢ o = λ q. let t = eq-eqb _ _ q in cc (t, e) in
-      let other : o - 1 ≢ x - 1 = λ q. different (omega (arith, q, b, h)) in
-      elim (Contains-append_cases order (o ∷ []) x k) [
-        | inl m ↦ a.unlisted x b (omega (arith, c, length-set seen (o - 1) v))
-            (sym (set_there seen (o - 1) (x - 1) v other) ∙ z) m
-        | inr m ↦ elim (in-contains (o ∷ []) x m) [ inl q ↦ different (sym q) | inr q ↦ absurd q ]
-      ]);
-}

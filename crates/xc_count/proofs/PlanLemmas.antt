@@ -112,10 +112,6 @@ window_pushed p order ranks old new w is olds over = subst (AreWindows p order r
 some_not_none : (o : Option ℕ) → is_some o ≡ true → o ≢ None
 some_not_none o s e = cc
 
-not_none_some : (o : Option ℕ) → o ≢ None → is_some o ≡ true
-not_none_some None h = absurd (h refl)
-not_none_some (Some c) h = refl
-
 module _ (p : Puzzle) (plan : Plan) (is : IsPlan p plan) where
   pub past_primary : (k j : ℕ) → Contains (take k plan.order.items) j → IsPrimary p j
   past_primary k j c = each_in (IsPrimary p) plan.order.items j (recursion_from_All _ _ is.order.primary)

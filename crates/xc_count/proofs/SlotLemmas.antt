@@ -211,15 +211,6 @@ pub bytes_push : {W : Type 0} (limbs : W → ℕ) (ss : List (State W)) (s : Sta
     → charged limbs (ss ++ s ∷ []) ≡ charged limbs ss + state_bytes s.key.items (limbs s.worth)
 bytes_push limbs ss s = sum_by_push (λ t. state_bytes t.key.items (limbs t.worth)) ss s
 
--- another worth of one of them
-pub bytes_set : {W : Type 0} (limbs : W → ℕ) (ss : List (State W)) (k : ℕ) (s t : State W) → slice_get ss k ≡ Some s
-    → t.key ≡ s.key → charged limbs (set ss k t) + 8 * limbs s.worth ≡ charged limbs ss + 8 * limbs t.worth
-bytes_set limbs ss k s t e key =
-    let there = sum_by-set (λ u. state_bytes u.key.items (limbs u.worth)) ss k t s (slice_get_within ss k s e) in
-    let old : get_or ss k s ≡ s = get_or_from_slice_get ss k s s e in
-    let len : length t.key.items ≡ length s.key.items = ap (λ v. length v.items) key in
-    omega (arith, rw old at there, len)
-
 pub hashed_push : {W : Type 0} (seed : Seed) (ss : List (State W)) (s : State W) → AreHashed seed (told ss)
     → s.hash ≡ hash_by seed s.key.items → AreHashed seed (told (ss ++ s ∷ []))
 hashed_push seed ss s each here k t at =

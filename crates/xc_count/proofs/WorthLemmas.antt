@@ -87,18 +87,6 @@ keys_added_to q key w ss ts e each h = All-from_recursion (λ s. q s.key.items �
 
 -- ---- one state less
 
--- the last taken off
-pub keys_before : (q : List ℕ → Bool) (ss : List CountState) (s : CountState) → EachKey q (ss ++ s ∷ []) → EachKey q ss
-keys_before q ss s a k d h =
-    let more : k < length (ss ++ s ∷ []) = omega (arith, h, length-append ss (s ∷ [])) in
-    subst (λ t. q t.key.items ≡ true) (get_or_append_left ss (s ∷ []) d k h) (a k d more)
-
-pub key_last : (q : List ℕ → Bool) (ss : List CountState) (s : CountState) → EachKey q (ss ++ s ∷ [])
-    → q s.key.items ≡ true
-key_last q ss s a =
-    let more : length ss < length (ss ++ s ∷ []) = omega (arith, length-append ss (s ∷ [])) in
-    subst (λ t. q t.key.items ≡ true) (get_or-append_seam ss s [] s) (a (length ss) s more)
-
 -- one step of a sum over options
 pub sum_more : (f : ℕ → ℕ) (k w a b t : ℕ) (os : List ℕ) → k < length os → a + w * sum_by f (drop k os) ≡ t
     → b ≡ a + w * f (get_or os k 0) → b + w * sum_by f (drop (k + 1) os) ≡ t
