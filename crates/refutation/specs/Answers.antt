@@ -1,0 +1,13 @@
+-- What an answer says of clauses.
+use Rattle.std.specs.Prelude.{ℕ, List, Vec}
+use Rattle.std.specs.declared.alloc.Global.{Global}
+use Rattle.refutation.specs.Refutation.{IsUnsatisfiable}
+use Rattle.refutation.specs.declared.answer.Answer.{Answer}
+use Rattle.refutation.specs.declared.answer.Answer.TheVariants.{Refuted, Unfinished, DoesNotFollow, NoStep}
+
+-- where clauses were refuted, they can't all be true
+abbrev pub IsRight : List (Vec ℕ Global) → Answer → Type 0
+IsRight formula Refuted = IsUnsatisfiable formula
+IsRight formula Unfinished = Unit {0}
+IsRight formula (DoesNotFollow step) = Unit {0}
+IsRight formula (NoStep step) = Unit {0}
