@@ -1,0 +1,3 @@
+pub mod ClauseLemmas
+pub mod DerivationLemmas
+pub mod TrailLemmas

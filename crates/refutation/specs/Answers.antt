@@ -6,8 +6,8 @@ use Rattle.refutation.specs.declared.answer.Answer.{Answer}
 use Rattle.refutation.specs.declared.answer.Answer.TheVariants.{Refuted, Unfinished, DoesNotFollow, NoStep}
 
 -- where clauses were refuted, they can't all be true
-abbrev pub IsRight : List (Vec ℕ Global) → Answer → Type 0
-IsRight formula Refuted = IsUnsatisfiable formula
-IsRight formula Unfinished = Unit {0}
-IsRight formula (DoesNotFollow step) = Unit {0}
-IsRight formula (NoStep step) = Unit {0}
+abbrev pub IsTrueOf : List (Vec ℕ Global) → Answer → Type 0
+IsTrueOf formula Refuted = IsUnsatisfiable formula
+IsTrueOf formula Unfinished = Unit {0}
+IsTrueOf formula (DoesNotFollow step) = Unit {0}
+IsTrueOf formula (NoStep step) = Unit {0}

@@ -2,8 +2,18 @@
 #![tactic(auto)]
 
 mod answer;
+mod binary;
+mod clause;
+mod derivation;
+mod index;
 mod literal;
+mod proof_bytes;
+mod propagation;
 mod refuting;
+mod steps;
+mod text;
+mod trail;
+mod watches;
 
 pub use answer::Answer;
 pub use literal::negated;
