@@ -8,10 +8,12 @@ use xc_text::{Feed, SliceSource, Unread};
 const LITERALS: usize = 26;
 
 /// What cadical 1.5.3 shows of the pigeons, as text.
-const TEXT: &[u8] = b"-11 -12 0\n-7 -12 0\n-12 0\n-8 0\n-7 0\n9 0\n-3 0\n-6 0\n-1 0\n2 0\n-5 0\n-11 0\n4 0\n10 0\n0\n";
+const TEXT: &[u8] =
+    b"-11 -12 0\n-7 -12 0\n-12 0\n-8 0\n-7 0\n9 0\n-3 0\n-6 0\n-1 0\n2 0\n-5 0\n-11 0\n4 0\n10 0\n0\n";
 
 /// The same, as bytes.
-const BINARY: &[u8] = b"a\x17\x19\0a\x0f\x19\0a\x19\0a\x11\0a\x0f\0a\x12\0a\x07\0a\x0d\0a\x03\0a\x04\0a\x0b\0a\x17\0a\x08\0a\x14\0a\0";
+const BINARY: &[u8] =
+    b"a\x17\x19\0a\x0f\x19\0a\x19\0a\x11\0a\x0f\0a\x12\0a\x07\0a\x0d\0a\x03\0a\x04\0a\x0b\0a\x17\0a\x08\0a\x14\0a\0";
 
 /// Each of four pigeons is in one of three holes, and no two are in the same one. That pigeon p, from 0, is in hole h is
 /// variable 3p + h + 1.
@@ -42,7 +44,12 @@ fn two_variables(alloc: Global) -> Result<Vec<Vec<u32>>, AllocError> {
 
 /// What a proof shows of clauses.
 fn shown(alloc: Global, formula: &Vec<Vec<u32>>, proof: &[u8]) -> Result<Answer, Unread> {
-    refute(alloc, formula.as_slice(), LITERALS, &mut SliceSource::new(proof))
+    refute(
+        alloc,
+        formula.as_slice(),
+        LITERALS,
+        &mut SliceSource::new(proof),
+    )
 }
 
 /// What a proof shows of two variables.
@@ -78,15 +85,24 @@ fn a_proof_comes_in_any_pieces(rt: HostRuntime) -> Result<(), Fail> {
 fn a_proof_may_be_longer_than_a_read(rt: HostRuntime) -> Result<(), Fail> {
     let mut proof = vec![in rt.alloc(); b' '; 70000]?;
     proof.extend_from_slice(b"\n2 0\n0\n")?;
-    assert_eq!(rt; shown_of_two(rt.alloc(), proof.as_slice()), Ok(Answer::Refuted));
+    assert_eq!(rt;
+        shown_of_two(rt.alloc(), proof.as_slice()),
+        Ok(Answer::Refuted)
+    );
     Ok(())
 }
 
 #[test]
 fn a_proof_that_is_cut_is_unfinished(rt: HostRuntime) -> Result<(), Fail> {
     let formula = pigeons(rt.alloc())?;
-    assert_eq!(rt; shown(rt.alloc(), &formula, b"-11 -12 0\n"), Ok(Answer::Unfinished));
-    assert_eq!(rt; shown(rt.alloc(), &formula, b"a\x17\x19\0a\x0f\x19\0"), Ok(Answer::Unfinished));
+    assert_eq!(rt;
+        shown(rt.alloc(), &formula, b"-11 -12 0\n"),
+        Ok(Answer::Unfinished)
+    );
+    assert_eq!(rt;
+        shown(rt.alloc(), &formula, b"a\x17\x19\0a\x0f\x19\0"),
+        Ok(Answer::Unfinished)
+    );
     assert_eq!(rt; shown(rt.alloc(), &formula, b""), Ok(Answer::Unfinished));
     Ok(())
 }
@@ -94,11 +110,23 @@ fn a_proof_that_is_cut_is_unfinished(rt: HostRuntime) -> Result<(), Fail> {
 #[test]
 fn a_clause_has_to_follow(rt: HostRuntime) -> Result<(), Fail> {
     let formula = pigeons(rt.alloc())?;
-    assert_eq!(rt; shown(rt.alloc(), &formula, b"-11 -12 0\n1 0\n"), Ok(Answer::DoesNotFollow(2)));
-    assert_eq!(rt; shown(rt.alloc(), &formula, b"a\x02\0"), Ok(Answer::DoesNotFollow(1)));
-    assert_eq!(rt; shown(rt.alloc(), &formula, b"0\n"), Ok(Answer::DoesNotFollow(1)));
+    assert_eq!(rt;
+        shown(rt.alloc(), &formula, b"-11 -12 0\n1 0\n"),
+        Ok(Answer::DoesNotFollow(2))
+    );
+    assert_eq!(rt;
+        shown(rt.alloc(), &formula, b"a\x02\0"),
+        Ok(Answer::DoesNotFollow(1))
+    );
+    assert_eq!(rt;
+        shown(rt.alloc(), &formula, b"0\n"),
+        Ok(Answer::DoesNotFollow(1))
+    );
     // A variable that the formula doesn't have.
-    assert_eq!(rt; shown(rt.alloc(), &formula, b"13 0\n"), Ok(Answer::DoesNotFollow(1)));
+    assert_eq!(rt;
+        shown(rt.alloc(), &formula, b"13 0\n"),
+        Ok(Answer::DoesNotFollow(1))
+    );
     Ok(())
 }
 
@@ -106,10 +134,19 @@ fn a_clause_has_to_follow(rt: HostRuntime) -> Result<(), Fail> {
 fn a_dropped_clause_is_not_used(rt: HostRuntime) {
     let alloc = rt.alloc();
     assert_eq!(rt; shown_of_two(alloc, b"2 0\n0\n"), Ok(Answer::Refuted));
-    assert_eq!(rt; shown_of_two(alloc, b"d 2 1 0\n2 0\n0\n"), Ok(Answer::DoesNotFollow(2)));
-    assert_eq!(rt; shown_of_two(alloc, b"d\x04\x02\0a\x04\0"), Ok(Answer::DoesNotFollow(2)));
+    assert_eq!(rt;
+        shown_of_two(alloc, b"d 2 1 0\n2 0\n0\n"),
+        Ok(Answer::DoesNotFollow(2))
+    );
+    assert_eq!(rt;
+        shown_of_two(alloc, b"d\x04\x02\0a\x04\0"),
+        Ok(Answer::DoesNotFollow(2))
+    );
     // Clauses that aren't there are passed over.
-    assert_eq!(rt; shown_of_two(alloc, b"d 1 0\nd 1 2 3 0\nd 0\n2 0\n"), Ok(Answer::Refuted));
+    assert_eq!(rt;
+        shown_of_two(alloc, b"d 1 0\nd 1 2 3 0\nd 0\n2 0\n"),
+        Ok(Answer::Refuted)
+    );
 }
 
 #[test]
@@ -122,20 +159,46 @@ fn what_a_dropped_clause_led_to_stays(rt: HostRuntime) -> Result<(), Fail> {
             formula.push(vec![in rt.alloc(); 5, third, fourth]?)?;
         }
     }
-    assert_eq!(rt; shown(rt.alloc(), &formula, b"d 1 0\nd -1 2 0\n3 0\n"), Ok(Answer::Refuted));
+    assert_eq!(rt;
+        shown(rt.alloc(), &formula, b"d 1 0\nd -1 2 0\n3 0\n"),
+        Ok(Answer::Refuted)
+    );
     Ok(())
 }
 
 #[test]
 fn what_is_no_step_is_reported(rt: HostRuntime) {
     let alloc = rt.alloc();
-    for text in ["1 x 0\n", "1 2", "1 2 -", "-0 0\n", "2147483648 0\n", "12345678901 0\n", "1d 0\n", "d2 0\n", "x 0\n"] {
-        assert_eq!(rt; shown_of_two(alloc, text.as_bytes()), Ok(Answer::NoStep(1)), "in {text}");
+    for text in [
+        "1 x 0\n",
+        "1 2",
+        "1 2 -",
+        "-0 0\n",
+        "2147483648 0\n",
+        "12345678901 0\n",
+        "1d 0\n",
+        "d2 0\n",
+        "x 0\n",
+    ] {
+        assert_eq!(rt;
+            shown_of_two(alloc, text.as_bytes()),
+            Ok(Answer::NoStep(1)),
+            "in {text}"
+        );
     }
-    assert_eq!(rt; shown_of_two(alloc, b"a\x02\x04\0a\x05"), Ok(Answer::NoStep(2)));
+    assert_eq!(rt;
+        shown_of_two(alloc, b"a\x02\x04\0a\x05"),
+        Ok(Answer::NoStep(2))
+    );
     assert_eq!(rt; shown_of_two(alloc, b"a\x01\0"), Ok(Answer::NoStep(1)));
-    assert_eq!(rt; shown_of_two(alloc, b"a\xff\xff\xff\xff\x7f\0"), Ok(Answer::NoStep(1)));
-    assert_eq!(rt; shown_of_two(alloc, b"a\x02\x04\0b\x05\0"), Ok(Answer::NoStep(2)));
+    assert_eq!(rt;
+        shown_of_two(alloc, b"a\xff\xff\xff\xff\x7f\0"),
+        Ok(Answer::NoStep(1))
+    );
+    assert_eq!(rt;
+        shown_of_two(alloc, b"a\x02\x04\0b\x05\0"),
+        Ok(Answer::NoStep(2))
+    );
 }
 
 #[test]
