@@ -1,14 +1,13 @@
 -- What a clause comes to, and what clauses lead to.
-use Rattle.std.proofs.Common.{ℕ, ◌≡◌, ◌⊎◌, ◌<◌, ◌≤◌, ◌+◌, Bool, true, false, List, [], ◌∷◌, ◌++◌, length, refl, sym, ap, ◌∙◌, inl, inr, subst, take, get_or, Option, Some, None, arith, min}
-use Rattle.std.specs.Prelude.{All, Contains, Vec, not, MatchOption, ◌==◌}
+use Rattle.std.proofs.Common.{ℕ, ◌≡◌, ◌⊎◌, ◌<◌, ◌≤◌, ◌+◌, Bool, true, false, List, [], ◌∷◌, ◌++◌, length, refl, sym, ap, ◌∙◌, inl, inr, subst, take, get_or, arith, min}
+use Rattle.std.specs.Prelude.{All, Contains, Vec, not}
 use Rattle.std.proofs.lemmas.List.{take_all, take_at, take-take, length-take}
-use Rattle.std.proofs.lemmas.Bool.{eqb-false}
 use Rattle.std.specs.List.{list_any}
 use Rattle.std.specs.declared.alloc.Global.{Global}
 use Rattle.std.proofs.lemmas.List.Elements.{All-contains, All-nil, All-weaker, All-push, All-more}
 use Rattle.std.proofs.lemmas.List.Folds.{list_any_none, list_any_at}
 use Rattle.refutation.specs.Refutation.{negated, IsValuation}
-use Rattle.refutation.specs.inner.Steps.{AreFalseBeside, AreTrue, AreTrueOrDropped, IsTrueOrDropped, Leads, LeadTo, Assumes, Shown}
+use Rattle.refutation.specs.inner.Steps.{AreFalseBeside, AreTrue, IsTrueOrDropped, Leads, LeadTo, Assumes, Shown}
 
 pub not_true : (b : Bool) → not b ≡ true → b ≡ false
 not_true true e = cc

@@ -1,6 +1,6 @@
 -- What a derivation's clauses are after it took or showed one.
-use Rattle.std.proofs.Common.{ℕ, ◌≡◌, Bool, true, false, List, [], ◌∷◌, ◌++◌, length, refl, sym, ap, ◌∙◌, inl, inr, set, subst, take}
-use Rattle.std.specs.Prelude.{All, Contains, Vec, Some, if◌then◌else◌}
+use Rattle.std.proofs.Common.{ℕ, ◌≡◌, Bool, true, false, List, [], ◌∷◌, ◌++◌, length, sym, ap, ◌∙◌, inr, set, subst, take}
+use Rattle.std.specs.Prelude.{Contains, Vec, Some, if◌then◌else◌}
 use Rattle.std.specs.List.{list_any}
 use Rattle.std.specs.declared.alloc.Global.{Global}
 use Rattle.std.proofs.lemmas.List.Elements.{All-push, All-set, All-contains}
@@ -8,9 +8,9 @@ use Rattle.refutation.specs.declared.derivation.Derivation.{Derivation}
 use Rattle.refutation.specs.declared.answer.Answer.{Answer}
 use Rattle.refutation.specs.declared.answer.Answer.TheVariants.{Refuted, Unfinished, DoesNotFollow, NoStep}
 use Rattle.refutation.specs.Answers.{IsTrueOf}
-use Rattle.refutation.specs.Refutation.{IsValuation, Satisfies, IsUnsatisfiable}
+use Rattle.refutation.specs.Refutation.{IsUnsatisfiable}
 use Rattle.refutation.specs.inner.Steps.{AreTrue, AreTrueOrDropped, IsTrueOrDropped, Leads, LeadTo, PutsAmong, Shown}
-use Rattle.refutation.specs.inner.Derivations.{Holds, Keeps, TakesClause, Shows, Entails, IsJudged}
+use Rattle.refutation.specs.inner.Derivations.{Keeps, TakesClause, Shows, Entails, IsJudged}
 use Rattle.refutation.proofs.ClauseLemmas.{not_false, true_false}
 
 pub puts_behind : (old : List (Vec ℕ Global)) (clause : Vec ℕ Global) → PutsAmong old clause.items (old ++ clause ∷ [])

@@ -1,4 +1,4 @@
-use Rattle.std.proofs.Common.{ℕ, ◌≡◌, Bool, false, List, sym, subst}
+use Rattle.std.proofs.Common.{Bool, false, subst}
 use Rattle.std.proofs.lemmas.Result.{IfOk-weaker}
 use Rattle.refutation.specs.inner.Steps.{Assumes, LeadTo, Shown}
 use Rattle.refutation.proofs.ClauseLemmas.{shown_by}

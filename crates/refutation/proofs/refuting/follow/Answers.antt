@@ -1,5 +1,5 @@
-use Rattle.std.proofs.Common.{ℕ, ◌≡◌, List, sym, subst}
-use Rattle.refutation.specs.inner.Derivations.{Keeps, Shows, TakesClause}
+use Rattle.std.proofs.Common.{ℕ, List, subst}
+use Rattle.refutation.specs.inner.Derivations.{Shows, TakesClause}
 use Rattle.refutation.proofs.DerivationLemmas.{keeps_taken}
 use Rattle.refutation.proofs.refuting.follow.Goals as goal
 
