@@ -1,5 +1,5 @@
-//! Tests of `xc_input`, `refutation`, `xc_dance` and `xc_words`, with what these export of the libraries below, a module
-//! for each. They use public calls alone, so no library is proved a second time for them. `search_tests` and
+//! Tests of `xc_input`, `refutation`, `xc_dance` and `xc_words`, with what these export of the libraries below, a
+//! module for each. They use public calls alone, so no library is proved a second time for them. `search_tests` and
 //! `upper_tests` have those of the other libraries.
 #![tactic(auto)]
 

@@ -15,8 +15,8 @@ const TEXT: &[u8] =
 const BINARY: &[u8] =
     b"a\x17\x19\0a\x0f\x19\0a\x19\0a\x11\0a\x0f\0a\x12\0a\x07\0a\x0d\0a\x03\0a\x04\0a\x0b\0a\x17\0a\x08\0a\x14\0a\0";
 
-/// Each of four pigeons is in one of three holes, and no two are in the same one. That pigeon p, from 0, is in hole h is
-/// variable 3p + h + 1.
+/// Each of four pigeons is in one of three holes, and no two are in the same one. That pigeon p, from 0, is in hole h
+/// is variable 3p + h + 1.
 fn pigeons(alloc: Global) -> Result<Vec<Vec<u32>>, AllocError> {
     let mut clauses = Vec::new(alloc);
     for pigeon in 0..4u32 {

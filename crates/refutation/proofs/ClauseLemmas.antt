@@ -1,5 +1,6 @@
 -- What a clause comes to, and what clauses lead to.
-use Rattle.std.proofs.Common.{ℕ, ◌≡◌, ◌⊎◌, ◌<◌, ◌≤◌, ◌+◌, Bool, true, false, List, [], ◌∷◌, ◌++◌, length, refl, sym, ap, ◌∙◌, inl, inr, subst, take, get_or, arith, min}
+use Rattle.std.proofs.Common.{ℕ, ◌≡◌, ◌⊎◌, ◌<◌, ◌≤◌, ◌+◌, Bool, true, false, List, [], ◌∷◌, ◌++◌, length, refl}
+use Rattle.std.proofs.Common.{sym, ap, ◌∙◌, inl, inr, subst, take, get_or, arith, min}
 use Rattle.std.specs.Prelude.{All, Contains, Vec, not}
 use Rattle.std.proofs.lemmas.List.{take_all, take_at, take-take, length-take}
 use Rattle.std.specs.List.{list_any}
@@ -75,13 +76,17 @@ pub beside_all : (trail clause : List ℕ) (i other : ℕ) → length clause ≤
 beside_all trail clause i other h all =
     subst (λ (xs : List ℕ). AreFalseBeside trail other xs) (take_all i clause h) all
 
+-- a walk over the literals of a clause
+pub ruleset besides = (beside_none, beside_more, beside_all)
+
 -- where the other one is false too, all are
 pub all_false : (trail clause : List ℕ) (other : ℕ) → Contains trail (negated other) → AreFalseBeside trail other clause
     → All (λ l. Contains trail (negated l)) clause
 all_false trail clause other found a = All-weaker (λ l. (l ≡ other) ⊎ Contains trail (negated l))
     (λ l. Contains trail (negated l)) (λ l is. false_too trail other l found is) clause a.all
 
-kept_some : (v : ℕ → Bool) (clause : List ℕ) → (length clause ≡ 0 → ⊥) → IsTrueOrDropped v clause → list_any v clause ≡ true
+kept_some : (v : ℕ → Bool) (clause : List ℕ) → (length clause ≡ 0 → ⊥) → IsTrueOrDropped v clause
+    → list_any v clause ≡ true
 kept_some v clause some (inl e) = absurd (some e)
 kept_some v clause some (inr h) = h
 
@@ -137,8 +142,8 @@ begins_on a b c f g =
     sym t ∙ (ap (λ (x : List ℕ). take (length a) x) g ∙ f)
 
 -- one after the other
-pub lead_on : (clauses : List (Vec ℕ Global)) (old mid : List ℕ) (b : Bool) (new : List ℕ) → LeadTo clauses old false mid
-    → LeadTo clauses mid b new → LeadTo clauses old b new
+pub lead_on : (clauses : List (Vec ℕ Global)) (old mid : List ℕ) (b : Bool) (new : List ℕ)
+    → LeadTo clauses old false mid → LeadTo clauses mid b new → LeadTo clauses old b new
 lead_on clauses old mid b new f g = record {
   begins = begins_on old mid new f.begins g.begins;
   leads = λ v is k t. g.leads v is k (f.leads v is k t).1;

@@ -1,5 +1,6 @@
 -- What a derivation's clauses are after it took or showed one.
-use Rattle.std.proofs.Common.{ℕ, ◌≡◌, Bool, true, false, List, [], ◌∷◌, ◌++◌, length, sym, ap, ◌∙◌, inr, set, subst, take}
+use Rattle.std.proofs.Common.{ℕ, ◌≡◌, Bool, true, false, List, [], ◌∷◌, ◌++◌, length, sym, ap}
+use Rattle.std.proofs.Common.{◌∙◌, inr, set, subst, take}
 use Rattle.std.specs.Prelude.{Contains, Vec, Some, if◌then◌else◌}
 use Rattle.std.specs.List.{list_any}
 use Rattle.std.specs.declared.alloc.Global.{Global}
@@ -10,7 +11,7 @@ use Rattle.refutation.specs.declared.answer.Answer.TheVariants.{Refuted, Unfinis
 use Rattle.refutation.specs.Answers.{IsTrueOf}
 use Rattle.refutation.specs.Refutation.{IsUnsatisfiable}
 use Rattle.refutation.specs.inner.Steps.{AreTrue, AreTrueOrDropped, IsTrueOrDropped, Leads, LeadTo, PutsAmong, Shown}
-use Rattle.refutation.specs.inner.Derivations.{Keeps, TakesClause, Shows, Entails, IsJudged}
+use Rattle.refutation.specs.inner.Derivations.{Keeps, TakesClause, Shows, Entails, AnswersRightly}
 use Rattle.refutation.proofs.ClauseLemmas.{not_false, true_false}
 
 pub puts_behind : (old : List (Vec ℕ Global)) (clause : Vec ℕ Global) → PutsAmong old clause.items (old ++ clause ∷ [])
@@ -18,7 +19,8 @@ puts_behind old clause = record {
   puts = λ v kept some. All-push (λ (c : Vec ℕ Global). IsTrueOrDropped v c.items) old clause kept (inr some);
 }
 
-pub puts_at : (old : List (Vec ℕ Global)) (clause : Vec ℕ Global) (i : ℕ) → PutsAmong old clause.items (set old i clause)
+pub puts_at : (old : List (Vec ℕ Global)) (clause : Vec ℕ Global) (i : ℕ)
+    → PutsAmong old clause.items (set old i clause)
 puts_at old clause i = record {
   puts = λ v kept some. All-set (λ (c : Vec ℕ Global). IsTrueOrDropped v c.items) old i clause (inr some) kept;
 }
@@ -58,7 +60,8 @@ shows_by d clause shown trail s e = record {
       true_false shown e (s.refutes v is h.clauses h.trail none));
 }
 
-pub keeps_taken : (a b d : Derivation) (clause : List ℕ) → Keeps a b → Shows a clause → TakesClause b clause d → Keeps a d
+pub keeps_taken : (a b d : Derivation) (clause : List ℕ) → Keeps a b → Shows a clause → TakesClause b clause d
+    → Keeps a d
 keeps_taken a b d clause k s t = record {
   keeps = λ v is h. t.takes v is (k.keeps v is h) (s.shows v is h);
 }
@@ -81,8 +84,8 @@ pub refuted_by : (formula : List (Vec ℕ Global)) (d : Derivation) → Entails 
 refuted_by formula d e r = λ v is all. true_false d.refuted r ((e.entails v is all).open_end)
 
 -- an answer that was had is true of the formula
-pub justified : (formula : List (Vec ℕ Global)) (d : Derivation) (a : Answer) → Entails formula d → IsJudged d (Some a)
-    → IsTrueOf formula a
+pub justified : (formula : List (Vec ℕ Global)) (d : Derivation) (a : Answer) → Entails formula d
+    → AnswersRightly d (Some a) → IsTrueOf formula a
 justified formula d Refuted e r = refuted_by formula d e r
 justified formula d Unfinished e r = tt
 justified formula d (DoesNotFollow step) e r = tt

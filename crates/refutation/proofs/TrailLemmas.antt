@@ -1,8 +1,10 @@
 -- Marks of the literals on a trail.
-use Rattle.std.proofs.Common.{ℕ, ◌≡◌, Bool, true, false, List, [], ◌∷◌, ◌++◌, get_or, set, length, sym, ap, arith, ◌∙◌, inl, inr, subst, replicate}
+use Rattle.std.proofs.Common.{ℕ, ◌≡◌, Bool, true, false, List, [], ◌∷◌, ◌++◌, get_or, set}
+use Rattle.std.proofs.Common.{length, sym, ap, arith, ◌∙◌, inl, inr, subst, replicate}
 use Rattle.std.specs.Prelude.{Contains}
 use Rattle.std.proofs.lemmas.Bool.{cases_eq, cases_lt, false≢true}
-use Rattle.std.proofs.lemmas.List.{get_or-set_other, get_or-set_same, get_or_past, get_or-replicate, length-replicate, set_past}
+use Rattle.std.proofs.lemmas.List.{get_or-set_other, get_or-set_same, get_or_past, set_past}
+use Rattle.std.proofs.lemmas.List.{get_or-replicate, length-replicate}
 use Rattle.std.proofs.lemmas.List.Elements.{Contains-append_left, Contains-push, Contains-push_cases}
 use Rattle.refutation.specs.inner.Steps.{AreAmong}
 
@@ -32,7 +34,8 @@ among_push old new trail longer m a is more = record {
       let there : get_or (set old m true) l false ≡ true = subst (λ (ms : List Bool). get_or ms l false ≡ true) is e in
       subst (λ (xs : List ℕ). Contains xs l) (sym more) (elim (cases_eq l m) [
         | inl same ↦ subst (λ (x : ℕ). Contains (trail ++ m ∷ []) x) (sym same) (Contains-push trail m)
-        | inr not ↦ Contains-append_left trail (m ∷ []) l (a.among l (sym (get_or-set_other old m l true false not) ∙ there))
+        | inr not ↦ Contains-append_left trail (m ∷ []) l
+            (a.among l (sym (get_or-set_other old m l true false not) ∙ there))
       ]);
 }
 

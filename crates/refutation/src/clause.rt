@@ -26,7 +26,7 @@ fn is_open_beside(trail: &Trail, literal: u32, other: u32) -> bool
 
 /// The first literal of a clause that isn't false, nor the given one.
 #[inline(always)]
-#[tactic(auto, using(crate::proofs::ClauseLemmas::beside_none, crate::proofs::ClauseLemmas::beside_more, crate::proofs::ClauseLemmas::beside_all))]
+#[tactic(auto, using(crate::proofs::ClauseLemmas::besides))]
 fn open_beside(trail: &Trail, clause: &[u32], other: u32) -> Option<u32>
     ensures { MatchOption result (AreFalseBeside trail.now other clause.now) (λ _. Unit {0}) }
 {

@@ -63,7 +63,7 @@ fn first_pair(trail: &Trail, clause: &[u32]) -> Pair {
 }
 
 /// The opposites of a clause's literals are true. Whether one of its literals is.
-#[tactic(auto, using(crate::proofs::ClauseLemmas::assumes_none, crate::proofs::ClauseLemmas::assumes_found, crate::proofs::ClauseLemmas::assumes_more))]
+#[tactic(auto, using(crate::proofs::ClauseLemmas::assumes_none, crate::proofs::ClauseLemmas::assumes_found))]
 fn assume(trail: &mut Trail, clause: &[u32]) -> Result<bool, AllocError>
     ensures { IfOk result (λ found. Assumes clause.now trail.old found trail.new) }
 {

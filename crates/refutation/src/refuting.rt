@@ -1,7 +1,7 @@
 //! Whether a proof refutes clauses.
 ghost use Rattle.std.specs.Prelude.{IfOk};
 ghost use Rattle.refutation.specs.Answers.{IsTrueOf};
-ghost use Rattle.refutation.specs.inner.Derivations.{Keeps, Entails, IsJudged};
+ghost use Rattle.refutation.specs.inner.Derivations.{Keeps, Entails, AnswersRightly};
 ghost use Rattle.xc_text.specs.WholeTexts.{IsCounted};
 
 use crate::answer::Answer;
@@ -43,7 +43,7 @@ fn judge(
     clause: &[u32],
 ) -> Result<Option<Answer>, AllocError>
     ensures kept { IfOk result (λ _. Keeps derivation.old derivation.new) }
-    ensures judged { IfOk result (λ answer. IsJudged derivation.new answer) }
+    ensures judged { IfOk result (λ answer. AnswersRightly derivation.new answer) }
 {
     match kind {
         Kind::Add => {
@@ -67,16 +67,16 @@ fn judge(
 
 /// What a proof in DRAT shows of clauses whose literals are below a number: variable n has the literals 2n and 2n + 1.
 ///
-/// Each clause that the proof adds has to follow from those before it by unit propagation (RUP). A clause that needs more
-/// of DRAT (RAT) doesn't follow. A clause that the proof deletes is no longer used, and what it led to stays; one that
-/// isn't there is passed over. The answer is `Refuted` as soon as unit propagation refutes the clauses, so the rest of the
-/// proof isn't read.
+/// Each clause that the proof adds has to follow from those before it by unit propagation (RUP). A clause that needs
+/// more of DRAT (RAT) doesn't follow. A clause that the proof deletes is no longer used, and what it led to stays; one
+/// that isn't there is passed over. The answer is `Refuted` as soon as unit propagation refutes the clauses, so the
+/// rest of the proof isn't read.
 ///
-/// The proof is binary if its first byte is `a` or if its first ten bytes have one that a text doesn't have, and a text
-/// otherwise, as drat-trim guesses it. Variables are from 1 to 2^31 - 1. An error is a failed read or too little memory.
-/// The method is of E. Goldberg and Y. Novikov, "Verification of proofs of unsatisfiability for CNF formulas" (2003), with
-/// two watched literals for each clause.
-#[tactic(auto, using(crate::proofs::DerivationLemmas::entails_kept, crate::proofs::DerivationLemmas::refuted_by, crate::proofs::DerivationLemmas::justified))]
+/// The proof is binary if its first byte is `a` or if its first ten bytes have one that a text doesn't have, and a
+/// text otherwise, as drat-trim guesses it. Variables are from 1 to 2^31 - 1. An error is a failed read or too little
+/// memory. The method is that of E. Goldberg and Y. Novikov, "Verification of proofs of unsatisfiability for CNF
+/// formulas" (2003), with two watched literals for each clause.
+#[tactic(auto, using(crate::proofs::DerivationLemmas::entails_kept, crate::proofs::DerivationLemmas::refuted_by))]
 pub fn refute<S: Source>(
     alloc: Global,
     formula: &[Vec<u32>],

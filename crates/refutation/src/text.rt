@@ -1,5 +1,5 @@
-//! Steps as text: `d ` where the clause is dropped, the numbers of its literals, negative ones with a minus sign, then 0.
-//! What begins with `c` in place of a step is a comment, to the end of its line.
+//! Steps as text: `d ` where the clause is dropped, the numbers of its literals, negative ones with a minus sign, then
+//! 0. What begins with `c` in place of a step is a comment, to the end of its line.
 ghost use Rattle.std.specs.Prelude.{◌≡◌, is_err};
 ghost use Rattle.xc_text.specs.Calls.{counted};
 

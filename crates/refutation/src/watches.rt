@@ -1,5 +1,5 @@
-//! Which clauses to look at where a literal becomes false. What is proved of a refutation doesn't rest on any of this: it
-//! only says where to look.
+//! Which clauses to look at where a literal becomes false. What is proved of a refutation doesn't rest on any of this:
+//! it only says where to look.
 use std::alloc::{AllocError, Global};
 use std::mem;
 

@@ -31,9 +31,9 @@ pub record Entails (formula : List (Vec ℕ Global)) (d : Derivation) : Type 0 w
   pub entails : (v : ℕ → Bool) → IsValuation v → Satisfies v formula → Holds v d
 
 -- an answer that there is, if any, is true of what is known
-abbrev pub IsJudged : Derivation → Option Answer → Type 0
-IsJudged d None = Unit {0}
-IsJudged d (Some Refuted) = d.refuted ≡ true
-IsJudged d (Some Unfinished) = Unit {0}
-IsJudged d (Some (DoesNotFollow step)) = Unit {0}
-IsJudged d (Some (NoStep step)) = Unit {0}
+abbrev pub AnswersRightly : Derivation → Option Answer → Type 0
+AnswersRightly d None = Unit {0}
+AnswersRightly d (Some Refuted) = d.refuted ≡ true
+AnswersRightly d (Some Unfinished) = Unit {0}
+AnswersRightly d (Some (DoesNotFollow step)) = Unit {0}
+AnswersRightly d (Some (NoStep step)) = Unit {0}

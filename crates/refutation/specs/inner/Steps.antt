@@ -28,18 +28,21 @@ pub record AreAmong (marks : List Bool) (trail : List ℕ) : Type 0 where
 abbrev pub AreTrue : (ℕ → Bool) → List ℕ → Type 0
 AreTrue v trail = All (λ l. v l ≡ true) trail
 
--- Where a clause and the literals of the old trail are true, there is no conflict, and those of the new one are. The new
--- one begins as the old one.
+-- Where a clause and the literals of the old trail are true, there is no conflict, and those of the new one are. The
+-- new one begins as the old one.
 pub record Leads (clause : List ℕ) (old : List ℕ) (conflict : Bool) (new : List ℕ) : Type 0 where
   pub begins : take (length old) new ≡ old
-  pub leads : (v : ℕ → Bool) → IsValuation v → IsTrueOrDropped v clause → AreTrue v old → (conflict ≡ false) × AreTrue v new
+  pub leads : (v : ℕ → Bool) → IsValuation v → IsTrueOrDropped v clause → AreTrue v old
+      → (conflict ≡ false) × AreTrue v new
 
 -- the same of many clauses
 pub record LeadTo (clauses : List (Vec ℕ Global)) (old : List ℕ) (conflict : Bool) (new : List ℕ) : Type 0 where
   pub begins : take (length old) new ≡ old
-  pub leads : (v : ℕ → Bool) → IsValuation v → AreTrueOrDropped v clauses → AreTrue v old → (conflict ≡ false) × AreTrue v new
+  pub leads : (v : ℕ → Bool) → IsValuation v → AreTrueOrDropped v clauses → AreTrue v old
+      → (conflict ≡ false) × AreTrue v new
 
--- where a clause is false and the literals of the old trail are true, none of it was found, and those of the new one are
+-- where a clause is false and the literals of the old trail are true, none of it was found, and those of the new one
+-- are
 pub record Assumes (clause : List ℕ) (old : List ℕ) (found : Bool) (new : List ℕ) : Type 0 where
   pub begins : take (length old) new ≡ old
   pub assumes : (v : ℕ → Bool) → IsValuation v → AreTrue v old → list_any v clause ≡ false
@@ -49,7 +52,8 @@ pub record Assumes (clause : List ℕ) (old : List ℕ) (found : Bool) (new : Li
 pub record Shown (clauses : List (Vec ℕ Global)) (clause : List ℕ) (old : List ℕ) (shown : Bool) (new : List ℕ) : Type 0
   where
     pub begins : take (length old) new ≡ old
-    pub refutes : (v : ℕ → Bool) → IsValuation v → AreTrueOrDropped v clauses → AreTrue v old → list_any v clause ≡ false
+    pub refutes : (v : ℕ → Bool) → IsValuation v → AreTrueOrDropped v clauses → AreTrue v old
+        → list_any v clause ≡ false
         → shown ≡ false
 
 -- a clause was put among others, which are all there unless they were dropped

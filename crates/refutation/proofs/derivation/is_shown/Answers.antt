@@ -12,5 +12,6 @@ returns c =
     IfOk-weaker c.propagate.result
     (λ b. LeadTo c.args.clauses.now c.assume.new.trail b c.propagate.new.trail)
     (λ b. Shown c.args.clauses.now c.args.clause.now c.args.trail.now b c.propagate.new.trail)
-    (λ b l. shown_by c.args.clauses.now c.args.clause.now c.args.trail.now c.assume.new.trail b c.propagate.new.trail a l)
+    (λ b l. shown_by c.args.clauses.now c.args.clause.now c.args.trail.now c.assume.new.trail b c.propagate.new.trail a
+    l)
     c.propagate.ensures
