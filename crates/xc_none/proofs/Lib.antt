@@ -1,0 +1,6 @@
+pub mod Tests
+pub mod Counts
+pub mod ChainTruths
+pub mod ColourTruths
+pub mod ClaimLemmas
+pub mod HolderLemmas

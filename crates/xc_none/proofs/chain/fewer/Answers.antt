@@ -1,0 +1,13 @@
+use Rattle.std.proofs.Common.{ℕ, ◌+◌}
+use Rattle.std.specs.Prelude.{not, nat_le}
+use Rattle.xc_none.specs.Meanings.{has, held_up_to}
+use Rattle.xc_none.proofs.ChainTruths.{fewer_true}
+use Rattle.xc_none.proofs.ClaimLemmas.{two_hold}
+use Rattle.xc_none.proofs.chain.fewer.Goals as goal
+
+pub returns : goal.returns
+returns c = λ p next. two_hold p c.at_least-x.result c.at_least-y.result
+    (λ s. not (nat_le (c.args.count + 1) (held_up_to p s c.args.chain.item c.args.option)))
+    (λ s. nat_le c.args.count (held_up_to p s c.args.chain.item c.args.before))
+    (c.at_least-x.ensures p) (c.at_least-y.ensures p)
+    (λ s cover. fewer_true p s c.args.chain.item c.args.before c.args.option c.args.count next cover)

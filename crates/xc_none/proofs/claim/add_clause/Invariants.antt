@@ -1,0 +1,5 @@
+use Rattle.xc_none.proofs.ClaimLemmas.{SaysFirst}
+use Rattle.xc_none.proofs.claim.add_clause.Given as goal
+
+abbrev pub invariant-loop-claim : goal.invariant-loop-claim
+invariant-loop-claim l = SaysFirst l.meanings l.claims l.claim-index l.clause.items

@@ -1,0 +1,2 @@
+pub mod Meanings
+pub mod inner
