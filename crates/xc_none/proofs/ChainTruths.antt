@@ -76,8 +76,13 @@ pub most_true : (p : Puzzle) (s : List ℕ) (i t o : ℕ) (b : Bounds) → IsHol
 most_true p s i t o b h l cover at =
     not_both (has s o) (nat_le b.high (held_up_to p s i t)) (λ e f.
     let within = cover.within i b at in
-    absurd (omega (arith, one_more p s i t o h l e, leb-true b.high (held_up_to p s i t) f, all_held p s i o cover,
-        within.1)))
+    absurd (omega (
+      arith,
+      one_more p s i t o h l e,
+      leb-true b.high (held_up_to p s i t) f,
+      all_held p s i o cover,
+      within.1,
+    )))
 
 -- a holder up to an option is one up to number t, or that option
 next_or_before : (p : Puzzle) (i t o x : ℕ) → IsNext p i t o → IsOption p x → up_to p i o x ≡ true
@@ -92,13 +97,14 @@ next_or_before p i t o x next known e =
 down : (p : Puzzle) (s : List ℕ) (i t o j : ℕ) → IsNext p i t o → IsCover p s → j ≤ held_up_to p s i o
     → held_up_to p s i t < j → has s o ≡ true
 down p s i t o j next cover e f = by_bool (has s o) (λ yes. yes) (λ no.
-    let apart : AllByRecursion (λ x. IsOption p x × (x ≢ o)) s = each_from (λ x. IsOption p x × (x ≢ o)) s (λ x k.
-    (each_in (IsOption p) s x (recursion_from_All (IsOption p) s cover.known) k,
-        λ q. false≢true (sym no ∙ subst (λ (y : ℕ). has s y ≡ true) q (set-in s x k)))) in
+    let apart : AllByRecursion (λ x. IsOption p x × (x ≢ o)) s = each_from (λ x. IsOption p x × (x ≢ o)) s (λ x k. (
+      each_in (IsOption p) s x (recursion_from_All (IsOption p) s cover.known) k,
+      λ q. false≢true (sym no ∙ subst (λ (y : ℕ). has s y ≡ true) q (set-in s x k)),
+    )) in
     let same : held_up_to p s i o ≤ held_up_to p s i t =
     count-le (λ x. IsOption p x × (x ≢ o)) (up_to p i o) (up_to p i t) s
     (λ x w u. ⊎_elim (λ (q : x ≡ o). absurd (w.1 q)) (λ (v : up_to p i t x ≡ true). v)
-        (next_or_before p i t o x next w.0 u)) apart in
+    (next_or_before p i t o x next w.0 u)) apart in
     absurd (omega (arith, same, e, f)))
 
 pub down_true : (p : Puzzle) (s : List ℕ) (i t o j : ℕ) → IsNext p i t o → IsCover p s
@@ -134,8 +140,13 @@ first_down_true p s i o next cover = implied (nat_le 1 (held_up_to p s i o)) (ha
 pub first_fewer_true : (p : Puzzle) (s : List ℕ) (i o j : ℕ) → IsNext p i 0 o → 1 ≤ j → IsCover p s
     → not (nat_le (j + 1) (held_up_to p s i o)) ≡ true
 first_fewer_true p s i o j next h cover = not_so (nat_le (j + 1) (held_up_to p s i o)) (λ e.
-    absurd (omega (arith, h, fewer p s i 0 o next cover, none_held p s i cover,
-        leb-true (j + 1) (held_up_to p s i o) e)))
+    absurd (omega (
+      arith,
+      h,
+      fewer p s i 0 o next cover,
+      none_held p s i cover,
+      leb-true (j + 1) (held_up_to p s i o) e,
+    )))
 
 pub least_true : (p : Puzzle) (s : List ℕ) (i t j : ℕ) (b : Bounds) → ((x : ℕ) → IsHolder p i x → x ≤ t)
     → bounds_at p i ≡ Some b → j ≤ b.low → IsCover p s → nat_le j (held_up_to p s i t) ≡ true

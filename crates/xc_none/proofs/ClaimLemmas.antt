@@ -58,24 +58,28 @@ or_false false b e = e
 pub says_more : (ms : List Meaning) (claims : List Claim) (k l : ℕ) (clause : List ℕ) (c : Claim) → k < length claims
     → c ≡ get_or claims k c → SaysFirst ms claims k clause → Says ms l c
     → SaysFirst ms claims (k + 1) (clause ++ l ∷ [])
-says_more ms claims k l clause c h at so_far says = record { each = λ p s.
-    list_any-append (value p ms s) clause (l ∷ [])
-    ∙ or_with (list_any (value p ms s) clause) (list_any (value p ms s) (l ∷ []))
-    (list_any (is_claimed p s) (take k claims)) (is_claimed p s (get_or claims k c)) (so_far.each p s)
-    (or_false (value p ms s l) (is_claimed p s (get_or claims k c)) (says p s ∙ ap (is_claimed p s) at))
-    ∙ sym (list_any_more (is_claimed p s) claims k c h) }
+says_more ms claims k l clause c h at so_far says = record {
+  each = λ p s.
+      list_any-append (value p ms s) clause (l ∷ [])
+      ∙ or_with (list_any (value p ms s) clause) (list_any (value p ms s) (l ∷ []))
+      (list_any (is_claimed p s) (take k claims)) (is_claimed p s (get_or claims k c)) (so_far.each p s)
+      (or_false (value p ms s l) (is_claimed p s (get_or claims k c)) (says p s ∙ ap (is_claimed p s) at))
+      ∙ sym (list_any_more (is_claimed p s) claims k c h);
+}
 
 -- a clause is added whose claims hold
 pub added : (p : Puzzle) (ms : List Meaning) (claims : List Claim) (k : ℕ) (old new : List (Vec ℕ Global))
     (clause : Vec ℕ Global) → AreTrue p ms old → OneHolds p claims → length claims ≤ k
     → SaysFirst ms claims k clause.items → new ≡ old ++ clause ∷ [] → AreTrue p ms new
-added p ms claims k old new clause true_so_far holds all says is = record { of_covers = λ s cover.
-    let new_one : list_any (value p ms s) clause.items ≡ true =
-    says.each p s ∙ ap (λ (cs : List Claim). list_any (is_claimed p s) cs) (take_all k claims all)
-    ∙ holds.of_covers s cover in
-    subst (λ (cs : List (Vec ℕ Global)). Satisfies (value p ms s) cs) (sym is)
-    (All-push (λ (c : Vec ℕ Global). list_any (value p ms s) c.items ≡ true) old clause (true_so_far.of_covers s cover)
-        new_one) }
+added p ms claims k old new clause true_so_far holds all says is = record {
+  of_covers = λ s cover.
+      let new_one : list_any (value p ms s) clause.items ≡ true =
+      says.each p s ∙ ap (λ (cs : List Claim). list_any (is_claimed p s) cs) (take_all k claims all)
+      ∙ holds.of_covers s cover in
+      subst (λ (cs : List (Vec ℕ Global)). Satisfies (value p ms s) cs) (sym is)
+      (All-push (λ (c : Vec ℕ Global). list_any (value p ms s) c.items ≡ true) old clause (true_so_far.of_covers s cover)
+      new_one);
+}
 
 -- of one, two or three claims one holds
 pub one_holds : (p : Puzzle) (a : Claim) (x : List ℕ → Bool) → ((s : List ℕ) → is_claimed p s a ≡ x s)
@@ -85,14 +89,18 @@ one_holds p a x e h = record { of_covers = λ s cover. or_one (is_claimed p s a)
 pub two_hold : (p : Puzzle) (a b : Claim) (x y : List ℕ → Bool) → ((s : List ℕ) → is_claimed p s a ≡ x s)
     → ((s : List ℕ) → is_claimed p s b ≡ y s) → ((s : List ℕ) → IsCover p s → (x s || y s) ≡ true)
     → OneHolds p (a ∷ b ∷ [])
-two_hold p a b x y e f h = record { of_covers = λ s cover.
-    or_two (is_claimed p s a) (is_claimed p s b) (x s) (y s) (e s) (f s) (h s cover) }
+two_hold p a b x y e f h = record {
+  of_covers = λ s cover.
+      or_two (is_claimed p s a) (is_claimed p s b) (x s) (y s) (e s) (f s) (h s cover);
+}
 
 pub three_hold : (p : Puzzle) (a b c : Claim) (x y z : List ℕ → Bool) → ((s : List ℕ) → is_claimed p s a ≡ x s)
     → ((s : List ℕ) → is_claimed p s b ≡ y s) → ((s : List ℕ) → is_claimed p s c ≡ z s)
     → ((s : List ℕ) → IsCover p s → (x s || (y s || z s)) ≡ true) → OneHolds p (a ∷ b ∷ c ∷ [])
-three_hold p a b c x y z e f g h = record { of_covers = λ s cover.
-    or_three (is_claimed p s a) (is_claimed p s b) (is_claimed p s c) (x s) (y s) (z s) (e s) (f s) (g s) (h s cover) }
+three_hold p a b c x y z e f g h = record {
+  of_covers = λ s cover.
+      or_three (is_claimed p s a) (is_claimed p s b) (is_claimed p s c) (x s) (y s) (z s) (e s) (f s) (g s) (h s cover);
+}
 
 -- claims say that one of the first k options is chosen
 pub record SaysChosen (os : List ℕ) (k : ℕ) (claims : List Claim) : Type 0 where

@@ -4,14 +4,14 @@ use Rattle.std.proofs.Common.{refl, sym, ap, ◌∙◌, arith, subst, Option, So
 use Rattle.std.proofs.Math.ListN.{set}
 use Rattle.std.specs.Prelude.{slice_get, is_some, All, Contains, Vec, unwrap_or}
 use Rattle.std.specs.declared.alloc.Global.{Global}
-use Rattle.std.proofs.lemmas.Bool.{cases_eq, cases_lt, false≢true}
+use Rattle.std.proofs.lemmas.Bool.{cases_eq, cases_lt, cases_order, false≢true}
 use Rattle.std.proofs.lemmas.List.Elements.{All-push, All-nil, Contains-append_left, Contains-push, Contains-append_right}
 use Rattle.std.proofs.lemmas.Option.{get_or_from_slice_get, slice_get_within}
 use Rattle.xc_input.specs.declared.problem.Use.{Use}
 use Rattle.xc_input.specs.Problem.{Puzzle, IsOption, uses_of, colour_in, numbered_get}
-use Rattle.xc_text.proofs.ListLemmas.{by_bool, IsIn, contains-in, in-contains}
+use Rattle.xc_text.proofs.ListLemmas.{by_bool, in-contains, slice_get-in}
 use Rattle.xc_none.specs.Meanings.{is_holder}
-use Rattle.xc_none.specs.inner.Holders.{IsHolder, AreHoldersUpTo, AreListed}
+use Rattle.xc_none.specs.inner.Holders.{IsHolder, AreHolders, AreHoldersUpTo, AreListed, AreRising, IsNext}
 
 -- whether uses hold item i
 abbrev pub hold : List Use → ℕ → Bool
@@ -130,9 +130,63 @@ rising_more xs k some before last i j l m = ⊎_elim
     (λ (q : k ≤ j).
     let here : k ≡ j = omega arith in
     subst (λ (n : ℕ). get_or xs i 0 < get_or xs n 0) here (⊎_elim
-        (λ (r : i < k - 1). let n = before i (k - 1) r (omega arith) in omega (arith, n, last))
-        (λ (r : k - 1 ≤ i).
-        let at : k - 1 ≡ i = omega arith in
-        subst (λ (n : ℕ). get_or xs n 0 < get_or xs k 0) at last)
-        (cases_lt i (k - 1))))
+    (λ (r : i < k - 1). let n = before i (k - 1) r (omega arith) in omega (arith, n, last))
+    (λ (r : k - 1 ≤ i).
+    let at : k - 1 ≡ i = omega arith in
+    subst (λ (n : ℕ). get_or xs n 0 < get_or xs k 0) at last)
+    (cases_lt i (k - 1))))
     (cases_lt j k)
+
+-- the row of a holder
+row_of : (p : Puzzle) (i : ℕ) (os : List ℕ) (x : ℕ) → AreHolders p i os → IsHolder p i x
+    → (m : ℕ) × (m < length os) × (get_or os m 0 ≡ x)
+row_of p i os x holders h =
+    let found = slice_get-in os x (in-contains os x (holders.whole x h h.0.1)) in
+    (found.0, slice_get_within os found.0 x found.1, get_or_from_slice_get os found.0 x 0 found.1)
+
+-- before the first row there is none
+pub first_next : (p : Puzzle) (i : ℕ) (os : List ℕ) → AreHolders p i os → AreRising os → IsNext p i 0 (get_or os 0 0)
+first_next p i os holders rising = λ x h l n.
+    let row = row_of p i os x holders h in
+    ⊎_elim
+    (λ (q : row.0 ≡ 0). sym row.2 ∙ ap (λ (m : ℕ). get_or os m 0) q)
+    (λ (q : row.0 ≡ 0 → ⊥).
+    let some : 0 < row.0 = omega (arith, q) in
+    let less = rising 0 row.0 some row.1 in
+    absurd (omega (arith, less, row.2, n)))
+    (cases_eq row.0 0)
+
+-- between two rows there is none
+pub row_next : (p : Puzzle) (i : ℕ) (os : List ℕ) (k : ℕ) → AreHolders p i os → AreRising os → 1 ≤ k → k < length os
+    → IsNext p i (get_or os (k - 1) 0) (get_or os k 0)
+row_next p i os k holders rising some within = λ x h l n.
+    let row = row_of p i os x holders h in
+    ⊎_elim
+    (λ (q : row.0 ≡ k). sym row.2 ∙ ap (λ (m : ℕ). get_or os m 0) q)
+    (⊎_elim
+    (λ (q : row.0 < k). ⊎_elim
+    (λ (r : row.0 ≡ k - 1).
+    let same : get_or os row.0 0 ≡ get_or os (k - 1) 0 = ap (λ (m : ℕ). get_or os m 0) r in
+    absurd (omega (arith, same, row.2, l)))
+    (λ (r : row.0 ≡ k - 1 → ⊥).
+    let below : row.0 < k - 1 = omega (arith, q, r) in
+    let less = rising row.0 (k - 1) below (omega (arith, within)) in
+    absurd (omega (arith, less, row.2, l)))
+    (cases_eq row.0 (k - 1)))
+    (λ (q : k < row.0). let less = rising k row.0 q row.1 in absurd (omega (arith, less, row.2, n))))
+    (cases_order row.0 k)
+
+-- behind the last row there is none
+pub last_row : (p : Puzzle) (i : ℕ) (os : List ℕ) (k : ℕ) → AreHolders p i os → AreRising os → length os ≡ k + 1
+    → (x : ℕ) → IsHolder p i x → x ≤ get_or os k 0
+last_row p i os k holders rising end = λ x h.
+    let row = row_of p i os x holders h in
+    ⊎_elim
+    (λ (q : row.0 ≡ k).
+    let same : get_or os row.0 0 ≡ get_or os k 0 = ap (λ (m : ℕ). get_or os m 0) q in
+    omega (arith, same, row.2))
+    (λ (q : row.0 ≡ k → ⊥).
+    let below : row.0 < k = omega (arith, q, row.1, end) in
+    let less = rising row.0 k below (omega (arith, end)) in
+    omega (arith, less, row.2))
+    (cases_eq row.0 k)

@@ -4,3 +4,4 @@ pub mod ChainTruths
 pub mod ColourTruths
 pub mod ClaimLemmas
 pub mod HolderLemmas
+pub mod NoneLemmas

@@ -1,2 +1,4 @@
+pub mod Cnf
 pub mod Meanings
+pub mod Reported
 pub mod inner

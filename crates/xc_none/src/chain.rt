@@ -10,7 +10,7 @@ ghost use Rattle.xc_none.specs.inner.Claims.{is_claimed, OneHolds};
 ghost use Rattle.xc_none.specs.inner.Holders.{IsHolder, AreHolders, IsNext};
 
 use crate::claim::Claim;
-use crate::errors::NoneError;
+use crate::errors::ClausesError;
 use crate::meaning::Meaning;
 use std::alloc::Global;
 
@@ -39,7 +39,11 @@ fn at_least(chain: Chain, row: u32, option: u32, count: u32, so: bool) -> Claim
         ≡ (if so then nat_le count (held_up_to p s chain.item option) else not (nat_le count (held_up_to p s chain.item option))) }
 {
     let begin = (row as usize).saturating_mul(chain.columns as usize);
-    let place = chain.start.saturating_add(begin).saturating_add(count as usize).saturating_sub(1);
+    let place = chain
+        .start
+        .saturating_add(begin)
+        .saturating_add(count as usize)
+        .saturating_sub(1);
     Claim {
         meaning: Meaning::AtLeast(chain.item, option, count),
         place,
@@ -134,7 +138,7 @@ pub(crate) fn least(chain: Chain, row: u32, option: u32, count: u32) -> [Claim; 
 }
 
 /// One of the options is chosen.
-pub(crate) fn some(alloc: Global, options: &[u32]) -> Result<Vec<Claim>, NoneError>
+pub(crate) fn some(alloc: Global, options: &[u32]) -> Result<Vec<Claim>, ClausesError>
     ensures { IfOk result (λ v. (p : Puzzle) (i : ℕ) (b : Bounds) → AreHolders p i options.now
         → bounds_at p i ≡ Some b → 1 ≤ b.low → OneHolds p v.items) }
 {

@@ -6,7 +6,7 @@ ghost use Rattle.std.specs.Prelude.{◌≡◌, true, IfOk, OnOk};
 ghost use Rattle.xc_none.specs.Meanings.{AreTrue};
 ghost use Rattle.xc_none.specs.inner.Claims.{Says, OneHolds};
 
-use crate::errors::NoneError;
+use crate::errors::ClausesError;
 use crate::meaning::Meaning;
 use std::alloc::Global;
 use xc_input::Problem;
@@ -40,17 +40,21 @@ fn is_same(one: Meaning, other: Meaning) -> bool
 }
 
 /// The literal that says what a claim says.
-fn literal(meanings: &[Meaning], claim: Claim) -> Result<u32, NoneError>
+fn literal(meanings: &[Meaning], claim: Claim) -> Result<u32, ClausesError>
     ensures { IfOk result (λ l. Says meanings.now l claim) }
 {
     if claim.place >= meanings.len() || claim.place >= 0x4000_0000 {
-        return Err(NoneError::Lost);
+        return Err(ClausesError::Lost);
     }
     if !is_same(meanings[claim.place], claim.meaning) {
-        return Err(NoneError::Lost);
+        return Err(ClausesError::Lost);
     }
     let positive = claim.place as u32 * 2;
-    if claim.so { Ok(positive) } else { Ok(positive + 1) }
+    if claim.so {
+        Ok(positive)
+    } else {
+        Ok(positive + 1)
+    }
 }
 
 /// Adds a clause that says what these claims say.
@@ -60,7 +64,7 @@ pub(crate) fn add_clause(
     problem: &Problem,
     meanings: &[Meaning],
     claims: &[Claim],
-) -> Result<(), NoneError>
+) -> Result<(), ClausesError>
     requires so_far { AreTrue problem.now.puzzle meanings.now clauses.old.items }
     requires holds { OneHolds problem.now.puzzle claims.now }
     ensures { OnOk result (AreTrue problem.now.puzzle meanings.now clauses.new.items) }

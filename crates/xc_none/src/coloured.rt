@@ -49,7 +49,7 @@ pub(crate) fn place_of(problem: &Problem, option: u32, item: u32) -> Option<u64>
 fn up_to(groups: Groups, at: usize, place: u64, so: bool) -> Claim
     ensures { (p : Puzzle) (s : List ℕ) → is_claimed p s result
         ≡ (if so then list_any (λ o. is_placed p place o (colour_in (uses_of p o) groups.item)) s
-            else not (list_any (λ o. is_placed p place o (colour_in (uses_of p o) groups.item)) s)) }
+        else not (list_any (λ o. is_placed p place o (colour_in (uses_of p o) groups.item)) s)) }
 {
     Claim {
         meaning: Meaning::UpTo(groups.item, place),

@@ -3,12 +3,12 @@ ghost use Rattle.std.specs.Prelude.{◌≡◌, ◌≤◌, ◌+◌, ◌-◌, ◌+
 ghost use Rattle.xc_input.specs.Problem.{IsOption, option_count};
 ghost use Rattle.xc_none.specs.inner.Holders.{AreListed, AreRising};
 
-use crate::errors::NoneError;
+use crate::errors::ClausesError;
 use std::alloc::Global;
 use xc_input::Problem;
 
 /// So many empty lists.
-fn empty_lists(alloc: Global, many: u32) -> Result<Vec<Vec<u32>>, NoneError>
+fn empty_lists(alloc: Global, many: u32) -> Result<Vec<Vec<u32>>, ClausesError>
     ensures { IfOk result (λ ls. All (λ l. l.items ≡ []) ls.items) }
 {
     let mut lists = Vec::new(alloc);
@@ -19,7 +19,7 @@ fn empty_lists(alloc: Global, many: u32) -> Result<Vec<Vec<u32>>, NoneError>
 }
 
 /// Adds an option to a list.
-fn push_option(list: &mut Vec<u32>, option: u32) -> Result<(), NoneError>
+fn push_option(list: &mut Vec<u32>, option: u32) -> Result<(), ClausesError>
     ensures { OnOk result (list.new.items ≡ list.old.items ++ option ∷ []) }
 {
     list.push(option)?;
@@ -27,7 +27,11 @@ fn push_option(list: &mut Vec<u32>, option: u32) -> Result<(), NoneError>
 }
 
 /// Adds an option to the lists of its items.
-fn list_option(lists: &mut Vec<Vec<u32>>, problem: &Problem, option: u32) -> Result<(), NoneError>
+fn list_option(
+    lists: &mut Vec<Vec<u32>>,
+    problem: &Problem,
+    option: u32,
+) -> Result<(), ClausesError>
     requires option { IsOption problem.now.puzzle option }
     requires before { AreListed problem.now.puzzle (option - 1) lists.old.items }
     ensures { OnOk result (AreListed problem.now.puzzle option lists.new.items) }
@@ -35,7 +39,7 @@ fn list_option(lists: &mut Vec<Vec<u32>>, problem: &Problem, option: u32) -> Res
     for u in problem.option(option) {
         let place = u.item as usize - 1;
         if place >= lists.len() {
-            return Err(NoneError::Lost);
+            return Err(ClausesError::Lost);
         }
         push_option(&mut lists[place], option)?;
     }
@@ -43,7 +47,10 @@ fn list_option(lists: &mut Vec<Vec<u32>>, problem: &Problem, option: u32) -> Res
 }
 
 /// The options that hold each item, in order: those of item `i` are at place `i - 1`.
-pub(crate) fn options_by_item(alloc: Global, problem: &Problem) -> Result<Vec<Vec<u32>>, NoneError>
+pub(crate) fn options_by_item(
+    alloc: Global,
+    problem: &Problem,
+) -> Result<Vec<Vec<u32>>, ClausesError>
     ensures { IfOk result (λ ls. AreListed problem.now.puzzle (option_count problem.now.puzzle) ls.items) }
 {
     let mut lists = empty_lists(alloc, problem.items())?;

@@ -12,11 +12,18 @@
 
 mod chain;
 mod claim;
+mod cnf;
+mod coloured;
 mod errors;
 mod formula;
 mod holders;
+mod item_clauses;
 mod meaning;
+mod no_cover;
+mod table;
 
-pub use errors::NoneError;
-pub use formula::Formula;
+pub use cnf::write_cnf;
+pub use errors::{ClausesError, NoneError};
+pub use formula::{Formula, clauses};
 pub use meaning::Meaning;
+pub use no_cover::has_no_cover;

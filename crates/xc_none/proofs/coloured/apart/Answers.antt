@@ -11,4 +11,4 @@ returns c = λ p second at behind. two_hold p c.chosen-x.result c.up_to-y.result
     (λ s. not (has s c.args.option)) (λ s. not (list_any (up_to p c.args.groups.item c.args.before) s))
     (c.chosen-x.ensures p) (c.up_to-y.ensures p)
     (λ s cover. apart_true p s c.args.groups.item c.args.option at.0 c.args.before at.1 (omega (arith, at.2, behind))
-        second cover)
+    second cover)

@@ -20,6 +20,6 @@ loop-u-preserved c =
     subst (λ (vs : List Use). AreListedWith p c.args.option vs (set lists place c.push_option.new.list))
     (sym (take_more us k d here))
     (with_more p c.args.option place (take k us) (get_or us k d) lists c.index_mut.result.now c.push_option.new.list
-        (holder_at p c.args.option k us d c.requires.option c.option-u-items.ensures.value here) known.0.0 refl
-        (slice_get_read lists (length lists) place c.index_mut.result.now refl within c.index_mut.ensures.value)
-        c.in_ok-push_option.ensures c.loop-u.invariant)
+    (holder_at p c.args.option k us d c.requires.option c.option-u-items.ensures.value here) known.0.0 refl
+    (slice_get_read lists (length lists) place c.index_mut.result.now refl within c.index_mut.ensures.value)
+    c.in_ok-push_option.ensures c.loop-u.invariant)
