@@ -1,5 +1,6 @@
 -- Each kind of clause of a coloured item is true of each cover.
-use Rattle.std.proofs.Common.{ℕ, ◌≡◌, ◌≢◌, ◌<◌, ◌≤◌, ◌+◌, Bool, true, false, List, Option, Some, None, refl, sym, ap, ◌∙◌}
+use Rattle.std.proofs.Common.{ℕ, ◌≡◌, ◌≢◌, ◌<◌, ◌≤◌, ◌+◌, Bool, true, false, List, Option, Some, None, refl, sym, ap}
+use Rattle.std.proofs.Common.{◌∙◌}
 use Rattle.std.proofs.Common.{arith, subst, cond, eqb}
 use Rattle.std.specs.Prelude.{not, ◌||◌, nat_le, if◌then◌else◌, ◌==◌}
 use Rattle.std.specs.List.{list_any}
@@ -7,7 +8,7 @@ use Rattle.std.proofs.lemmas.Bool.{leb-true, le-leb, false≢true}
 use Rattle.xc_input.specs.Problem.{Puzzle, IsOption, IsSecondary, option_count, uses_of, colour_in}
 use Rattle.xc_input.specs.Cover.{IsCover}
 use Rattle.xc_text.proofs.ListLemmas.{by_bool, by_option, IsIn, contains-in}
-use Rattle.xc_none.specs.Meanings.{has, is_placed, place_of}
+use Rattle.xc_none.specs.Meanings.{is_chosen, is_placed, place_of}
 use Rattle.xc_none.proofs.Tests.{implied, not_both}
 use Rattle.xc_none.proofs.Counts.{in-passes, passes-in}
 use Rattle.xc_none.proofs.ChainTruths.{in-set}
@@ -17,8 +18,8 @@ abbrev pub up_to : Puzzle → ℕ → ℕ → ℕ → Bool
 up_to p i r o = is_placed p r o (colour_in (uses_of p o) i)
 
 pub enter_true : (p : Puzzle) (s : List ℕ) (i o c r : ℕ) → colour_in (uses_of p o) i ≡ Some c → place_of p o c ≤ r
-    → (not (has s o) || list_any (up_to p i r) s) ≡ true
-enter_true p s i o c r e h = implied (has s o) (list_any (up_to p i r) s) (λ f.
+    → (not (is_chosen s o) || list_any (up_to p i r) s) ≡ true
+enter_true p s i o c r e h = implied (is_chosen s o) (list_any (up_to p i r) s) (λ f.
     in-passes (up_to p i r) s o (in-set s o f)
     (subst (λ (x : Option ℕ). is_placed p r o x ≡ true) (sym e) (le-leb (place_of p o c) r h)))
 
@@ -44,8 +45,8 @@ one_place : (p : Puzzle) (a b c : ℕ) → 0 < c → place_of p a c ≡ place_of
 one_place p a b c h = grind (arith)
 
 pub apart_true : (p : Puzzle) (s : List ℕ) (i o c q : ℕ) → colour_in (uses_of p o) i ≡ Some c → q < place_of p o c
-    → IsSecondary p i → IsCover p s → (not (has s o) || not (list_any (up_to p i q) s)) ≡ true
-apart_true p s i o c q e h second cover = not_both (has s o) (list_any (up_to p i q) s) (λ f g.
+    → IsSecondary p i → IsCover p s → (not (is_chosen s o) || not (list_any (up_to p i q) s)) ≡ true
+apart_true p s i o c q e h second cover = not_both (is_chosen s o) (list_any (up_to p i q) s) (λ f g.
     let found = passes-in (up_to p i q) s g in
     let other = placed p q found.0 (colour_in (uses_of p found.0) i) found.2 in
     let d : ℕ = other.0 in
@@ -57,7 +58,8 @@ apart_true p s i o c q e h second cover = not_both (has s o) (list_any (up_to p 
     let low2 : place_of p o c ≤ q = subst (λ (x : ℕ). place_of p o x ≤ q) (sym is) low in
     absurd (omega (arith, low2, h)) in
     let both : (d ≡ c) × (0 < d) =
-    cover.agree found.0 o i d c (contains-in s found.0 found.1) (contains-in s o (in-set s o f)) ne second other.1 e in
+    cover.agree found.0 o i d c (contains-in s found.0 found.1) (contains-in s o
+    (in-set s o f)) ne second other.1 e in
     let low : place_of p o d ≤ q =
     subst (λ (x : ℕ). x ≤ q) (one_place p found.0 o d both.1) other.2 in
     let low2 : place_of p o c ≤ q = subst (λ (x : ℕ). place_of p o x ≤ q) both.0 low in

@@ -71,7 +71,8 @@ count-le_one_more P f g (x ∷ xs) o h two a =
     (λ no. let z : count (f x) ≡ 0 = ap count no in omega (arith, e, k, z, rest))
 
 -- none is counted where none passes
-pub count-none : (P : ℕ → Type 0) (f : ℕ → Bool) (xs : List ℕ) → ((x : ℕ) → P x → f x ≡ true → ⊥) → AllByRecursion P xs
+pub count-none : (P : ℕ → Type 0) (f : ℕ → Bool) (xs : List ℕ) → ((x : ℕ) → P x → f x ≡ true → ⊥)
+    → AllByRecursion P xs
     → count_by f xs ≡ 0
 count-none P f [] h a = refl
 count-none P f (x ∷ xs) h a =

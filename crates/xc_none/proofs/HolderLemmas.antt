@@ -1,17 +1,20 @@
 -- The lists of the options that hold each item.
-use Rattle.std.proofs.Common.{ℕ, zero, suc, ◌≡◌, ◌≢◌, ◌<◌, ◌≤◌, ◌+◌, ◌-◌, Bool, true, false, List, [], ◌∷◌, ◌++◌, length, take}
-use Rattle.std.proofs.Common.{refl, sym, ap, ◌∙◌, arith, subst, Option, Some, None, inl, inr, ◌⊎◌, ⊎_elim, get_or, eqb, eqb-true, eq-eqb}
+use Rattle.std.proofs.Common.{ℕ, zero, suc, ◌≡◌, ◌≢◌, ◌<◌, ◌≤◌, ◌+◌, ◌-◌, Bool, true, false, List, [], ◌∷◌, ◌++◌}
+use Rattle.std.proofs.Common.{length, take}
+use Rattle.std.proofs.Common.{refl, sym, ap, ◌∙◌, arith, subst, Option, Some, None, inl, inr, ◌⊎◌, ⊎_elim, get_or}
+use Rattle.std.proofs.Common.{eqb, eqb-true, eq-eqb}
 use Rattle.std.proofs.Math.ListN.{set}
 use Rattle.std.specs.Prelude.{slice_get, is_some, All, Contains, Vec, unwrap_or}
 use Rattle.std.specs.declared.alloc.Global.{Global}
 use Rattle.std.proofs.lemmas.Bool.{cases_eq, cases_lt, cases_order, false≢true}
-use Rattle.std.proofs.lemmas.List.Elements.{All-push, All-nil, Contains-append_left, Contains-push, Contains-append_right}
+use Rattle.std.proofs.lemmas.List.Elements.{All-push, All-nil, Contains-append_left, Contains-push}
+use Rattle.std.proofs.lemmas.List.Elements.{Contains-append_right}
 use Rattle.std.proofs.lemmas.Option.{get_or_from_slice_get, slice_get_within}
 use Rattle.xc_input.specs.declared.problem.Use.{Use}
 use Rattle.xc_input.specs.Problem.{Puzzle, IsOption, uses_of, colour_in, numbered_get}
 use Rattle.xc_text.proofs.ListLemmas.{by_bool, in-contains, slice_get-in}
 use Rattle.xc_none.specs.Meanings.{is_holder}
-use Rattle.xc_none.specs.inner.Holders.{IsHolder, AreHolders, AreHoldersUpTo, AreListed, AreRising, IsNext}
+use Rattle.xc_none.specs.inner.Holders.{IsHolder, AreOptionsOf, AreHoldersUpTo, AreListed, AreRising, IsNextHolder}
 
 -- whether uses hold item i
 abbrev pub hold : List Use → ℕ → Bool
@@ -19,8 +22,10 @@ hold us i = is_some (colour_in us i)
 
 -- the lists have the options before option o, and it itself for each item of these of its uses
 pub record AreListedWith (p : Puzzle) (o : ℕ) (us : List Use) (lists : List (Vec ℕ Global)) : Type 0 where
-  pub before : (i : ℕ) (l : Vec ℕ Global) → 1 ≤ i → slice_get lists (i - 1) ≡ Some l → AreHoldersUpTo p i (o - 1) l.items
-  pub itself : (i : ℕ) (l : Vec ℕ Global) → 1 ≤ i → slice_get lists (i - 1) ≡ Some l → hold us i ≡ true → Contains l.items o
+  pub before : (i : ℕ) (l : Vec ℕ Global) → 1 ≤ i → slice_get lists (i - 1) ≡ Some l
+      → AreHoldersUpTo p i (o - 1) l.items
+  pub itself : (i : ℕ) (l : Vec ℕ Global) → 1 ≤ i → slice_get lists (i - 1) ≡ Some l → hold us i ≡ true
+      → Contains l.items o
 
 get_here : {X : Type 0} (xs : List X) (k : ℕ) (v w : X) → slice_get xs k ≡ Some w → slice_get (set xs k v) k ≡ Some v
 get_here [] k v w e = cc
@@ -63,7 +68,8 @@ with_more p o k us u lists l m holder number place at more listed = record {
   before = λ i n h e. ⊎_elim
       (λ (q : k ≡ i - 1).
       let item : u.item ≡ i = omega (arith, number, place, h, q) in
-      let is : n ≡ m = same m n (sym (subst (λ (j : ℕ). slice_get (set lists k m) j ≡ Some m) q (get_here lists k m l at)) ∙ e) in
+      let is : n ≡ m = same m n (sym (subst (λ (j : ℕ). slice_get (set lists k m) j ≡ Some m) q
+      (get_here lists k m l at)) ∙ e) in
       let old = listed.before i l h (subst (λ (j : ℕ). slice_get lists j ≡ Some l) q at) in
       subst (λ (os : List ℕ). AreHoldersUpTo p i (o - 1) os) (sym (ap (λ (v : Vec ℕ Global). v.items) is ∙ more))
       (longer i l.items (subst (λ (j : ℕ). IsHolder p j o) item holder) old))
@@ -71,7 +77,8 @@ with_more p o k us u lists l m holder number place at more listed = record {
       (cases_eq k (i - 1));
   itself = λ i n h e held. ⊎_elim
       (λ (q : k ≡ i - 1).
-      let is : n ≡ m = same m n (sym (subst (λ (j : ℕ). slice_get (set lists k m) j ≡ Some m) q (get_here lists k m l at)) ∙ e) in
+      let is : n ≡ m = same m n (sym (subst (λ (j : ℕ). slice_get (set lists k m) j ≡ Some m) q
+      (get_here lists k m l at)) ∙ e) in
       subst (λ (os : List ℕ). Contains os o) (sym (ap (λ (v : Vec ℕ Global). v.items) is ∙ more))
       (Contains-push l.items o))
       (λ (q : k ≡ i - 1 → ⊥). listed.itself i n h (sym (get_there lists k (i - 1) m q) ∙ e)
@@ -83,7 +90,8 @@ with_more p o k us u lists l m holder number place at more listed = record {
     same : (a b : Vec ℕ Global) → Some a ≡ Some b → b ≡ a
     same a b e = cc
 
-    longer : (i : ℕ) (os : List ℕ) → IsHolder p i o → AreHoldersUpTo p i (o - 1) os → AreHoldersUpTo p i (o - 1) (os ++ o ∷ [])
+    longer : (i : ℕ) (os : List ℕ) → IsHolder p i o → AreHoldersUpTo p i (o - 1) os
+        → AreHoldersUpTo p i (o - 1) (os ++ o ∷ [])
     longer i os h old = record {
       sound = All-push (IsHolder p i) os o old.sound h;
       whole = λ x k l. Contains-append_left os (o ∷ []) x (old.whole x k l);
@@ -117,7 +125,8 @@ empty_listed p lists empty = λ i l h e.
       whole = λ x k n. absurd (omega (arith, k.0.0, n));
     })
   where
-    empty_at : (ls : List (Vec ℕ Global)) (k : ℕ) (l : Vec ℕ Global) → All (λ l. l.items ≡ []) ls → slice_get ls k ≡ Some l
+    empty_at : (ls : List (Vec ℕ Global)) (k : ℕ) (l : Vec ℕ Global) → All (λ l. l.items ≡ []) ls
+        → slice_get ls k ≡ Some l
         → l.items ≡ []
     empty_at ls k l all e = subst (λ (v : Vec ℕ Global). v.items ≡ []) (get_or_from_slice_get ls k l l e)
         (all k l (slice_get_within ls k l e))
@@ -138,14 +147,15 @@ rising_more xs k some before last i j l m = ⊎_elim
     (cases_lt j k)
 
 -- the row of a holder
-row_of : (p : Puzzle) (i : ℕ) (os : List ℕ) (x : ℕ) → AreHolders p i os → IsHolder p i x
+row_of : (p : Puzzle) (i : ℕ) (os : List ℕ) (x : ℕ) → AreOptionsOf p i os → IsHolder p i x
     → (m : ℕ) × (m < length os) × (get_or os m 0 ≡ x)
 row_of p i os x holders h =
     let found = slice_get-in os x (in-contains os x (holders.whole x h h.0.1)) in
     (found.0, slice_get_within os found.0 x found.1, get_or_from_slice_get os found.0 x 0 found.1)
 
 -- before the first row there is none
-pub first_next : (p : Puzzle) (i : ℕ) (os : List ℕ) → AreHolders p i os → AreRising os → IsNext p i 0 (get_or os 0 0)
+pub first_next : (p : Puzzle) (i : ℕ) (os : List ℕ) → AreOptionsOf p i os → AreRising os
+    → IsNextHolder p i 0 (get_or os 0 0)
 first_next p i os holders rising = λ x h l n.
     let row = row_of p i os x holders h in
     ⊎_elim
@@ -157,8 +167,8 @@ first_next p i os holders rising = λ x h l n.
     (cases_eq row.0 0)
 
 -- between two rows there is none
-pub row_next : (p : Puzzle) (i : ℕ) (os : List ℕ) (k : ℕ) → AreHolders p i os → AreRising os → 1 ≤ k → k < length os
-    → IsNext p i (get_or os (k - 1) 0) (get_or os k 0)
+pub row_next : (p : Puzzle) (i : ℕ) (os : List ℕ) (k : ℕ) → AreOptionsOf p i os → AreRising os → 1 ≤ k → k < length os
+    → IsNextHolder p i (get_or os (k - 1) 0) (get_or os k 0)
 row_next p i os k holders rising some within = λ x h l n.
     let row = row_of p i os x holders h in
     ⊎_elim
@@ -177,7 +187,7 @@ row_next p i os k holders rising some within = λ x h l n.
     (cases_order row.0 k)
 
 -- behind the last row there is none
-pub last_row : (p : Puzzle) (i : ℕ) (os : List ℕ) (k : ℕ) → AreHolders p i os → AreRising os → length os ≡ k + 1
+pub last_row : (p : Puzzle) (i : ℕ) (os : List ℕ) (k : ℕ) → AreOptionsOf p i os → AreRising os → length os ≡ k + 1
     → (x : ℕ) → IsHolder p i x → x ≤ get_or os k 0
 last_row p i os k holders rising end = λ x h.
     let row = row_of p i os x holders h in

@@ -5,3 +5,4 @@ pub mod ColourTruths
 pub mod ClaimLemmas
 pub mod HolderLemmas
 pub mod NoneLemmas
+pub mod CnfLemmas

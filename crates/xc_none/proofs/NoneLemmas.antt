@@ -1,5 +1,6 @@
 -- Where the clauses of a problem can't all be true, it has no cover.
-use Rattle.std.proofs.Common.{ℕ, zero, suc, ◌≡◌, ◌<◌, ◌+◌, ◌-◌, ◌/◌, ◌%◌, List, Bool, true, false, refl, sym, ap, ◌∙◌, arith}
+use Rattle.std.proofs.Common.{ℕ, zero, suc, ◌≡◌, ◌<◌, ◌+◌, ◌-◌, ◌/◌, ◌%◌, List, Bool, true, false, refl, sym, ap, ◌∙◌}
+use Rattle.std.proofs.Common.{arith}
 use Rattle.std.specs.Prelude.{Vec, not, ◌==◌, if◌then◌else◌, slice_index_or}
 use Rattle.std.specs.declared.alloc.Global.{Global}
 use Rattle.xc_input.specs.Problem.{Puzzle}
@@ -7,7 +8,7 @@ use Rattle.xc_input.specs.Cover.{IsCover}
 use Rattle.refutation.specs.Refutation.{negated, IsValuation, IsUnsatisfiable}
 use Rattle.xc_none.specs.declared.meaning.Meaning.{Meaning}
 use Rattle.xc_none.specs.declared.meaning.Meaning.TheVariants.{Chosen}
-use Rattle.xc_none.specs.Meanings.{is_so, meaning_of, value, AreTrue}
+use Rattle.xc_none.specs.Meanings.{is_so, meaning_of, value, AreTrueOfCovers}
 
 not_not : (b : Bool) → b ≡ not (not b)
 not_not true = refl
@@ -21,7 +22,8 @@ flipped p ms s l zero e h =
     let n : negated l ≡ l + 1 = ap (λ (r : ℕ). if r == 0 then l + 1 else l - 1) e in
     let r1 : (l + 1) % 2 ≡ 1 = omega (arith, e) in
     let q1 : (l + 1) / 2 ≡ l / 2 = omega (arith, e) in
-    ap (value p ms s) n ∙ (ap (λ (r : ℕ). g r (l + 1)) r1 ∙ (ap (λ (q : ℕ). not (is_so p s (slice_index_or ms q (Chosen 0)))) q1
+    ap (value p ms s) n ∙ (ap (λ (r : ℕ). g r (l + 1)) r1 ∙ (ap (λ (q : ℕ). not (is_so p s (slice_index_or ms q
+    (Chosen 0)))) q1
     ∙ sym (ap (λ (r : ℕ). not (g r l)) e)))
 flipped p ms s l (suc zero) e h =
     let x : ℕ → Bool = λ l. is_so p s (meaning_of ms l) in
@@ -29,7 +31,8 @@ flipped p ms s l (suc zero) e h =
     let n : negated l ≡ l - 1 = ap (λ (r : ℕ). if r == 0 then l + 1 else l - 1) e in
     let r1 : (l - 1) % 2 ≡ 0 = omega (arith, e) in
     let q1 : (l - 1) / 2 ≡ l / 2 = omega (arith, e) in
-    ap (value p ms s) n ∙ (ap (λ (r : ℕ). g r (l - 1)) r1 ∙ (ap (λ (q : ℕ). is_so p s (slice_index_or ms q (Chosen 0))) q1
+    ap (value p ms s) n ∙ (ap (λ (r : ℕ). g r (l - 1)) r1 ∙ (ap (λ (q : ℕ). is_so p s (slice_index_or ms q
+    (Chosen 0))) q1
     ∙ (not_not (x l) ∙ sym (ap (λ (r : ℕ). not (g r l)) e))))
 flipped p ms s l (suc (suc r)) e h = absurd (omega (arith, h))
 
@@ -37,6 +40,6 @@ flipped p ms s l (suc (suc r)) e h = absurd (omega (arith, h))
 pub value_is : (p : Puzzle) (ms : List Meaning) (s : List ℕ) → IsValuation (value p ms s)
 value_is p ms s = λ l. flipped p ms s l (l % 2) refl (omega arith)
 
-pub no_cover : (p : Puzzle) (ms : List Meaning) (clauses : List (Vec ℕ Global)) → AreTrue p ms clauses
+pub no_cover : (p : Puzzle) (ms : List Meaning) (clauses : List (Vec ℕ Global)) → AreTrueOfCovers p ms clauses
     → IsUnsatisfiable clauses → (s : List ℕ) → IsCover p s → ⊥
 no_cover p ms clauses all none s cover = none (value p ms s) (value_is p ms s) (all.of_covers s cover)

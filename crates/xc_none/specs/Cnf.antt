@@ -36,8 +36,12 @@ literal_text l = (if l % 2 == 0 then codes "" else codes "-") ++ decimal (l / 2 
 abbrev pub clause_text : List ℕ → List ℕ
 clause_text literals = flat_map literal_text literals ++ codes "0\n"
 
--- the comments, the line with the number of variables and of clauses, and the clauses
-abbrev pub cnf_text : Named → List Meaning → List (Vec ℕ Global) → List ℕ
-cnf_text a meanings clauses = flat_map (λ nm. comment_text a nm.0 nm.1) (enumerate_from 1 meanings)
-    ++ (codes "p cnf " ++ decimal (length meanings) ++ codes " " ++ decimal (length clauses) ++ codes "\n")
+-- the comments, the line with so many variables and clauses, and the clauses
+abbrev pub cnf_parts : Named → List Meaning → List (Vec ℕ Global) → ℕ → ℕ → List ℕ
+cnf_parts a meanings clauses variables many = flat_map (λ nm. comment_text a nm.0 nm.1) (enumerate_from 1 meanings)
+    ++ (codes "p cnf " ++ decimal variables ++ codes " " ++ decimal many ++ codes "\n")
     ++ flat_map (λ c. clause_text c.items) clauses
+
+-- the whole text
+abbrev pub cnf_text : Named → List Meaning → List (Vec ℕ Global) → List ℕ
+cnf_text a meanings clauses = cnf_parts a meanings clauses (length meanings) (length clauses)

@@ -10,8 +10,8 @@ use Rattle.xc_none.specs.declared.meaning.Meaning.{Meaning}
 use Rattle.xc_none.specs.declared.meaning.Meaning.TheVariants.{Chosen, AtLeast, UpTo}
 
 -- whether a set has this option
-abbrev pub has : List ℕ → ℕ → Bool
-has s o = list_any (λ x. x == o) s
+abbrev pub is_chosen : List ℕ → ℕ → Bool
+is_chosen s o = list_any (λ x. x == o) s
 
 -- whether an option holds item i
 abbrev pub is_holder : Puzzle → ℕ → ℕ → Bool
@@ -32,7 +32,7 @@ is_placed p r o (Some colour) = nat_le (place_of p o colour) r
 
 -- whether what a variable means is so of a set
 abbrev pub is_so : Puzzle → List ℕ → Meaning → Bool
-is_so p s (Chosen o) = has s o
+is_so p s (Chosen o) = is_chosen s o
 is_so p s (AtLeast i t j) = nat_le j (held_up_to p s i t)
 is_so p s (UpTo i r) = list_any (λ o. is_placed p r o (colour_in (uses_of p o) i)) s
 
@@ -42,8 +42,9 @@ meaning_of meanings l = slice_index_or meanings (l / 2) (Chosen 0)
 
 -- whether a literal is true of a set
 abbrev pub value : Puzzle → List Meaning → List ℕ → ℕ → Bool
-value p meanings s l = (if l % 2 == 0 then is_so p s (meaning_of meanings l) else not (is_so p s (meaning_of meanings l)))
+value p meanings s l =
+    if l % 2 == 0 then is_so p s (meaning_of meanings l) else not (is_so p s (meaning_of meanings l))
 
 -- each cover of a problem makes these clauses true
-pub record AreTrue (p : Puzzle) (meanings : List Meaning) (clauses : List (Vec ℕ Global)) : Type 0 where
+pub record AreTrueOfCovers (p : Puzzle) (meanings : List Meaning) (clauses : List (Vec ℕ Global)) : Type 0 where
   pub of_covers : (s : List ℕ) → IsCover p s → Satisfies (value p meanings s) clauses

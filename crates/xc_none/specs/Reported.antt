@@ -4,7 +4,8 @@ use Rattle.xc_text.specs.Calls.{Rose}
 use Rattle.xc_text.specs.declared.line_reader.Unread.{Unread}
 use Rattle.xc_text.specs.declared.line_reader.Unread.TheVariants.{Device as UnreadDevice, Memory as UnreadMemory}
 use Rattle.xc_none.specs.declared.errors.ClausesError.{ClausesError}
-use Rattle.xc_none.specs.declared.errors.ClausesError.TheVariants.{Memory as NoRoom, TooManyVariables as TooMany, Lost as LostOne}
+use Rattle.xc_none.specs.declared.errors.ClausesError.TheVariants.{Memory as NoRoom, TooManyVariables as TooMany}
+use Rattle.xc_none.specs.declared.errors.ClausesError.TheVariants.{Lost as LostOne}
 use Rattle.xc_none.specs.declared.errors.NoneError.{NoneError}
 use Rattle.xc_none.specs.declared.errors.NoneError.TheVariants.{Device, Memory, TooManyVariables, Lost}
 

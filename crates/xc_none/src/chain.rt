@@ -1,13 +1,13 @@
 //! The kinds of clauses of a primary item: counting the options that hold it, along its list.
 //!
-//! Each is a clause of what is true of every cover, whatever the rows of the chain are. A row is the place of an option in
-//! the list of its item.
+//! Each is a clause of what is true of every cover, whatever the rows of the chain are. A row is the place of an
+//! option in the list of its item.
 ghost use Rattle.std.specs.Prelude.{ℕ, ◌≡◌, ◌+◌, ◌<◌, ◌≤◌, not, List, Some, nat_le, IfOk, if◌then◌else◌};
 ghost use Rattle.xc_input.specs.Problem.{Puzzle, bounds_at};
 ghost use Rattle.xc_input.specs.declared.problem.Bounds.{Bounds};
-ghost use Rattle.xc_none.specs.Meanings.{has, held_up_to};
+ghost use Rattle.xc_none.specs.Meanings.{is_chosen, held_up_to};
 ghost use Rattle.xc_none.specs.inner.Claims.{is_claimed, OneHolds};
-ghost use Rattle.xc_none.specs.inner.Holders.{IsHolder, AreHolders, IsNext};
+ghost use Rattle.xc_none.specs.inner.Holders.{IsHolder, AreOptionsOf, IsNextHolder};
 
 use crate::claim::Claim;
 use crate::errors::ClausesError;
@@ -24,7 +24,8 @@ pub struct Chain {
 
 /// That an option is chosen, or that it isn't.
 pub(crate) fn chosen(option: u32, so: bool) -> Claim
-    ensures { (p : Puzzle) (s : List ℕ) → is_claimed p s result ≡ (if so then has s option else not (has s option)) }
+    ensures { (p : Puzzle) (s : List ℕ) → is_claimed p s result ≡ (if so then is_chosen s option else not
+        (is_chosen s option)) }
 {
     Claim {
         meaning: Meaning::Chosen(option),
@@ -36,7 +37,8 @@ pub(crate) fn chosen(option: u32, so: bool) -> Claim
 /// That up to an option at least so many are chosen, or that they aren't.
 fn at_least(chain: Chain, row: u32, option: u32, count: u32, so: bool) -> Claim
     ensures { (p : Puzzle) (s : List ℕ) → is_claimed p s result
-        ≡ (if so then nat_le count (held_up_to p s chain.item option) else not (nat_le count (held_up_to p s chain.item option))) }
+        ≡ (if so then nat_le count (held_up_to p s chain.item option) else not (nat_le count
+        (held_up_to p s chain.item option))) }
 {
     let begin = (row as usize).saturating_mul(chain.columns as usize);
     let place = chain
@@ -92,7 +94,7 @@ pub(crate) fn most(chain: Chain, row: u32, before: u32, option: u32, high: u32) 
 
 /// At least so many up to an option are as many up to the option before, or it is chosen.
 pub(crate) fn down(chain: Chain, row: u32, before: u32, option: u32, count: u32) -> [Claim; 3]
-    ensures { (p : Puzzle) → IsNext p chain.item before option → OneHolds p result }
+    ensures { (p : Puzzle) → IsNextHolder p chain.item before option → OneHolds p result }
 {
     let x = at_least(chain, row, option, count, false);
     let y = at_least(chain, row.saturating_sub(1), before, count, true);
@@ -103,7 +105,7 @@ pub(crate) fn down(chain: Chain, row: u32, before: u32, option: u32, count: u32)
 /// One more than so many up to an option are so many up to the option before.
 pub(crate) fn fewer(chain: Chain, row: u32, before: u32, option: u32, count: u32) -> [Claim; 2]
     requires { count < 4294967295 }
-    ensures { (p : Puzzle) → IsNext p chain.item before option → OneHolds p result }
+    ensures { (p : Puzzle) → IsNextHolder p chain.item before option → OneHolds p result }
 {
     let x = at_least(chain, row, option, count + 1, false);
     let y = at_least(chain, row.saturating_sub(1), before, count, true);
@@ -112,7 +114,7 @@ pub(crate) fn fewer(chain: Chain, row: u32, before: u32, option: u32, count: u32
 
 /// At least one up to the first option is that option.
 pub(crate) fn first_down(chain: Chain, option: u32) -> [Claim; 2]
-    ensures { (p : Puzzle) → IsNext p chain.item 0 option → OneHolds p result }
+    ensures { (p : Puzzle) → IsNextHolder p chain.item 0 option → OneHolds p result }
 {
     let x = at_least(chain, 0, option, 1, false);
     let y = chosen(option, true);
@@ -122,7 +124,7 @@ pub(crate) fn first_down(chain: Chain, option: u32) -> [Claim; 2]
 /// More than one up to the first option there are not.
 pub(crate) fn first_fewer(chain: Chain, option: u32, count: u32) -> [Claim; 1]
     requires { count < 4294967295 }
-    ensures { (p : Puzzle) → IsNext p chain.item 0 option → 1 ≤ count → OneHolds p result }
+    ensures { (p : Puzzle) → IsNextHolder p chain.item 0 option → 1 ≤ count → OneHolds p result }
 {
     let x = at_least(chain, 0, option, count + 1, false);
     [x]
@@ -139,7 +141,7 @@ pub(crate) fn least(chain: Chain, row: u32, option: u32, count: u32) -> [Claim; 
 
 /// One of the options is chosen.
 pub(crate) fn some(alloc: Global, options: &[u32]) -> Result<Vec<Claim>, ClausesError>
-    ensures { IfOk result (λ v. (p : Puzzle) (i : ℕ) (b : Bounds) → AreHolders p i options.now
+    ensures { IfOk result (λ v. (p : Puzzle) (i : ℕ) (b : Bounds) → AreOptionsOf p i options.now
         → bounds_at p i ≡ Some b → 1 ≤ b.low → OneHolds p v.items) }
 {
     let mut claims = Vec::with_capacity(alloc, options.len())?;

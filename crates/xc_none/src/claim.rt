@@ -1,9 +1,9 @@
 //! Clauses of what their literals are to say.
 //!
-//! A claim is looked up at the place where its variable was put, and the meaning found there is compared. So how variables
-//! are numbered needs no proof.
+//! A claim is looked up at the place where its variable was put, and the meaning found there is compared. So how
+//! variables are numbered needs no proof.
 ghost use Rattle.std.specs.Prelude.{◌≡◌, true, IfOk, OnOk};
-ghost use Rattle.xc_none.specs.Meanings.{AreTrue};
+ghost use Rattle.xc_none.specs.Meanings.{AreTrueOfCovers};
 ghost use Rattle.xc_none.specs.inner.Claims.{Says, OneHolds};
 
 use crate::errors::ClausesError;
@@ -65,9 +65,9 @@ pub(crate) fn add_clause(
     meanings: &[Meaning],
     claims: &[Claim],
 ) -> Result<(), ClausesError>
-    requires so_far { AreTrue problem.now.puzzle meanings.now clauses.old.items }
+    requires so_far { AreTrueOfCovers problem.now.puzzle meanings.now clauses.old.items }
     requires holds { OneHolds problem.now.puzzle claims.now }
-    ensures { OnOk result (AreTrue problem.now.puzzle meanings.now clauses.new.items) }
+    ensures { OnOk result (AreTrueOfCovers problem.now.puzzle meanings.now clauses.new.items) }
 {
     let mut clause = Vec::with_capacity(alloc, claims.len())?;
     for claim in claims {

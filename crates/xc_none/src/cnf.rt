@@ -1,8 +1,9 @@
 //! The clauses of a problem as text, for SAT engines.
-ghost use Rattle.std.specs.Prelude.{flat_map};
+ghost use Rattle.std.specs.Prelude.{◌++◌, codes, flat_map};
 ghost use Rattle.std.specs.List.{enumerate_from};
 ghost use Rattle.xc_text.specs.Texts.{Writes};
-ghost use Rattle.xc_none.specs.Cnf.{clause_text, cnf_text, comment_text, literal_text, meaning_text, name_at};
+ghost use Rattle.xc_none.specs.Cnf.{clause_text, cnf_parts, cnf_text, comment_text, literal_text, meaning_text};
+ghost use Rattle.xc_none.specs.Cnf.{name_at};
 ghost use Rattle.xc_none.specs.Cnf.{place_text};
 ghost use Rattle.xc_none.specs.declared.meaning.Meaning.TheVariants.{AtLeast, UpTo};
 
@@ -31,6 +32,15 @@ fn write_colour<S: Sink>(sink: &mut S, problem: &Problem, colour: u64) -> Result
     write_all(sink, problem.colour(colour as u32))
 }
 
+/// Writes that a place reaches up to a colour.
+fn write_last_colour<S: Sink>(sink: &mut S, problem: &Problem, colour: u64) -> Result<(), SinkFault>
+    ensures { Writes (S.state sink.old) (S.state sink.new) result
+        (codes " without a colour or with one up to " ++ name_at problem.now.colours colour) }
+{
+    write_all(sink, b" without a colour or with one up to ")?;
+    write_colour(sink, problem, colour)
+}
+
 /// Writes up to which option without a colour, or up to which colour, a place reaches.
 fn write_place<S: Sink>(sink: &mut S, problem: &Problem, place: u64) -> Result<(), SinkFault>
     ensures { Writes (S.state sink.old) (S.state sink.new) result (place_text problem.now place) }
@@ -39,8 +49,7 @@ fn write_place<S: Sink>(sink: &mut S, problem: &Problem, place: u64) -> Result<(
     if place <= options {
         return write_numbered(sink, b" without a colour up to ", place, b"");
     }
-    write_all(sink, b" without a colour or with one up to ")?;
-    write_colour(sink, problem, place - options)
+    write_last_colour(sink, problem, place - options)
 }
 
 /// Writes what a variable of a chain means.
@@ -48,14 +57,16 @@ fn write_at_least<S: Sink>(
     sink: &mut S,
     problem: &Problem,
     item: u32,
-    option: u32,
-    count: u32,
+    option: u64,
+    count: u64,
 ) -> Result<(), SinkFault>
-    ensures { Writes (S.state sink.old) (S.state sink.new) result (meaning_text problem.now (AtLeast item option count)) }
+    ensures { Writes (S.state sink.old) (S.state sink.new) result (meaning_text problem.now
+        (AtLeast item option count)) }
 {
-    write_numbered(sink, b"of the options up to ", u64::from(option), b" with ")?;
+    write_numbered(sink, b"of the options up to ", option, b" with ")?;
     write_item(sink, problem, item)?;
-    write_numbered(sink, b" at least ", u64::from(count), b"")
+    write_all(sink, b" at least ")?;
+    write_number(sink, count)
 }
 
 /// Writes what a variable of a secondary item means.
@@ -87,7 +98,9 @@ fn write_meaning<S: Sink>(
             u64::from(option),
             b" is chosen",
         ),
-        Meaning::AtLeast(item, option, count) => write_at_least(sink, problem, item, option, count),
+        Meaning::AtLeast(item, option, count) => {
+            write_at_least(sink, problem, item, u64::from(option), u64::from(count))
+        }
         Meaning::UpTo(item, place) => write_up_to(sink, problem, item, place),
     }
 }
@@ -132,13 +145,21 @@ fn write_literal<S: Sink>(sink: &mut S, literal: u32) -> Result<(), SinkFault>
     write_numbered(sink, b"-", number, b" ")
 }
 
+/// Writes literals.
+fn write_literals<S: Sink>(sink: &mut S, literals: &[u32]) -> Result<(), SinkFault>
+    ensures { Writes (S.state sink.old) (S.state sink.new) result (flat_map literal_text literals.now) }
+{
+    for literal in literals {
+        write_literal(sink, *literal)?;
+    }
+    Ok(())
+}
+
 /// Writes the line of a clause.
 fn write_clause<S: Sink>(sink: &mut S, clause: &[u32]) -> Result<(), SinkFault>
     ensures { Writes (S.state sink.old) (S.state sink.new) result (clause_text clause.now) }
 {
-    for literal in clause {
-        write_literal(sink, *literal)?;
-    }
+    write_literals(sink, clause)?;
     write_all(sink, b"0\n")
 }
 
@@ -150,6 +171,23 @@ fn write_clauses<S: Sink>(sink: &mut S, clauses: &[Vec<u32>]) -> Result<(), Sink
         write_clause(sink, clause.as_slice())?;
     }
     Ok(())
+}
+
+/// Writes the comments, the line with so many variables and clauses, and the clauses.
+fn write_parts<S: Sink>(
+    sink: &mut S,
+    problem: &Problem,
+    meanings: &[Meaning],
+    clauses: &[Vec<u32>],
+    variables: u64,
+    many: u64,
+) -> Result<(), SinkFault>
+    ensures { Writes (S.state sink.old) (S.state sink.new) result
+        (cnf_parts problem.now meanings.now clauses.now variables many) }
+{
+    write_comments(sink, problem, meanings)?;
+    write_two_numbers(sink, b"p cnf ", variables, b" ", many, b"\n")?;
+    write_clauses(sink, clauses)
 }
 
 /// Writes the clauses of a problem in the format DIMACS CNF, after a comment for each variable that says what it means:
@@ -171,9 +209,14 @@ pub fn write_cnf<S: Sink>(
     ensures { Writes (S.state sink.old) (S.state sink.new) result
         (cnf_text problem.now formula.now.meanings.items formula.now.clauses.items) }
 {
-    let variables = formula.meanings.len() as u64;
-    let clauses = formula.clauses.len() as u64;
-    write_comments(sink, problem, formula.meanings.as_slice())?;
-    write_two_numbers(sink, b"p cnf ", variables, b" ", clauses, b"\n")?;
-    write_clauses(sink, formula.clauses.as_slice())
+    let meanings = formula.meanings.as_slice();
+    let clauses = formula.clauses.as_slice();
+    write_parts(
+        sink,
+        problem,
+        meanings,
+        clauses,
+        meanings.len() as u64,
+        clauses.len() as u64,
+    )
 }

@@ -1,7 +1,7 @@
 //! The kinds of clauses of a secondary item: its options in the order of their places by colour.
 //!
-//! The options of a cover that hold it are one, or have one colour. So a chosen option is at a place, and none is chosen at
-//! a place before.
+//! The options of a cover that hold it are one, or have one colour. So a chosen option is at a place, and none is
+//! chosen at a place before.
 ghost use Rattle.std.specs.Prelude.{ℕ, ◌≡◌, ◌<◌, ◌≤◌, not, List, Some, IfSome, if◌then◌else◌};
 ghost use Rattle.std.specs.List.{list_any};
 ghost use Rattle.xc_input.specs.Problem.{Puzzle, IsOption, IsSecondary, colour_in, uses_of};

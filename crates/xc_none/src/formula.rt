@@ -1,7 +1,7 @@
 //! The clauses of a problem.
 ghost use Rattle.std.specs.Prelude.{IfOk};
 ghost use Rattle.xc_input.specs.Problem.{option_count};
-ghost use Rattle.xc_none.specs.Meanings.{AreTrue};
+ghost use Rattle.xc_none.specs.Meanings.{AreTrueOfCovers};
 ghost use Rattle.xc_none.specs.inner.Holders.{AreListed};
 
 use crate::errors::ClausesError;
@@ -28,7 +28,7 @@ fn all_clauses(
     table: &Table,
 ) -> Result<Vec<Vec<u32>>, ClausesError>
     requires { AreListed problem.now.puzzle (option_count problem.now.puzzle) lists.now }
-    ensures { IfOk result (λ clauses. AreTrue problem.now.puzzle table.now.meanings.items clauses.items) }
+    ensures { IfOk result (λ clauses. AreTrueOfCovers problem.now.puzzle table.now.meanings.items clauses.items) }
 {
     let mut clauses = Vec::new(alloc);
     for i in 0..problem.items() {
@@ -50,13 +50,13 @@ fn all_clauses(
     Ok(clauses)
 }
 
-/// The clauses of a problem, and what their variables mean. Each cover of the problem makes them true. They are meant to be
-/// enough too, so that options that make them true are a cover: that is tested, and not proved.
+/// The clauses of a problem, and what their variables mean. Each cover of the problem makes them true. They are meant
+/// to be enough too, so that options that make them true are a cover: that is tested, and not proved.
 ///
 /// For a primary item a chain counts its options in file order: of those up to an option at least so many are chosen. A
 /// secondary item has its options in the order of their places by colour: up to a place one is chosen.
 pub fn clauses(alloc: Global, problem: &Problem) -> Result<Formula, ClausesError>
-    ensures { IfOk result (λ f. AreTrue problem.now.puzzle f.meanings.items f.clauses.items) }
+    ensures { IfOk result (λ f. AreTrueOfCovers problem.now.puzzle f.meanings.items f.clauses.items) }
 {
     let lists = options_by_item(alloc, problem)?;
     let table = variables(alloc, problem, lists.as_slice())?;

@@ -1,8 +1,8 @@
 //! The clauses of an item.
 ghost use Rattle.std.specs.Prelude.{◌≡◌, ◌<◌, Some, OnOk};
 ghost use Rattle.xc_input.specs.Problem.{IsItem, IsOption, IsSecondary, bounds_at};
-ghost use Rattle.xc_none.specs.Meanings.{AreTrue};
-ghost use Rattle.xc_none.specs.inner.Holders.{IsHolder, AreHolders, AreRising, IsNext};
+ghost use Rattle.xc_none.specs.Meanings.{AreTrueOfCovers};
+ghost use Rattle.xc_none.specs.inner.Holders.{IsHolder, AreOptionsOf, AreRising, IsNextHolder};
 
 use crate::chain::{
     Chain, down, fewer, first, first_down, first_fewer, least, most, some, stay, up,
@@ -31,42 +31,22 @@ fn add_upper_row(
     requires bounds { bounds_at problem.now.puzzle chain.item ≡ Some bounds }
     requires holder { IsHolder problem.now.puzzle chain.item option }
     requires rising { before < option }
-    requires so_far { AreTrue problem.now.puzzle meanings.now clauses.old.items }
-    ensures { OnOk result (AreTrue problem.now.puzzle meanings.now clauses.new.items) }
+    requires so_far { AreTrueOfCovers problem.now.puzzle meanings.now clauses.old.items }
+    ensures { OnOk result (AreTrueOfCovers problem.now.puzzle meanings.now clauses.new.items) }
 {
-    add_clause(
-        alloc,
-        clauses,
-        problem,
-        meanings,
-        &first(chain, row, option),
-    )?;
+    let clause = first(chain, row, option);
+    add_clause(alloc, clauses, problem, meanings, &clause)?;
     for k in 0..row.min(bounds.high) {
-        add_clause(
-            alloc,
-            clauses,
-            problem,
-            meanings,
-            &stay(chain, row, before, option, k + 1),
-        )?;
+        let clause = stay(chain, row, before, option, k + 1);
+        add_clause(alloc, clauses, problem, meanings, &clause)?;
         if k + 1 < bounds.high {
-            add_clause(
-                alloc,
-                clauses,
-                problem,
-                meanings,
-                &up(chain, row, before, option, k + 1),
-            )?;
+            let clause = up(chain, row, before, option, k + 1);
+            add_clause(alloc, clauses, problem, meanings, &clause)?;
         }
     }
     if bounds.high <= row {
-        add_clause(
-            alloc,
-            clauses,
-            problem,
-            meanings,
-            &most(chain, row, before, option, bounds.high),
-        )?;
+        let clause = most(chain, row, before, option, bounds.high);
+        add_clause(alloc, clauses, problem, meanings, &clause)?;
     }
     Ok(())
 }
@@ -82,21 +62,16 @@ fn add_upper(
     options: &[u32],
 ) -> Result<(), ClausesError>
     requires bounds { bounds_at problem.now.puzzle chain.item ≡ Some bounds }
-    requires holders { AreHolders problem.now.puzzle chain.item options.now }
+    requires holders { AreOptionsOf problem.now.puzzle chain.item options.now }
     requires rising { AreRising options.now }
-    requires so_far { AreTrue problem.now.puzzle meanings.now clauses.old.items }
-    ensures { OnOk result (AreTrue problem.now.puzzle meanings.now clauses.new.items) }
+    requires so_far { AreTrueOfCovers problem.now.puzzle meanings.now clauses.old.items }
+    ensures { OnOk result (AreTrueOfCovers problem.now.puzzle meanings.now clauses.new.items) }
 {
     if options.is_empty() {
         return Ok(());
     }
-    add_clause(
-        alloc,
-        clauses,
-        problem,
-        meanings,
-        &first(chain, 0, options[0]),
-    )?;
+    let clause = first(chain, 0, options[0]);
+    add_clause(alloc, clauses, problem, meanings, &clause)?;
     for k in 1..options.len() {
         let Ok(row) = u32::try_from(k) else {
             return Err(ClausesError::TooManyVariables);
@@ -128,26 +103,16 @@ fn add_lower_row(
     before: u32,
     option: u32,
 ) -> Result<(), ClausesError>
-    requires next { IsNext problem.now.puzzle chain.item before option }
-    requires so_far { AreTrue problem.now.puzzle meanings.now clauses.old.items }
-    ensures { OnOk result (AreTrue problem.now.puzzle meanings.now clauses.new.items) }
+    requires next { IsNextHolder problem.now.puzzle chain.item before option }
+    requires so_far { AreTrueOfCovers problem.now.puzzle meanings.now clauses.old.items }
+    ensures { OnOk result (AreTrueOfCovers problem.now.puzzle meanings.now clauses.new.items) }
 {
     for k in 0..count {
-        add_clause(
-            alloc,
-            clauses,
-            problem,
-            meanings,
-            &down(chain, row, before, option, k + 1),
-        )?;
+        let clause = down(chain, row, before, option, k + 1);
+        add_clause(alloc, clauses, problem, meanings, &clause)?;
         if k + 1 < count {
-            add_clause(
-                alloc,
-                clauses,
-                problem,
-                meanings,
-                &fewer(chain, row, before, option, k + 1),
-            )?;
+            let clause = fewer(chain, row, before, option, k + 1);
+            add_clause(alloc, clauses, problem, meanings, &clause)?;
         }
     }
     Ok(())
@@ -163,25 +128,15 @@ fn add_first_row(
     count: u32,
     option: u32,
 ) -> Result<(), ClausesError>
-    requires next { IsNext problem.now.puzzle chain.item 0 option }
-    requires so_far { AreTrue problem.now.puzzle meanings.now clauses.old.items }
-    ensures { OnOk result (AreTrue problem.now.puzzle meanings.now clauses.new.items) }
+    requires next { IsNextHolder problem.now.puzzle chain.item 0 option }
+    requires so_far { AreTrueOfCovers problem.now.puzzle meanings.now clauses.old.items }
+    ensures { OnOk result (AreTrueOfCovers problem.now.puzzle meanings.now clauses.new.items) }
 {
-    add_clause(
-        alloc,
-        clauses,
-        problem,
-        meanings,
-        &first_down(chain, option),
-    )?;
+    let clause = first_down(chain, option);
+    add_clause(alloc, clauses, problem, meanings, &clause)?;
     for j in 1..count {
-        add_clause(
-            alloc,
-            clauses,
-            problem,
-            meanings,
-            &first_fewer(chain, option, j),
-        )?;
+        let clause = first_fewer(chain, option, j);
+        add_clause(alloc, clauses, problem, meanings, &clause)?;
     }
     Ok(())
 }
@@ -197,10 +152,10 @@ fn add_lower(
     options: &[u32],
 ) -> Result<(), ClausesError>
     requires bounds { bounds_at problem.now.puzzle chain.item ≡ Some bounds }
-    requires holders { AreHolders problem.now.puzzle chain.item options.now }
+    requires holders { AreOptionsOf problem.now.puzzle chain.item options.now }
     requires rising { AreRising options.now }
-    requires so_far { AreTrue problem.now.puzzle meanings.now clauses.old.items }
-    ensures { OnOk result (AreTrue problem.now.puzzle meanings.now clauses.new.items) }
+    requires so_far { AreTrueOfCovers problem.now.puzzle meanings.now clauses.old.items }
+    ensures { OnOk result (AreTrueOfCovers problem.now.puzzle meanings.now clauses.new.items) }
 {
     if options.is_empty() {
         return Ok(());
@@ -227,13 +182,8 @@ fn add_lower(
         )?;
     }
     let last = options.len() - 1;
-    add_clause(
-        alloc,
-        clauses,
-        problem,
-        meanings,
-        &least(chain, many - 1, options[last], count),
-    )
+    let clause = least(chain, many - 1, options[last], count);
+    add_clause(alloc, clauses, problem, meanings, &clause)
 }
 
 /// The clauses of a primary item: as many of its options are chosen as its bounds say.
@@ -247,9 +197,9 @@ fn add_bounds(
     options: &[u32],
 ) -> Result<(), ClausesError>
     requires bounds { bounds_at problem.now.puzzle chain.item ≡ Some bounds }
-    requires holders { AreHolders problem.now.puzzle chain.item options.now }
-    requires so_far { AreTrue problem.now.puzzle meanings.now clauses.old.items }
-    ensures { OnOk result (AreTrue problem.now.puzzle meanings.now clauses.new.items) }
+    requires holders { AreOptionsOf problem.now.puzzle chain.item options.now }
+    requires so_far { AreTrueOfCovers problem.now.puzzle meanings.now clauses.old.items }
+    ensures { OnOk result (AreTrueOfCovers problem.now.puzzle meanings.now clauses.new.items) }
 {
     if !are_rising(options) {
         return Err(ClausesError::Lost);
@@ -267,8 +217,8 @@ fn add_bounds(
     Ok(())
 }
 
-/// The clauses of an option of a secondary item, whose options are at these places: none before its place is chosen beside
-/// it.
+/// The clauses of an option of a secondary item, whose options are at these places: none before its place is chosen
+/// beside it.
 fn add_placed(
     alloc: Global,
     clauses: &mut Vec<Vec<u32>>,
@@ -280,8 +230,8 @@ fn add_placed(
 ) -> Result<(), ClausesError>
     requires item { IsSecondary problem.now.puzzle groups.item }
     requires option { IsOption problem.now.puzzle option }
-    requires so_far { AreTrue problem.now.puzzle meanings.now clauses.old.items }
-    ensures { OnOk result (AreTrue problem.now.puzzle meanings.now clauses.new.items) }
+    requires so_far { AreTrueOfCovers problem.now.puzzle meanings.now clauses.old.items }
+    ensures { OnOk result (AreTrueOfCovers problem.now.puzzle meanings.now clauses.new.items) }
 {
     let Some(place) = place_of(problem, option, groups.item) else {
         return Err(ClausesError::Lost);
@@ -290,13 +240,8 @@ fn add_placed(
         return Err(ClausesError::Lost);
     };
     if at + 1 < places.len() {
-        add_clause(
-            alloc,
-            clauses,
-            problem,
-            meanings,
-            &enter(groups, at, option, place),
-        )?;
+        let clause = enter(groups, at, option, place);
+        add_clause(alloc, clauses, problem, meanings, &clause)?;
     }
     if at == 0 {
         return Ok(());
@@ -305,13 +250,8 @@ fn add_placed(
     if place <= before {
         return Err(ClausesError::Lost);
     }
-    add_clause(
-        alloc,
-        clauses,
-        problem,
-        meanings,
-        &apart(groups, at, before, option, place),
-    )
+    let clause = apart(groups, at, before, option, place);
+    add_clause(alloc, clauses, problem, meanings, &clause)
 }
 
 /// The clauses of a secondary item's places: one up to a place is one up to the next.
@@ -323,8 +263,8 @@ fn add_places(
     groups: Groups,
     places: &[u64],
 ) -> Result<(), ClausesError>
-    requires so_far { AreTrue problem.now.puzzle meanings.now clauses.old.items }
-    ensures { OnOk result (AreTrue problem.now.puzzle meanings.now clauses.new.items) }
+    requires so_far { AreTrueOfCovers problem.now.puzzle meanings.now clauses.old.items }
+    ensures { OnOk result (AreTrueOfCovers problem.now.puzzle meanings.now clauses.new.items) }
 {
     for at in 2..places.len() {
         let before = places[at - 2];
@@ -332,13 +272,8 @@ fn add_places(
         if place < before {
             return Err(ClausesError::Lost);
         }
-        add_clause(
-            alloc,
-            clauses,
-            problem,
-            meanings,
-            &on(groups, at - 1, before, place),
-        )?;
+        let clause = on(groups, at - 1, before, place);
+        add_clause(alloc, clauses, problem, meanings, &clause)?;
     }
     Ok(())
 }
@@ -353,9 +288,9 @@ fn add_colours(
     options: &[u32],
 ) -> Result<(), ClausesError>
     requires item { IsSecondary problem.now.puzzle groups.item }
-    requires options { AreHolders problem.now.puzzle groups.item options.now }
-    requires so_far { AreTrue problem.now.puzzle meanings.now clauses.old.items }
-    ensures { OnOk result (AreTrue problem.now.puzzle meanings.now clauses.new.items) }
+    requires options { AreOptionsOf problem.now.puzzle groups.item options.now }
+    requires so_far { AreTrueOfCovers problem.now.puzzle meanings.now clauses.old.items }
+    ensures { OnOk result (AreTrueOfCovers problem.now.puzzle meanings.now clauses.new.items) }
 {
     let places = places_of(alloc, problem, groups.item, options)?;
     add_places(alloc, clauses, problem, meanings, groups, places.as_slice())?;
@@ -384,9 +319,9 @@ pub(crate) fn add_item(
     options: &[u32],
 ) -> Result<(), ClausesError>
     requires item { IsItem problem.now.puzzle item }
-    requires holders { AreHolders problem.now.puzzle item options.now }
-    requires so_far { AreTrue problem.now.puzzle meanings.now clauses.old.items }
-    ensures { OnOk result (AreTrue problem.now.puzzle meanings.now clauses.new.items) }
+    requires holders { AreOptionsOf problem.now.puzzle item options.now }
+    requires so_far { AreTrueOfCovers problem.now.puzzle meanings.now clauses.old.items }
+    ensures { OnOk result (AreTrueOfCovers problem.now.puzzle meanings.now clauses.new.items) }
 {
     if item > problem.primary() {
         return add_colours(

@@ -1,4 +1,5 @@
-//! Problems without a solution, judged: clauses that each cover of a problem makes true, and whether a proof refutes them.
+//! Problems without a solution, judged: clauses that each cover of a problem makes true, and whether a proof refutes
+//! them.
 //!
 //! ```text
 //! let formula = clauses(alloc, &problem)?;

@@ -1,7 +1,7 @@
 //! The variables of a problem, before its clauses are made.
 //!
-//! First one for each option, that it is chosen. Then those of each item in order. Nothing is proved of the order: a clause
-//! looks at what stands at a place.
+//! First one for each option, that it is chosen. Then those of each item in order. Nothing is proved of the order: a
+//! clause looks at what stands at a place.
 ghost use Rattle.std.specs.Prelude.{◌≤◌, All};
 ghost use Rattle.xc_input.specs.Problem.{IsItem, IsOption, option_count};
 ghost use Rattle.xc_none.specs.inner.Holders.{AreListed};
@@ -95,7 +95,11 @@ fn add_chain(
 }
 
 /// The variables of a secondary item: of each of its places but the last, up to which any option is.
-fn add_places(meanings: &mut Vec<Meaning>, item: u32, places: &[u64]) -> Result<(), ClausesError> {
+fn add_place_variables(
+    meanings: &mut Vec<Meaning>,
+    item: u32,
+    places: &[u64],
+) -> Result<(), ClausesError> {
     if !has_room(meanings.as_slice(), places.len() as u64) {
         return Err(ClausesError::TooManyVariables);
     }
@@ -115,7 +119,7 @@ fn chosen_options(alloc: Global, problem: &Problem) -> Result<Vec<Meaning>, Clau
 }
 
 /// The variables of an item.
-fn add_item(
+fn add_item_variables(
     alloc: Global,
     meanings: &mut Vec<Meaning>,
     problem: &Problem,
@@ -127,7 +131,7 @@ fn add_item(
 {
     if item > problem.primary() {
         let places = places_of(alloc, problem, item, options)?;
-        return add_places(meanings, item, places.as_slice());
+        return add_place_variables(meanings, item, places.as_slice());
     }
     let Ok(many) = u32::try_from(options.len()) else {
         return Err(ClausesError::TooManyVariables);
@@ -155,7 +159,7 @@ pub(crate) fn variables(
         if i as usize >= lists.len() {
             return Err(ClausesError::Lost);
         }
-        add_item(
+        add_item_variables(
             alloc,
             &mut meanings,
             problem,

@@ -1,14 +1,14 @@
 use Rattle.std.proofs.Common.{arith}
 use Rattle.std.specs.Prelude.{not}
 use Rattle.std.specs.List.{list_any}
-use Rattle.xc_none.specs.Meanings.{has}
+use Rattle.xc_none.specs.Meanings.{is_chosen}
 use Rattle.xc_none.proofs.ColourTruths.{up_to, apart_true}
 use Rattle.xc_none.proofs.ClaimLemmas.{two_hold}
 use Rattle.xc_none.proofs.coloured.apart.Goals as goal
 
 pub returns : goal.returns
 returns c = λ p second at behind. two_hold p c.chosen-x.result c.up_to-y.result
-    (λ s. not (has s c.args.option)) (λ s. not (list_any (up_to p c.args.groups.item c.args.before) s))
+    (λ s. not (is_chosen s c.args.option)) (λ s. not (list_any (up_to p c.args.groups.item c.args.before) s))
     (c.chosen-x.ensures p) (c.up_to-y.ensures p)
     (λ s cover. apart_true p s c.args.groups.item c.args.option at.0 c.args.before at.1 (omega (arith, at.2, behind))
     second cover)

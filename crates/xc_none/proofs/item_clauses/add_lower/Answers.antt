@@ -10,7 +10,7 @@ add_lower_row-requires-clause-next c =
 pub add_clause-requires-clause-holds : goal.add_clause-requires-clause-holds
 add_clause-requires-clause-holds c =
     let end : length c.args.options.now ≡ length c.args.options.now - 1 + 1 = grind arith in
-    c.least.ensures c.args.problem.now.puzzle c.args.bounds
+    c.least-clause.ensures c.args.problem.now.puzzle c.args.bounds
     (last_row c.args.problem.now.puzzle c.args.chain.item c.args.options.now (length c.args.options.now - 1)
     c.requires.holders c.requires.rising end)
     c.requires.bounds c.least_count-count.ensures

@@ -1,5 +1,5 @@
-use Rattle.xc_none.specs.Meanings.{AreTrue}
+use Rattle.xc_none.specs.Meanings.{AreTrueOfCovers}
 use Rattle.xc_none.proofs.item_clauses.add_upper.Given as goal
 
 abbrev pub invariant-loop-k : goal.invariant-loop-k
-invariant-loop-k l = AreTrue l.problem.puzzle l.meanings l.clauses.items
+invariant-loop-k l = AreTrueOfCovers l.problem.puzzle l.meanings l.clauses.items

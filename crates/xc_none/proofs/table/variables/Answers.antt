@@ -3,16 +3,16 @@ use Rattle.std.specs.Prelude.{slice_get, All}
 use Rattle.std.proofs.lemmas.List.Elements.{All-weaker}
 use Rattle.std.proofs.lemmas.Option.{slice_get_read}
 use Rattle.xc_input.specs.Problem.{IsOption}
-use Rattle.xc_none.specs.inner.Holders.{AreHolders, IsHolder}
+use Rattle.xc_none.specs.inner.Holders.{AreOptionsOf, IsHolder}
 use Rattle.xc_none.proofs.table.variables.Goals as goal
 
-pub add_item-requires-clause-options : goal.add_item-requires-clause-options
-add_item-requires-clause-options c =
+pub add_item_variables-requires-clause-options : goal.add_item_variables-requires-clause-options
+add_item_variables-requires-clause-options c =
     let p = c.args.problem.now.puzzle in
     let i = c.loop-i.i in
     let list = c.index-lists-i.result in
     let same : i ≡ i + 1 - 1 = omega arith in
-    let holders : AreHolders p (i + 1) list.items =
+    let holders : AreOptionsOf p (i + 1) list.items =
     c.requires (i + 1) list (omega arith)
     (subst (λ (j : ℕ). slice_get c.args.lists.now j ≡ Some list) same
     (slice_get_read c.args.lists.now (length c.args.lists.now) i list refl (omega arith) c.index-lists-i.is)) in
