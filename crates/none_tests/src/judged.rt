@@ -1,7 +1,7 @@
 //! Problems without a solution, each with a proof that cadical 1.5.3 wrote of its clauses.
 use library_tests::fixtures::{SEVEN, read};
 use refutation::Answer;
-use std::alloc::Global;
+use std::alloc::{AllocError, Global};
 use xc_input::Kind;
 use xc_none::{NoneError, has_no_cover};
 use xc_text::Feed;
@@ -94,4 +94,26 @@ fn a_read_that_fails(rt: HostRuntime) {
     };
     let mut source = Feed::new(PIGEONS_PROOF, 7, Some(3));
     assert_eq!(rt; has_no_cover(alloc, &read.problem, &mut source), Err(NoneError::Device));
+}
+
+/// An item that so many options hold, and that has to be held half as often.
+fn crowded(alloc: Global) -> Result<Vec<u8>, AllocError> {
+    let mut text = Vec::from_slice(alloc, b"10000|a\n")?;
+    for _ in 0..20000 {
+        text.extend_from_slice(b"a\n")?;
+    }
+    Ok(text)
+}
+
+#[test]
+fn too_many_variables(rt: HostRuntime) {
+    let alloc = rt.alloc();
+    let Ok(text) = crowded(alloc) else {
+        return assert!(rt; false, "memory");
+    };
+    let Ok(read) = read(alloc, Kind::Bounds, text.as_slice(), 100) else {
+        return assert!(rt; false, "read");
+    };
+    let mut source = Feed::new(b"", 7, None);
+    assert_eq!(rt; has_no_cover(alloc, &read.problem, &mut source), Err(NoneError::TooManyVariables));
 }
