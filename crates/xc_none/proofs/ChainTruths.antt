@@ -1,8 +1,8 @@
 -- Each kind of clause of a chain is true of each cover.
-use Rattle.std.proofs.Common.{ℕ, ◌≡◌, ◌≢◌, ◌<◌, ◌≤◌, ◌+◌, Bool, true, false, List, refl, sym, ap, ◌∙◌, arith, subst}
+use Rattle.std.proofs.Common.{ℕ, ◌≡◌, ◌≢◌, ◌<◌, ◌≤◌, ◌+◌, Bool, true, false, List, refl, sym, ◌∙◌, arith, subst}
 use Rattle.std.proofs.Common.{Some}
 use Rattle.std.proofs.Common.{eqb, eqb-true, eq-eqb, inl, inr, ◌⊎◌, ⊎_elim}
-use Rattle.std.specs.Prelude.{not, ◌||◌, ◌&&◌, count_by, nat_le, All}
+use Rattle.std.specs.Prelude.{not, ◌||◌, ◌&&◌, nat_le}
 use Rattle.std.specs.List.{list_any, AllByRecursion}
 use Rattle.std.proofs.lemmas.Bool.{and_parts, and_from, and_left, leb-true, le-leb, lt-leb, leb-false, false≢true}
 use Rattle.std.proofs.lemmas.Bool.{cases_lt}

@@ -1,21 +1,14 @@
 -- Clauses that say what claims say.
-use Rattle.std.proofs.Common.{ℕ, ◌≡◌, ◌<◌, ◌≤◌, ◌+◌, ◌*◌, ◌/◌, ◌%◌, Bool, true, false, List, [], ◌∷◌, ◌++◌, length}
+use Rattle.std.proofs.Common.{ℕ, ◌≡◌, Bool, true, List, [], ◌∷◌}
 use Rattle.std.proofs.Common.{take}
-use Rattle.std.proofs.Common.{get_or, refl, sym, ap, ◌∙◌, arith, subst, zero, suc}
-use Rattle.std.specs.Prelude.{not, ◌||◌, ◌==◌, if◌then◌else◌, Vec, All}
+use Rattle.std.specs.Prelude.{◌||◌}
 use Rattle.std.specs.List.{list_any}
-use Rattle.std.specs.declared.alloc.Global.{Global}
-use Rattle.std.proofs.lemmas.List.{take_more, take_all}
-use Rattle.std.proofs.lemmas.List.Folds.{list_any-append, list_any_more}
-use Rattle.std.proofs.lemmas.List.Elements.{All-push}
 use Rattle.xc_input.specs.Problem.{Puzzle}
 use Rattle.xc_input.specs.Cover.{IsCover}
-use Rattle.refutation.specs.Refutation.{Satisfies}
 use Rattle.xc_none.specs.declared.meaning.Meaning.{Meaning}
-use Rattle.xc_none.specs.declared.meaning.Meaning.TheVariants.{Chosen}
 use Rattle.xc_none.specs.declared.claim.Claim.{Claim}
-use Rattle.xc_none.specs.Meanings.{is_chosen, is_so, value, AreTrueOfCovers}
-use Rattle.xc_none.specs.inner.Claims.{is_claimed, Says, OneHolds}
+use Rattle.xc_none.specs.Meanings.{is_chosen, value}
+use Rattle.xc_none.specs.inner.Claims.{is_claimed, OneHolds}
 use Rattle.xc_none.proofs.Tests.{or_one, or_two, or_three}
 
 -- a clause says what the first k claims say

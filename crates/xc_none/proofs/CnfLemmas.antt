@@ -1,6 +1,5 @@
 -- Comments that are written one after another.
 use Rattle.std.proofs.Common.{ℕ, ◌≡◌, ◌<◌, ◌≤◌, ◌+◌, List, Result, length, take, get_or, ap, sym, ◌∙◌, subst, arith}
-use Rattle.std.proofs.Common.{refl}
 use Rattle.std.specs.Prelude.{flat_map, IsErr}
 use Rattle.std.specs.List.{enumerate_from}
 use Rattle.std.proofs.lemmas.List.{take_all}

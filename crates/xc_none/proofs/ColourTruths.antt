@@ -1,13 +1,13 @@
 -- Each kind of clause of a coloured item is true of each cover.
-use Rattle.std.proofs.Common.{ℕ, ◌≡◌, ◌≢◌, ◌<◌, ◌≤◌, ◌+◌, Bool, true, false, List, Option, Some, None, refl, sym, ap}
+use Rattle.std.proofs.Common.{ℕ, ◌≡◌, ◌≢◌, ◌<◌, ◌≤◌, Bool, true, List, Option, Some, None, refl, sym}
 use Rattle.std.proofs.Common.{◌∙◌}
-use Rattle.std.proofs.Common.{arith, subst, cond, eqb}
-use Rattle.std.specs.Prelude.{not, ◌||◌, nat_le, if◌then◌else◌, ◌==◌}
+use Rattle.std.proofs.Common.{arith, subst}
+use Rattle.std.specs.Prelude.{not, ◌||◌}
 use Rattle.std.specs.List.{list_any}
 use Rattle.std.proofs.lemmas.Bool.{leb-true, le-leb, false≢true}
-use Rattle.xc_input.specs.Problem.{Puzzle, IsOption, IsSecondary, option_count, uses_of, colour_in}
+use Rattle.xc_input.specs.Problem.{Puzzle, IsSecondary, uses_of, colour_in}
 use Rattle.xc_input.specs.Cover.{IsCover}
-use Rattle.xc_text.proofs.ListLemmas.{by_bool, by_option, IsIn, contains-in}
+use Rattle.xc_text.proofs.ListLemmas.{contains-in}
 use Rattle.xc_none.specs.Meanings.{is_chosen, is_placed, place_of}
 use Rattle.xc_none.proofs.Tests.{implied, not_both}
 use Rattle.xc_none.proofs.Counts.{in-passes, passes-in}

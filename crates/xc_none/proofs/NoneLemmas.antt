@@ -22,18 +22,17 @@ flipped p ms s l zero e h =
     let n : negated l ≡ l + 1 = ap (λ (r : ℕ). if r == 0 then l + 1 else l - 1) e in
     let r1 : (l + 1) % 2 ≡ 1 = omega (arith, e) in
     let q1 : (l + 1) / 2 ≡ l / 2 = omega (arith, e) in
-    ap (value p ms s) n ∙ (ap (λ (r : ℕ). g r (l + 1)) r1 ∙ (ap (λ (q : ℕ). not (is_so p s (slice_index_or ms q
-    (Chosen 0)))) q1
-    ∙ sym (ap (λ (r : ℕ). not (g r l)) e)))
+    let y : ℕ → Bool = λ q. not (is_so p s (slice_index_or ms (q - 1) (Chosen 0))) in
+    ap (value p ms s) n ∙ (ap (λ (r : ℕ). g r (l + 1)) r1 ∙ (ap y q1 ∙ sym (ap (λ (r : ℕ). not (g r l)) e)))
 flipped p ms s l (suc zero) e h =
     let x : ℕ → Bool = λ l. is_so p s (meaning_of ms l) in
     let g : ℕ → ℕ → Bool = λ r l. if r == 0 then x l else not (x l) in
     let n : negated l ≡ l - 1 = ap (λ (r : ℕ). if r == 0 then l + 1 else l - 1) e in
     let r1 : (l - 1) % 2 ≡ 0 = omega (arith, e) in
     let q1 : (l - 1) / 2 ≡ l / 2 = omega (arith, e) in
-    ap (value p ms s) n ∙ (ap (λ (r : ℕ). g r (l - 1)) r1 ∙ (ap (λ (q : ℕ). is_so p s (slice_index_or ms q
-    (Chosen 0))) q1
-    ∙ (not_not (x l) ∙ sym (ap (λ (r : ℕ). not (g r l)) e))))
+    let y : ℕ → Bool = λ q. is_so p s (slice_index_or ms (q - 1) (Chosen 0)) in
+    ap (value p ms s) n
+    ∙ (ap (λ (r : ℕ). g r (l - 1)) r1 ∙ (ap y q1 ∙ (not_not (x l) ∙ sym (ap (λ (r : ℕ). not (g r l)) e))))
 flipped p ms s l (suc (suc r)) e h = absurd (omega (arith, h))
 
 -- the values of literals by a set are a valuation

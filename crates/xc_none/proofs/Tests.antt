@@ -1,5 +1,5 @@
 -- What a disjunction of tests says.
-use Rattle.std.proofs.Common.{ℕ, ◌≡◌, Bool, true, false, List, [], ◌∷◌, refl, ap, ◌∙◌, cond}
+use Rattle.std.proofs.Common.{◌≡◌, Bool, true, false, refl, ap, ◌∙◌}
 use Rattle.std.specs.Prelude.{not, ◌||◌}
 
 pub implied : (a b : Bool) → (a ≡ true → b ≡ true) → (not a || b) ≡ true

@@ -1,5 +1,5 @@
 -- The text of a problem's clauses in the format DIMACS CNF.
-use Rattle.std.specs.Prelude.{ℕ, ◌+◌, ◌-◌, ◌/◌, ◌%◌, ◌==◌, ◌++◌, List, [], length, flat_map, unwrap_or, nat_le}
+use Rattle.std.specs.Prelude.{ℕ, ◌-◌, ◌/◌, ◌%◌, ◌==◌, ◌++◌, List, [], length, flat_map, unwrap_or, nat_le}
 use Rattle.std.specs.Prelude.{if◌then◌else◌, decimal, codes, Vec}
 use Rattle.std.specs.List.{enumerate_from}
 use Rattle.std.specs.declared.alloc.Global.{Global}
@@ -28,9 +28,9 @@ meaning_text a (UpTo i r) = codes "one of the options with " ++ name_at a.names 
 abbrev pub comment_text : Named → ℕ → Meaning → List ℕ
 comment_text a n m = codes "c " ++ decimal n ++ codes " " ++ meaning_text a m ++ codes "\n"
 
--- a literal by the number of its variable, from 1, with a minus where it says that something is not so
+-- a literal by the number of its variable, with a minus where it says that something is not so
 abbrev pub literal_text : ℕ → List ℕ
-literal_text l = (if l % 2 == 0 then codes "" else codes "-") ++ decimal (l / 2 + 1) ++ codes " "
+literal_text l = (if l % 2 == 0 then codes "" else codes "-") ++ decimal (l / 2) ++ codes " "
 
 -- the line of a clause
 abbrev pub clause_text : List ℕ → List ℕ

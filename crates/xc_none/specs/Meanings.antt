@@ -1,5 +1,5 @@
 -- What the variables of a problem's clauses mean of a set of options, and that each cover makes clauses true.
-use Rattle.std.specs.Prelude.{ℕ, ◌≡◌, ◌+◌, ◌/◌, ◌%◌, ◌==◌, Bool, false, not, ◌&&◌, List, Option, Some, None, is_some}
+use Rattle.std.specs.Prelude.{ℕ, ◌+◌, ◌-◌, ◌/◌, ◌%◌, ◌==◌, Bool, false, not, ◌&&◌, List, Option, Some, None, is_some}
 use Rattle.std.specs.Prelude.{slice_index_or, count_by, nat_le, if◌then◌else◌, Vec}
 use Rattle.std.specs.List.{list_any}
 use Rattle.std.specs.declared.alloc.Global.{Global}
@@ -36,9 +36,9 @@ is_so p s (Chosen o) = is_chosen s o
 is_so p s (AtLeast i t j) = nat_le j (held_up_to p s i t)
 is_so p s (UpTo i r) = list_any (λ o. is_placed p r o (colour_in (uses_of p o) i)) s
 
--- what the variable of a literal means
+-- what the variable of a literal means: variable n, from 1, has the literals 2n and 2n + 1
 abbrev pub meaning_of : List Meaning → ℕ → Meaning
-meaning_of meanings l = slice_index_or meanings (l / 2) (Chosen 0)
+meaning_of meanings l = slice_index_or meanings (l / 2 - 1) (Chosen 0)
 
 -- whether a literal is true of a set
 abbrev pub value : Puzzle → List Meaning → List ℕ → ℕ → Bool

@@ -49,7 +49,7 @@ fn literal(meanings: &[Meaning], claim: Claim) -> Result<u32, ClausesError>
     if !is_same(meanings[claim.place], claim.meaning) {
         return Err(ClausesError::Lost);
     }
-    let positive = claim.place as u32 * 2;
+    let positive = (claim.place as u32 + 1) * 2;
     if claim.so {
         Ok(positive)
     } else {

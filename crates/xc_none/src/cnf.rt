@@ -138,7 +138,7 @@ fn write_comments<S: Sink>(
 fn write_literal<S: Sink>(sink: &mut S, literal: u32) -> Result<(), SinkFault>
     ensures { Writes (S.state sink.old) (S.state sink.new) result (literal_text literal) }
 {
-    let number = u64::from(literal / 2) + 1;
+    let number = u64::from(literal / 2);
     if literal % 2 == 0 {
         return write_numbered(sink, b"", number, b" ");
     }

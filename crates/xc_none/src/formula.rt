@@ -12,8 +12,8 @@ use crate::table::{Table, variables};
 use std::alloc::Global;
 use xc_input::Problem;
 
-/// The clauses of a problem, and what their variables mean: the variable at place n of `meanings` has the literals 2n,
-/// which is true where it is so, and 2n + 1.
+/// The clauses of a problem, and what their variables mean. Variables have numbers from 1: what variable n means is at
+/// place n - 1 of `meanings`. It has the literals 2n, which is true where that is so, and 2n + 1.
 #[derive(Debug, Drop)]
 pub struct Formula {
     pub meanings: Vec<Meaning>,

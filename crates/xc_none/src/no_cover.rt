@@ -22,6 +22,6 @@ pub fn has_no_cover<S: Source>(
     ensures reported { IsReported (S.state source.old).failures (S.state source.new).failures result }
 {
     let formula = clauses(alloc, problem)?;
-    let literals = formula.meanings.len().saturating_mul(2);
+    let literals = formula.meanings.len().saturating_add(1).saturating_mul(2);
     Ok(refute(alloc, formula.clauses.as_slice(), literals, source)?)
 }

@@ -1,5 +1,5 @@
 -- No public clause cites this module. The options that hold an item.
-use Rattle.std.specs.Prelude.{ℕ, ◌≡◌, ◌<◌, ◌≤◌, ◌-◌, ◌+◌, true, List, Some, slice_get, slice_index, length, All}
+use Rattle.std.specs.Prelude.{ℕ, ◌≡◌, ◌<◌, ◌≤◌, ◌-◌, true, List, Some, slice_get, slice_index, length, All}
 use Rattle.std.specs.Prelude.{Contains, Vec}
 use Rattle.std.specs.declared.alloc.Global.{Global}
 use Rattle.xc_input.specs.Problem.{Puzzle, IsOption, option_count, colour_in, uses_of}

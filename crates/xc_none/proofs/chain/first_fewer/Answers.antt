@@ -1,6 +1,6 @@
-use Rattle.std.proofs.Common.{ℕ, ◌+◌}
+use Rattle.std.proofs.Common.{◌+◌}
 use Rattle.std.specs.Prelude.{not, nat_le}
-use Rattle.xc_none.specs.Meanings.{is_chosen, held_up_to}
+use Rattle.xc_none.specs.Meanings.{held_up_to}
 use Rattle.xc_none.proofs.ChainTruths.{first_fewer_true}
 use Rattle.xc_none.proofs.ClaimLemmas.{one_holds}
 use Rattle.xc_none.proofs.chain.first_fewer.Goals as goal

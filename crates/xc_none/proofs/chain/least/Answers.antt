@@ -1,6 +1,5 @@
-use Rattle.std.proofs.Common.{ℕ, ◌+◌}
-use Rattle.std.specs.Prelude.{not, nat_le}
-use Rattle.xc_none.specs.Meanings.{is_chosen, held_up_to}
+use Rattle.std.specs.Prelude.{nat_le}
+use Rattle.xc_none.specs.Meanings.{held_up_to}
 use Rattle.xc_none.proofs.ChainTruths.{least_true}
 use Rattle.xc_none.proofs.ClaimLemmas.{one_holds}
 use Rattle.xc_none.proofs.chain.least.Goals as goal

@@ -1,4 +1,3 @@
-use Rattle.std.proofs.Common.{ℕ, ◌+◌}
 use Rattle.std.specs.Prelude.{not, nat_le}
 use Rattle.xc_none.specs.Meanings.{is_chosen, held_up_to}
 use Rattle.xc_none.proofs.ChainTruths.{most_true}

@@ -1,10 +1,8 @@
-use Rattle.std.proofs.Common.{ℕ, ◌+◌, ◌∙◌, ap, List, arith}
+use Rattle.std.proofs.Common.{ℕ, ◌∙◌, ap, List, arith}
 use Rattle.std.specs.List.{list_any}
 use Rattle.std.proofs.lemmas.List.{take_all}
-use Rattle.std.specs.Prelude.{not, nat_le}
-use Rattle.xc_none.specs.Meanings.{is_chosen, held_up_to}
+use Rattle.xc_none.specs.Meanings.{is_chosen}
 use Rattle.xc_none.proofs.ChainTruths.{some_true}
-use Rattle.xc_none.proofs.ClaimLemmas.{SaysChosen}
 use Rattle.xc_none.proofs.chain.some.Goals as goal
 
 pub returns : goal.returns

@@ -1,6 +1,5 @@
-use Rattle.std.proofs.Common.{ℕ, ◌+◌}
 use Rattle.std.specs.Prelude.{not, nat_le}
-use Rattle.xc_none.specs.Meanings.{is_chosen, held_up_to}
+use Rattle.xc_none.specs.Meanings.{held_up_to}
 use Rattle.xc_none.proofs.ChainTruths.{stay_true}
 use Rattle.xc_none.proofs.ClaimLemmas.{two_hold}
 use Rattle.xc_none.proofs.chain.stay.Goals as goal

@@ -1,4 +1,4 @@
-use Rattle.std.specs.Prelude.{codes, decimal, flat_map, length, ◌++◌, Vec, ℕ}
+use Rattle.std.specs.Prelude.{codes}
 use Rattle.xc_text.proofs.SinkLemmas.{broke_before, then_writes, failed}
 use Rattle.xc_none.proofs.cnf.write_clause.Goals as goal
 

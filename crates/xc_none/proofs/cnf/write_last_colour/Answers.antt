@@ -1,4 +1,3 @@
-use Rattle.std.specs.Prelude.{codes, decimal, flat_map, length, ◌++◌, Vec, ℕ}
 use Rattle.xc_text.proofs.SinkLemmas.{broke_before, then_writes, failed}
 use Rattle.xc_none.specs.Cnf.{name_at}
 use Rattle.xc_none.proofs.cnf.write_last_colour.Goals as goal

@@ -1,4 +1,4 @@
-use Rattle.std.specs.Prelude.{codes, decimal, flat_map, length, ◌++◌, Vec, ℕ}
+use Rattle.std.specs.Prelude.{codes, decimal, flat_map, ◌++◌, Vec, ℕ}
 use Rattle.std.specs.declared.alloc.Global.{Global}
 use Rattle.xc_text.proofs.SinkLemmas.{then_took, then_broke, broke_before, then_writes, failed}
 use Rattle.xc_none.specs.Cnf.{clause_text}

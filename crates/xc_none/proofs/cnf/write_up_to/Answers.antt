@@ -1,4 +1,3 @@
-use Rattle.std.specs.Prelude.{codes, decimal, flat_map, length, ◌++◌, Vec, ℕ}
 use Rattle.xc_text.proofs.SinkLemmas.{then_took, then_broke, broke_before, then_writes, failed}
 use Rattle.xc_none.specs.Cnf.{name_at, place_text}
 use Rattle.xc_none.proofs.cnf.write_up_to.Goals as goal

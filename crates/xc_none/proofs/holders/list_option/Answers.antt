@@ -1,4 +1,4 @@
-use Rattle.std.proofs.Common.{◌-◌, ◌+◌, length, refl, sym, subst, get_or, take, arith, List, ◌≤◌, ◌<◌}
+use Rattle.std.proofs.Common.{◌-◌, length, refl, sym, subst, get_or, take, arith, List, ◌<◌}
 use Rattle.std.proofs.Math.ListN.{set}
 use Rattle.std.proofs.lemmas.List.{take_more}
 use Rattle.std.proofs.lemmas.Option.{slice_get_read}
