@@ -6,3 +6,5 @@ pub mod ClaimLemmas
 pub mod HolderLemmas
 pub mod NoneLemmas
 pub mod CnfLemmas
+pub mod WeightsSets
+pub mod WeightsLemmas

@@ -1,2 +1,3 @@
 pub mod Claims
 pub mod Holders
+pub mod Weights
