@@ -1,7 +1,7 @@
 VERSION := $(shell cat VERSION)
 PROGRAMS = dlx1 dlx2 dlx3 dlxcheck
-# The crates of these are dlx_span, dlx_join and dlx_count.
-DASHED = span join count
+# The crates of these are dlx_span, dlx_join, dlx_count and dlx_none.
+DASHED = span join count none
 DASHED_CRATES = $(DASHED:%=dlx_%)
 
 # Where things are installed.

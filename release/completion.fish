@@ -42,6 +42,7 @@ set -g __helgrothy_commands \
     'dlx-span' \
     'dlx-join' \
     'dlx-count' \
+    'dlx-none' \
     'helgrothy' \
     'helgrothy make' \
     'helgrothy make sudoku' \
@@ -346,6 +347,7 @@ complete -c dlxcheck -f
 complete -c dlx-span -f
 complete -c dlx-join -f
 complete -c dlx-count -f
+complete -c dlx-none -f
 complete -c helgrothy -f
 complete -c helgrothy -n '__helgrothy_is \'helgrothy\'' -s h -l help -d 'show this help message and exit'
 complete -c helgrothy -n '__helgrothy_is \'helgrothy\'' -l version -d 'show program\'s version number and exit'
@@ -939,6 +941,10 @@ complete -c dlx-join -n '__helgrothy_is \'dlx-join\' 2+' -F
 complete -c dlx-count -n '__helgrothy_is \'dlx-count\' 1' -f -a '1 2 3'
 complete -c dlx-count -n '__helgrothy_is \'dlx-count\' 2' -f -a 'b512 n1 o'
 complete -c dlx-count -n '__helgrothy_is \'dlx-count\' 3' -f -a 'n1 o'
+complete -c dlx-none -n '__helgrothy_is \'dlx-none\' 1' -f -a '1 2 3'
+complete -c dlx-none -n '__helgrothy_is \'dlx-none\' 2' -f -a '(__fish_complete_suffix .dlx)'
+complete -c dlx-none -n '__helgrothy_is \'dlx-none\' 3' -F
+complete -c dlx-none -n '__helgrothy_is \'dlx-none\' 4' -f -a 'w'
 complete -c helgrothy -n '__helgrothy_is \'helgrothy make sudoku\' 1' -F
 complete -c helgrothy -n '__helgrothy_is \'helgrothy make queens\' 1' -F
 complete -c helgrothy -n '__helgrothy_is \'helgrothy make polyominoes\' 1' -F -a 'pentominoes tetrominoes'

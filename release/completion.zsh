@@ -1,4 +1,4 @@
-#compdef dlx1 dlx2 dlx3 dlxcheck dlx-span dlx-join dlx-count helgrothy
+#compdef dlx1 dlx2 dlx3 dlxcheck dlx-span dlx-join dlx-count dlx-none helgrothy
 # Completion of the words of programs and commands in zsh. Made by scripts/completion: changes belong there.
 
 # Completes a word as what it may be: words, behind `file` those or a file, `problem` or `folder`.
@@ -69,6 +69,9 @@ _helgrothy_options() {
             options=()
             commands=() ;;
         'dlx-count')
+            options=()
+            commands=() ;;
+        'dlx-none')
             options=()
             commands=() ;;
         'helgrothy')
@@ -270,9 +273,9 @@ _helgrothy_value() {
 _helgrothy_place() {
     value=
     case $1:$2 in
-        'dlxcheck:1' | 'helgrothy solve:1' | 'helgrothy draw:1' | 'helgrothy lint:1' | 'helgrothy export:2' | 'helgrothy why:1' | 'helgrothy count:1' | 'helgrothy search:1')
+        'dlxcheck:1' | 'dlx-none:2' | 'helgrothy solve:1' | 'helgrothy draw:1' | 'helgrothy lint:1' | 'helgrothy export:2' | 'helgrothy why:1' | 'helgrothy count:1' | 'helgrothy search:1')
             value='problem' ;;
-        'dlxcheck:2' | 'dlx-span:1' | 'dlx-count:1')
+        'dlxcheck:2' | 'dlx-span:1' | 'dlx-count:1' | 'dlx-none:1')
             value='words 1 2 3' ;;
         'dlx-span:2' | 'dlx-join:1')
             value='words m0 m1' ;;
@@ -280,6 +283,8 @@ _helgrothy_place() {
             value='words b512 n1 o' ;;
         'dlx-count:3')
             value='words n1 o' ;;
+        'dlx-none:4')
+            value='words w' ;;
         'helgrothy:1')
             value='words make solve draw lint export why count page search hint minimal sudoku queens langford polyominoes polyforms polycubes words wordsearch nonogram kakuro roster roundrobin tests timetable' ;;
         'helgrothy make:1' | 'helgrothy hint:1')
@@ -296,7 +301,7 @@ _helgrothy_place() {
             value='words sudoku nonogram kakuro' ;;
         'dlx1:'* | 'dlx2:'* | 'dlx3:'*)
             value='words m1 m1000 t1 t2' ;;
-        'dlx-join:'* | 'helgrothy make sudoku:1' | 'helgrothy make queens:1' | 'helgrothy make polyominoes:2' | 'helgrothy make polyforms:2' | 'helgrothy make polycubes:2' | 'helgrothy make words:1' | 'helgrothy make words:2' | 'helgrothy make wordsearch:1' | 'helgrothy make wordsearch:2' | 'helgrothy make nonogram:1' | 'helgrothy make kakuro:1' | 'helgrothy make roster:1' | 'helgrothy make roundrobin:1' | 'helgrothy make tests:1' | 'helgrothy make timetable:1' | 'helgrothy hint sudoku:1' | 'helgrothy hint queens:1' | 'helgrothy hint polyominoes:2' | 'helgrothy hint polyforms:2' | 'helgrothy hint polycubes:2' | 'helgrothy hint words:1' | 'helgrothy hint words:2' | 'helgrothy hint wordsearch:1' | 'helgrothy hint wordsearch:2' | 'helgrothy hint nonogram:1' | 'helgrothy hint kakuro:1' | 'helgrothy hint roster:1' | 'helgrothy hint roundrobin:1' | 'helgrothy hint tests:1' | 'helgrothy hint timetable:1' | 'helgrothy minimal sudoku:1' | 'helgrothy minimal nonogram:1' | 'helgrothy minimal kakuro:1' | 'helgrothy sudoku:1' | 'helgrothy queens:1' | 'helgrothy polyominoes:2' | 'helgrothy polyforms:2' | 'helgrothy polycubes:2' | 'helgrothy words:1' | 'helgrothy words:2' | 'helgrothy wordsearch:1' | 'helgrothy wordsearch:2' | 'helgrothy nonogram:1' | 'helgrothy kakuro:1' | 'helgrothy roster:1' | 'helgrothy roundrobin:1' | 'helgrothy tests:1' | 'helgrothy timetable:1')
+        'dlx-join:'* | 'dlx-none:3' | 'helgrothy make sudoku:1' | 'helgrothy make queens:1' | 'helgrothy make polyominoes:2' | 'helgrothy make polyforms:2' | 'helgrothy make polycubes:2' | 'helgrothy make words:1' | 'helgrothy make words:2' | 'helgrothy make wordsearch:1' | 'helgrothy make wordsearch:2' | 'helgrothy make nonogram:1' | 'helgrothy make kakuro:1' | 'helgrothy make roster:1' | 'helgrothy make roundrobin:1' | 'helgrothy make tests:1' | 'helgrothy make timetable:1' | 'helgrothy hint sudoku:1' | 'helgrothy hint queens:1' | 'helgrothy hint polyominoes:2' | 'helgrothy hint polyforms:2' | 'helgrothy hint polycubes:2' | 'helgrothy hint words:1' | 'helgrothy hint words:2' | 'helgrothy hint wordsearch:1' | 'helgrothy hint wordsearch:2' | 'helgrothy hint nonogram:1' | 'helgrothy hint kakuro:1' | 'helgrothy hint roster:1' | 'helgrothy hint roundrobin:1' | 'helgrothy hint tests:1' | 'helgrothy hint timetable:1' | 'helgrothy minimal sudoku:1' | 'helgrothy minimal nonogram:1' | 'helgrothy minimal kakuro:1' | 'helgrothy sudoku:1' | 'helgrothy queens:1' | 'helgrothy polyominoes:2' | 'helgrothy polyforms:2' | 'helgrothy polycubes:2' | 'helgrothy words:1' | 'helgrothy words:2' | 'helgrothy wordsearch:1' | 'helgrothy wordsearch:2' | 'helgrothy nonogram:1' | 'helgrothy kakuro:1' | 'helgrothy roster:1' | 'helgrothy roundrobin:1' | 'helgrothy tests:1' | 'helgrothy timetable:1')
             value='file' ;;
     esac
 }

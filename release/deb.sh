@@ -17,7 +17,7 @@ MAKEFLAGS= make -s install LIBRARY= VERSION="$version" DESTDIR="$root" PREFIX=/u
     zshdir=/usr/share/zsh/vendor-completions
 find "$root/usr/share/man" -type f -exec gzip -9n {} +
 # The symbols of a program say nothing to its users.
-for program in dlx1 dlx2 dlx3 dlxcheck dlx-span dlx-join dlx-count; do strip --strip-unneeded "$root/usr/bin/$program"; done
+for program in dlx1 dlx2 dlx3 dlxcheck dlx-span dlx-join dlx-count dlx-none; do strip --strip-unneeded "$root/usr/bin/$program"; done
 doc=$root/usr/share/doc/helgrothy
 cp release/copyright "$doc/copyright"
 # No pipes: of these the status of the last command alone counts.

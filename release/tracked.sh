@@ -5,7 +5,7 @@
 set -eu
 export LC_ALL=C
 umask 022
-names="dlx1 dlx2 dlx3 dlxcheck dlx_span dlx_join dlx_count"
+names="dlx1 dlx2 dlx3 dlxcheck dlx_span dlx_join dlx_count dlx_none"
 fail() {
     echo "$*" >&2
     exit 1

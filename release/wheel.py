@@ -14,7 +14,7 @@ import sys
 import time
 import zipfile
 
-PROGRAMS = ("dlx1", "dlx2", "dlx3", "dlxcheck", "dlx-span", "dlx-join", "dlx-count")
+PROGRAMS = ("dlx1", "dlx2", "dlx3", "dlxcheck", "dlx-span", "dlx-join", "dlx-count", "dlx-none")
 # What pip writes for an entry point can't keep Python from the current folder and PYTHONPATH, so the command is the
 # repository's script.
 # The programs need glibc 2.34.

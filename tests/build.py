@@ -25,7 +25,7 @@ made = pathlib.Path(out, name)
 made.write_text(f"#!/bin/sh\\necho unproved, of {source}\\n")
 made.chmod(0o755)
 """
-PROGRAMS = ["dlx1", "dlx2", "dlx3", "dlxcheck", "dlx_span", "dlx_join", "dlx_count"]
+PROGRAMS = ["dlx1", "dlx2", "dlx3", "dlxcheck", "dlx_span", "dlx_join", "dlx_count", "dlx_none"]
 RT = """#!/bin/sh
 [ "$1" != version ] || exec echo a kit
 echo 'so far: 3 of 9 functions checked'

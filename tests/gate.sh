@@ -9,7 +9,7 @@ page=
 jobs=${RT_JOBS:-$(nproc)}
 begun=$(date +%s)
 # `make all` takes the programs that this builds, unless somebody touches a source of theirs meanwhile.
-programs="dlx1 dlx2 dlx3 dlxcheck dlx_span dlx_join dlx_count"
+programs="dlx1 dlx2 dlx3 dlxcheck dlx_span dlx_join dlx_count dlx_none"
 before=$(scripts/build --before $programs) || exit
 RT_JOBS=$jobs rt ci || exit
 scripts/build --note "$before" $programs

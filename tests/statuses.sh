@@ -193,4 +193,47 @@ tells 'Line 2: unknown item.' dlx_count 1 <<'END'
 A
 B
 END
+# What shows that three pigeons have no hole each of two, or doesn't.
+folder=$(mktemp -d) || exit 1
+printf 'a b c | x y\na x\na y\nb x\nb y\nc x\nc y\n' >"$folder/pigeons"
+printf '| of pigeons\n1 1 1\n| of holes\n-1 -1\n' >"$folder/weights"
+printf '1 1 1 -2 -1\n' >"$folder/others"
+printf '1 1\n1 x -1\n' >"$folder/spoiled"
+printf '1 1 1 -1\n' >"$folder/few"
+printf -- '-1 0\n0\n' >"$folder/proof"
+printf '0\n' >"$folder/short"
+printf -- '-1 0\n' >"$folder/unended"
+printf -- '-1 0\nc 0\n' >"$folder/words"
+printf 'A\nB\n' >"$folder/faulty"
+shown() {
+    wanted=$1
+    line=$2
+    shift 2
+    expect "$wanted" dlx_none "$@" </dev/null
+    tells "$line" dlx_none "$@" </dev/null
+}
+shown 0 'No solution.' 1 "$folder/pigeons" "$folder/weights" w
+shown 0 'No solution.' 1 "$folder/pigeons" "$folder/proof"
+shown 0 '' 1 "$folder/pigeons"
+usage='Usage: dlx-none 1|2|3 PROBLEM [FILE [w]]'
+shown 1 "$usage"
+shown 1 "$usage" 1
+shown 1 "$usage" 4 "$folder/pigeons"
+shown 1 "$usage" 1 "$folder/missing" "$folder/missing" v
+shown 1 "$usage" 1 "$folder/pigeons" "$folder/weights" w w
+shown 2 'Line 2: unknown item.' 1 "$folder/faulty" "$folder/weights" w
+shown 2 'Line 2: unknown item.' 1 "$folder/faulty"
+shown 2 'Weights line 2: no weight.' 1 "$folder/pigeons" "$folder/spoiled" w
+shown 2 'Weights: 4 numbers, and 5 items.' 1 "$folder/pigeons" "$folder/few" w
+shown 3 'Read failed.' 1 "$folder/missing"
+shown 3 'Read failed.' 1 "$folder/pigeons" "$folder/missing"
+shown 3 'Read failed.' 1 "$folder/pigeons" "$folder" w
+shown 5 "The weights don't show it." 1 "$folder/pigeons" "$folder/others" w
+shown 5 "Step 1 doesn't follow." 1 "$folder/pigeons" "$folder/short"
+shown 5 'Step 2 is no step.' 1 "$folder/pigeons" "$folder/words"
+shown 5 'The proof ends before the empty clause.' 1 "$folder/pigeons" "$folder/unended"
+shown 5 'The proof ends before the empty clause.' 1 "$folder/pigeons" /dev/null
+crates/dlx_none/out/dlx_none 1 "$folder/pigeons" >/dev/full 2>/dev/null </dev/null
+[ $? = 3 ] || { echo "dlx_none into /dev/full: another status than 3"; differ=1; }
+rm -r "$folder"
 exit $differ

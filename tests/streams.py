@@ -37,7 +37,7 @@ def command(words: list[str]) -> list[str]:
 
 # ---- each message is one write
 
-PROGRAMS = ["dlx1", "dlx2", "dlx3", "dlxcheck", "dlx-span", "dlx-join", "dlx-count"]
+PROGRAMS = ["dlx1", "dlx2", "dlx3", "dlxcheck", "dlx-span", "dlx-join", "dlx-count", "dlx-none"]
 
 
 def row(number: int, length: int) -> str:
@@ -63,6 +63,8 @@ def messages() -> Iterator[tuple[list[str], str, int]]:
     yield ["dlx-count", "1"], "A | x\nx\nA\n", 2
     yield ["dlx-count", "3", "b0"], "A\nA\n", 1
     yield ["dlx-count", "1", "o"], "A | x\nx\nA\n", 2
+    # A problem with one item and no option, from standard input; then there is nothing left of it.
+    yield ["dlx-none", "1", "/dev/stdin", "/dev/stdin", "w"], "A\n", 1
 
 
 def each_message_is_one_write() -> Iterator[str]:
@@ -243,11 +245,13 @@ CLOSED = [
     (["dlx-join", "m1", "{file}"], "", (3, READ), (3, WRITE), (3, "")),
     (["dlx-count", "1"], "A\nA\n", (3, READ), (0, "Altogether 1 solution."), (3, "")),
     (["dlx-count", "1", "o"], "A\nA\n", (3, READ), (3, WRITE), (3, "")),
+    (["dlx-none", "1", "{problem}"], "", (3, READ), (3, WRITE), (3, "")),
+    (["dlx-none", "1", "{problem}", "{problem}"], "", (3, READ), (3, WRITE), (3, "")),
 ]
 
 
 # They open files, so they look at their streams first and do nothing where one is closed.
-LOOK_FIRST = ("dlxcheck", "dlx-join")
+LOOK_FIRST = ("dlxcheck", "dlx-join", "dlx-none")
 
 
 def closed_streams() -> Iterator[str]:

@@ -79,6 +79,7 @@ def all_commands() -> Iterator[Command]:
     yield Command("dlx-span", places=[kinds, words])
     yield Command("dlx-join", places=[words, Value(files=FILE)], goes_on=True)
     yield Command("dlx-count", places=[kinds, Value(("b512", "n1", "o")), Value(("n1", "o"))])
+    yield Command("dlx-none", places=[kinds, Value(files=PROBLEM), Value(files=FILE), Value(("w",))])
     yield from _of("helgrothy", parser_of_all())
 
 

@@ -1,7 +1,7 @@
 #!/usr/bin/env python3
 """programs.py [DIR]: tries the built programs on want of memory, on failing calls and streams, and on input made to hurt.
 
-DIR holds dlx1, dlx2, dlx3, dlxcheck and dlx-count; without it they are taken from where `make test` leaves them. Each
+DIR holds dlx1, dlx2, dlx3, dlxcheck, dlx-count and dlx-none; without it they are taken from where `make test` leaves them. Each
 try that goes wrong is told in a line. The last line is `N passed, M failed`. Needs cc for the parts that refuse memory
 and let calls fail.
 """
@@ -71,6 +71,19 @@ def is_out_of_memory(said, usual):
     return status == 4 and out == b"" and told != err and usual[2].startswith(told)
 
 
+# Three pigeons and two holes, and what shows that there is no solution.
+PIGEONS = b"a b c | x y\na x\na y\nb x\nb y\nc x\nc y\n"
+WEIGHTS, PROOF = b"1 1 1 -1 -1\n", b"-1 0\n0\n"
+
+
+def shown(folder):
+    """The file of this problem."""
+    file = f"{folder}/pigeons.dlx"
+    with open(file, "wb") as it:
+        it.write(PIGEONS)
+    return file
+
+
 # Where memory for states is refused a count goes on without them, and reports that.
 GAVE_UP = b"The states take too much memory: the search goes on alone.\n"
 
@@ -119,6 +132,10 @@ def want_of_memory(folder):
             it.write(text)
         listing = run(words, text)[1]
         refused_in_turn(f"the judge on {name}", shim, ["dlxcheck", file, words[0][-1]], listing)
+    file = shown(folder)
+    refused_in_turn("clauses", shim, ["dlx-none", "1", file], b"")
+    refused_in_turn("weights", shim, ["dlx-none", "1", file, "/dev/stdin", "w"], WEIGHTS)
+    refused_in_turn("a proof", shim, ["dlx-none", "1", file, "/dev/stdin"], PROOF)
 
 
 # ---- calls that fail
@@ -303,6 +320,35 @@ def deep(folder):
     tell((done.returncode, done.stdout) == (0, b"1: cover\n"), f"50,000 lines judged on a small stack: {done.returncode}, {done.stdout[:80]!r}")
 
 
+# ---- what shows that there is no solution
+
+def shown_badly(folder):
+    """Weights and proofs that are large, cut or no such thing: none of them shows anything."""
+    file = shown(folder)
+    weights, proof = ["dlx-none", "1", file, "/dev/stdin", "w"], ["dlx-none", "1", file, "/dev/stdin"]
+    expect("weights of pigeons", weights, WEIGHTS, 0, b"", b"No solution.\n")
+    expect("a proof of pigeons", proof, PROOF, 0, b"", b"No solution.\n")
+    for what, text, told in (
+        ("no weights", b"", b"Weights: 0 numbers, and 5 items.\n"),
+        ("10,000,000 weights", b"1\n" * 10000000, b"Weights: 10000000 numbers, and 5 items.\n"),
+        ("100 MB of spaces as weights", b" " * 100000000, b"Weights: 0 numbers, and 5 items.\n"),
+        ("a comment of 100 MB among weights", b"|" + b"1 " * 50000000, b"Weights: 0 numbers, and 5 items.\n"),
+        ("a weight of 100 MB", b"1" * 100000000, b"Weights line 1: no weight.\n"),
+        ("a NUL byte as a weight", b"1 1 1\n-1 \0\n", b"Weights line 2: no weight.\n"),
+        ("a weight past ASCII", b"1 1 1\n\n-1 \xff\n", b"Weights line 3: no weight.\n"),
+    ):
+        expect(what, weights, text, 2, b"", told)
+    for n in range(len(WEIGHTS) - 1):
+        status, out, err = run(weights, WEIGHTS[:n])
+        tell(status in (2, 5) and out == b"", f"weights cut at byte {n}: {status}, {out[:80]!r}, {err[:80]!r}")
+    for n in range(len(PROOF) - 1):
+        status, out, err = run(proof, PROOF[:n])
+        tell(status in (0, 5) and out == b"", f"a proof cut at byte {n}: {status}, {out[:80]!r}, {err[:80]!r}")
+    for what, text in (("text", PIGEONS), ("random bytes", os.urandom(100000)), ("a long step", b"1 " * 1000000 + b"0\n")):
+        status, out, err = run(proof, text)
+        tell(status == 5 and out == b"", f"{what} as a proof: {status}, {out[:80]!r}, {err[:80]!r}")
+
+
 # ---- counts
 
 def dominoes(rows, columns):
@@ -398,6 +444,11 @@ def streams(folder):
     shell("a count into standard error that is full", f"{counter} 1 2>/dev/full", 3, b"")
     shell("counts of options into standard output that is full", f"{counter} 1 o >/dev/full", 3, b"Write failed.\n")
     shell("a count of a folder", f"{counter} 1 <{folder}", 3, b"Read failed.\n")
+    none = path("dlx-none")
+    shell("clauses into standard output that is full", f"{none} 1 {shown(folder)} >/dev/full", 3, b"Write failed.\n")
+    shell("clauses of a folder", f"{none} 1 {folder}", 3, b"Read failed.\n")
+    shell("weights in a folder", f"{none} 1 {shown(folder)} {folder} w", 3, b"Read failed.\n")
+    shell("a proof that is missing", f"{none} 1 {shown(folder)} {folder}/missing", 3, b"Read failed.\n")
     shell("a count of words that aren't UTF-8", f"{counter} 1 b$(printf '\\377')", 4, b"Out of memory.\n")
     ours, theirs = os.pipe()
     os.close(ours)
@@ -430,7 +481,7 @@ def unreadable(file):
 
 def main():
     with tempfile.TemporaryDirectory(prefix="hostile-") as folder:
-        for part in (want_of_memory, failing_calls, listing_cut_at_each_byte, deep, streams):
+        for part in (want_of_memory, failing_calls, listing_cut_at_each_byte, deep, shown_badly, streams):
             part(folder)
         for part in (chosen_words, large_inputs, long_tokens, cut_at_each_byte, counts, bounds_of_counts):
             part()

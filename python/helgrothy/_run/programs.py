@@ -21,7 +21,7 @@ from typing import IO, Protocol
 from ..errors import OutOfTime, ProgramFailed, ProgramNotFound
 from . import guard
 
-PROGRAMS = ("dlx1", "dlx2", "dlx3", "dlxcheck", "dlx-span", "dlx-join", "dlx-count")
+PROGRAMS = ("dlx1", "dlx2", "dlx3", "dlxcheck", "dlx-span", "dlx-join", "dlx-count", "dlx-none")
 VARIABLE = "HELGROTHY_BIN"
 _CHUNK = 1 << 18
 # The system takes no longer times.

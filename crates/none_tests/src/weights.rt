@@ -1,6 +1,6 @@
 //! Tests of weights that show that a problem has no cover: a chessboard without two corners, pigeons and holes, an item
 //! that is to be held often, and sums that don't fit.
-use crate::fixtures::{Wanted, wrong_row};
+use library_tests::fixtures::{Wanted, wrong_row};
 use std::alloc::Global;
 use xc_input::{Kind, Problem};
 use xc_none::is_refuted;

@@ -1,0 +1,3 @@
+pub mod Words
+pub mod Shows
+pub mod inner
