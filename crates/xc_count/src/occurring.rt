@@ -17,7 +17,7 @@ use natural::Natural;
 use std::alloc::{AllocError, Global};
 use std::cell::Cell;
 use xc_input::Problem;
-use xc_search::{Choice, Span, is_once};
+use xc_search::{Solution, is_once};
 use xc_text::Memory;
 
 /// So many options that were never taken.
@@ -33,35 +33,24 @@ fn never(alloc: Global, many: u32) -> Result<Vec<Times>, AllocError>
 }
 
 /// Adds one for each option of a solution.
-fn add_solution(alloc: Global, times: &mut [Times], solution: &[Choice]) -> Result<(), AllocError>
-    requires known { All (λ o. (1 ≤ o) × (o ≤ length times.old)) (options_of solution.now) }
-    requires distinct { AllPairs (λ a b. a ≢ b) (options_of solution.now) }
+fn add_solution<'a>(
+    alloc: Global,
+    times: &mut [Times],
+    solution: Solution<'_, 'a, Metered<'a>>,
+) -> Result<(), AllocError>
+    requires known { All (λ o. (1 ≤ o) × (o ≤ length times.old)) (options_of solution) }
+    requires distinct { AllPairs (λ a b. a ≢ b) (options_of solution) }
     ensures times { OnOk result ((o : ℕ) → 1 ≤ o → slice_index times.new (o - 1)
-        ≡ slice_index times.old (o - 1) + (if takes o solution.now then 1 else 0)) }
+        ≡ slice_index times.old (o - 1) + (if takes o solution.entry then 1 else 0)) }
     ensures len { length times.new ≡ length times.old }
 {
-    for choice in solution {
+    let mut left = solution;
+    while let Some(choice) = left.next() {
         if let Some(option) = choice.option {
             times[option as usize - 1].count_one(alloc)?;
         }
     }
     Ok(())
-}
-
-/// Adds one for each option of the solution that a search shows.
-fn add_shown<'a>(
-    alloc: Global,
-    times: &mut [Times],
-    span: &Span<'a, Metered<'a>>,
-) -> Result<(), AllocError>
-    requires known { All (λ o. (1 ≤ o) × (o ≤ length times.old)) (options_of span.now.shown) }
-    requires distinct { AllPairs (λ a b. a ≢ b) (options_of span.now.shown) }
-    ensures times { OnOk result ((o : ℕ) → 1 ≤ o → slice_index times.new (o - 1)
-        ≡ slice_index times.old (o - 1) + (if takes o span.now.shown then 1 else 0)) }
-    ensures len { length times.new ≡ length times.old }
-{
-    let solution = span.choices().to_vec(alloc)?;
-    add_solution(alloc, times, &solution)
 }
 
 /// The numbers of times.
@@ -89,7 +78,7 @@ pub fn each_by_search(alloc: Global, problem: &Problem) -> Result<(Natural, Vec<
     let mut span = all_members(alloc, problem, &gone_over)?;
     while pass(&mut span, 1) == 1 {
         covers.count_one(alloc)?;
-        add_shown(alloc, times.as_mut_slice(), &span)?;
+        add_solution(alloc, times.as_mut_slice(), span.choices())?;
     }
     let numbers = numbers_of(alloc, times.as_slice())?;
     Ok((covers.number(alloc)?, numbers))

@@ -30,8 +30,8 @@ loop-covers-init c =
       len = c.in_ok-times.ensures.len ∙ c.options.ensures.value;
     }
 
-pub add_shown-requires-clause-known : goal.add_shown-requires-clause-known
-add_shown-requires-clause-known c =
+pub add_solution-requires-clause-known : goal.add_solution-requires-clause-known
+add_solution-requires-clause-known c =
     let p = c.args.problem.now.puzzle in
     let old = c.loop-covers.span in
     let new = c.pass.new.span in
@@ -40,10 +40,10 @@ add_shown-requires-clause-known c =
     let cover = all_head (λ m. IsCover p (options_of m)) new.shown (left_of new)
     (subst (All (λ m. IsCover p (options_of m))) came c.loop-covers.invariant.covers) in
     let many = ap length c.as_mut_slice.ensures.value ∙ c.loop-covers.invariant.len in
-    options_within p (length c.as_mut_slice.result.now) (options_of new.shown) many cover
+    rw c.choices.ensures (options_within p (length c.as_mut_slice.result.now) (options_of new.shown) many cover)
 
-pub add_shown-requires-clause-distinct : goal.add_shown-requires-clause-distinct
-add_shown-requires-clause-distinct c =
+pub add_solution-requires-clause-distinct : goal.add_solution-requires-clause-distinct
+add_solution-requires-clause-distinct c =
     let p = c.args.problem.now.puzzle in
     let old = c.loop-covers.span in
     let new = c.pass.new.span in
@@ -51,7 +51,7 @@ add_shown-requires-clause-distinct c =
     (omega (arith, c.loop-covers-test.true)) c.pass.ensures.left c.pass.ensures.shown in
     let cover = all_head (λ m. IsCover p (options_of m)) new.shown (left_of new)
     (subst (All (λ m. IsCover p (options_of m))) came c.loop-covers.invariant.covers) in
-    cover.distinct
+    rw c.choices.ensures cover.distinct
 
 pub loop-covers-smaller : goal.loop-covers-smaller
 loop-covers-smaller c =
@@ -69,9 +69,9 @@ loop-covers-preserved c =
     let ts = c.loop-covers.times.items in
     let came = arrived c.pass.result (left_of old) (left_of new) old.shown new.shown c.pass.ensures.count
     (omega (arith, c.loop-covers-test.true)) c.pass.ensures.left c.pass.ensures.shown in
-    let done = c.in_ok-add_shown.ensures in
-    let many : length c.add_shown.new.times ≡ length ts = done.len ∙ ap length c.as_mut_slice.ensures.value in
-    let written = refilled c.loop-covers.times.len c.add_shown.new.times ts many c.loop-covers.times.ok.0 in
+    let done = rw c.choices.ensures at c.in_ok-add_solution.ensures in
+    let many : length c.add_solution.new.times ≡ length ts = done.len ∙ ap length c.as_mut_slice.ensures.value in
+    let written = refilled c.loop-covers.times.len c.add_solution.new.times ts many c.loop-covers.times.ok.0 in
     record {
       number = omega (arith, c.loop-covers.invariant.number, c.in_ok-count_one.ensures, ap length came);
       same = c.pass.ensures.puzzle ∙ c.loop-covers.invariant.same;
