@@ -1,4 +1,5 @@
 -- What an answer says of clauses.
+-- Public contracts rest on this file: readers must believe it.
 use Rattle.std.specs.Prelude.{ℕ, List, Vec}
 use Rattle.std.specs.declared.alloc.Global.{Global}
 use Rattle.refutation.specs.Refutation.{IsUnsatisfiable}

@@ -1,4 +1,5 @@
 -- The text of a problem's clauses in the format DIMACS CNF.
+-- Public contracts rest on this file: readers must believe it.
 use Rattle.std.specs.Prelude.{ℕ, ◌-◌, ◌/◌, ◌%◌, ◌==◌, ◌++◌, List, [], length, flat_map, unwrap_or, nat_le}
 use Rattle.std.specs.Prelude.{if◌then◌else◌, decimal, codes, Vec}
 use Rattle.std.specs.List.{enumerate_from}

@@ -1,4 +1,5 @@
 -- What the variables of a problem's clauses mean of a set of options, and that each cover makes clauses true.
+-- Public contracts rest on this file: readers must believe it.
 use Rattle.std.specs.Prelude.{ℕ, ◌+◌, ◌-◌, ◌/◌, ◌%◌, ◌==◌, Bool, false, not, ◌&&◌, List, Option, Some, None, is_some}
 use Rattle.std.specs.Prelude.{slice_index_or, count_by, nat_le, if◌then◌else◌, Vec}
 use Rattle.std.specs.List.{list_any}

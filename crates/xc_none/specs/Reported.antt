@@ -1,4 +1,5 @@
 -- What is said of a source once a proof was read from it.
+-- Public contracts rest on this file: readers must believe it.
 use Rattle.std.specs.Prelude.{◌≡◌, ℕ, Result, Ok, Err}
 use Rattle.xc_text.specs.Calls.{Rose}
 use Rattle.xc_text.specs.declared.line_reader.Unread.{Unread}

@@ -1,4 +1,5 @@
 -- What a whole run does that judges what shows that a problem has no cover.
+-- Public contracts rest on this file: readers must believe it.
 use Rattle.std.specs.Prelude.{ℕ, ◌≡◌, ◌≢◌, ◌⊎◌, List, ◌++◌, MatchOption, MatchResult, Result, Ok, Err, codes, decimal}
 use Rattle.std.specs.Prelude.{length, Vec, ℤ}
 use Rattle.std.specs.declared.alloc.Global.{Global}

@@ -1,4 +1,5 @@
 -- What the words of a run ask for.
+-- Public contracts rest on this file: readers must believe it.
 use Rattle.std.specs.Prelude.{ℕ, List, [], ◌∷◌, Option, None, Some, codes, option_map, option_and_then, if◌then◌else◌}
 use Rattle.std.specs.Str.{bytes_eq}
 use Rattle.xc_input.specs.declared.kind.Kind.{Kind}

@@ -1,4 +1,5 @@
--- No public clause cites this module. What a task is called in public clauses.
+-- What a task is called in public clauses.
+-- No public contract rests on this file.
 use Rattle.xc_none_run.specs.declared.asked.Task.{Task}
 use Rattle.xc_none_run.specs.declared.asked.Task.TheVariants.{Clauses, Proof, Weights}
 use Rattle.xc_none_run.specs.Words.{Sought, its_clauses, by_proof, by_weights}

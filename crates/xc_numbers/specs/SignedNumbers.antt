@@ -1,4 +1,5 @@
 -- A text of signed whole numbers, one for each of some things in order, in any lines.
+-- Public contracts rest on this file: readers must believe it.
 use Rattle.std.specs.Prelude.{ℕ, ◌+◌, ◌≤◌, ◌≡◌, nat_eq, List, [], ◌∷◌, ◌++◌, if◌then◌else◌}
 use Rattle.std.specs.Prelude.{Option, None, Some, Result, Ok, Err, option_map, option_and_then}
 use Rattle.std.specs.Prelude.{ℤ, pos, neg_ℤ, unsigned_abs, Vec}

@@ -1,4 +1,5 @@
--- No public clause cites this module. What is added to numbers that were read, and what a text says.
+-- What is added to numbers that were read, and what a text says.
+-- No public contract rests on this file.
 use Rattle.std.specs.Prelude.{ℕ, ◌≡◌, List, ◌++◌, None, Some, Result, Ok, Err, ℤ, Vec}
 use Rattle.std.specs.declared.alloc.Global.{Global}
 use Rattle.xc_text.specs.Lines.{lines_of}

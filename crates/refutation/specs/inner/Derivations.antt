@@ -1,4 +1,5 @@
--- No public clause cites this module. What is known of the clauses of a derivation.
+-- What is known of the clauses of a derivation.
+-- No public contract rests on this file.
 use Rattle.std.specs.Prelude.{ℕ, ◌≡◌, Bool, true, false, List, Vec, Option, Some, None}
 use Rattle.std.specs.declared.alloc.Global.{Global}
 use Rattle.std.specs.List.{list_any}

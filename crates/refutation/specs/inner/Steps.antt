@@ -1,4 +1,5 @@
--- No public clause cites this module. What clauses and literals that were found lead to.
+-- What clauses and literals that were found lead to.
+-- No public contract rests on this file.
 use Rattle.std.specs.Prelude.{ℕ, ◌≡◌, ◌⊎◌, Bool, true, false, List, Vec, All, Contains, length, take, slice_index_or}
 use Rattle.std.specs.List.{list_any}
 use Rattle.std.specs.declared.alloc.Global.{Global}

@@ -1,4 +1,5 @@
--- No public clause cites this module. What literals are to say, before their variables are looked up.
+-- What literals are to say, before their variables are looked up.
+-- No public contract rests on this file.
 use Rattle.std.specs.Prelude.{ℕ, ◌≡◌, Bool, true, not, List, if◌then◌else◌}
 use Rattle.std.specs.List.{list_any}
 use Rattle.xc_input.specs.Problem.{Puzzle}

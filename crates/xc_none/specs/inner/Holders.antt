@@ -1,4 +1,5 @@
--- No public clause cites this module. The options that hold an item.
+-- The options that hold an item.
+-- No public contract rests on this file.
 use Rattle.std.specs.Prelude.{ℕ, ◌≡◌, ◌<◌, ◌≤◌, ◌-◌, true, List, Some, slice_get, slice_index, length, All}
 use Rattle.std.specs.Prelude.{Contains, Vec}
 use Rattle.std.specs.declared.alloc.Global.{Global}

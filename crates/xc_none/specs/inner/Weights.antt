@@ -1,4 +1,5 @@
--- No public clause cites this module. Weights of items, and the sums that show that no set of options is a cover.
+-- Weights of items, and the sums that show that no set of options is a cover.
+-- No public contract rests on this file.
 use Rattle.std.specs.Prelude.{ℕ, zero, suc, ◌+◌, ◌-◌, ◌*◌, Bool, false, cond, ◌==◌, List, [], ◌∷◌, Option, Some, None}
 use Rattle.std.specs.Prelude.{get_or, sum_by, unwrap_or, ℤ, pos, negsuc}
 use Rattle.xc_input.specs.declared.problem.Bounds.{Bounds}
