@@ -17,8 +17,8 @@ use Rattle.xc_input.proofs.OptionLemmas.{numbered_from}
 use Rattle.xc_input.proofs.TokenLemmas.{numbered_get-at}
 use Rattle.xc_search.proofs.ListingLemmas.{numbered_at, uses_known}
 use Rattle.std.proofs.lemmas.List.Elements.{All-from_recursion}
-use Rattle.std.proofs.lemmas.Option.{get_or_from_slice_get, slice_get-get_or, slice_get_within}
-use Rattle.xc_count.specs.inner.Plans.{AreHolders, if_held, options_with}
+use Rattle.std.proofs.lemmas.Option.{slice_get-get_or, slice_get_within}
+use Rattle.xc_count.specs.inner.Plans.{if_held, options_with}
 
 -- ---- one option
 

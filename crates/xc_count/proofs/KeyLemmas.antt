@@ -1,15 +1,13 @@
 -- What keys say.
 use Rattle.std.proofs.Common.{ℕ, suc, ◌≡◌, ◌≢◌, ◌≤◌, ◌+◌, ◌-◌, false, eqb, List, [], ◌∷◌, length, cond}
-use Rattle.std.proofs.Common.{Some, None, refl, sym, ap, ◌∙◌, arith, subst, eqb-true, eq-eqb, drop, ltb-true, ltb-false}
+use Rattle.std.proofs.Common.{Some, None, refl, ap, ◌∙◌, arith, subst, eqb-true, eq-eqb, drop, ltb-true, ltb-false}
 use Rattle.std.proofs.Common.{le-ltb}
-use Rattle.std.proofs.Math.ListN.{get_or}
 use Rattle.std.specs.Prelude.{slice_get, nat_lt}
 use Rattle.xc_input.specs.declared.problem.Use.{Use}
 use Rattle.xc_text.proofs.ListLemmas.{by_bool}
 use Rattle.xc_moves.proofs.PlaceLemmas.{get_dropped}
 use Rattle.xc_count.specs.inner.Held.{Held, holding_uses}
 use Rattle.xc_count.specs.inner.Keys.{mark_says, held_in, rank_of}
-use Rattle.xc_count.specs.inner.Plans.{IsRanking}
 
 -- the first marks are left out
 pub held_dropped : (ranks : List ℕ) (from next : ℕ) (key : List ℕ) (i : ℕ) → from ≤ next

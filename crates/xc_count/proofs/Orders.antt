@@ -1,15 +1,12 @@
 -- Orders of the options, and how many of them hold an item.
-use Rattle.std.proofs.Common.{ℕ, zero, suc, ◌≡◌, ◌≢◌, ◌≤◌, ◌<◌, ◌+◌, ◌-◌, false, eqb, cond, List, [], ◌∷◌}
-use Rattle.std.proofs.Common.{◌++◌, length, drop, get_or, set, None, refl, sym, ap, ◌∙◌, arith, subst, inl, inr}
-use Rattle.std.proofs.Common.{eqb-true, eq-eqb, ne_eqb, length-set, drop-cons}
-use Rattle.std.specs.Prelude.{is_some, All, Contains}
-use Rattle.std.proofs.lemmas.List.Elements.{All-append, All-from_recursion, Contains-append_left}
-use Rattle.std.proofs.lemmas.List.Elements.{Contains-append_right, Contains-append_cases}
+use Rattle.std.proofs.Common.{ℕ, zero, suc, ◌≡◌, ◌≢◌, ◌<◌, ◌+◌, ◌-◌, false, eqb, cond, List, [], ◌∷◌}
+use Rattle.std.proofs.Common.{length, drop, get_or, set, None, refl, ap, ◌∙◌, arith, subst}
+use Rattle.std.proofs.Common.{eqb-true, eq-eqb, ne_eqb, drop-cons}
+use Rattle.std.specs.Prelude.{is_some}
 use Rattle.xc_input.specs.declared.problem.Use.{Use}
 use Rattle.xc_input.specs.Problem.{Puzzle, colour_in, uses_of}
-use Rattle.xc_text.proofs.ListLemmas.{by_bool, EachTwo, EachTwo-append, AllPairs-from_each_two, each_two_from_AllPairs}
-use Rattle.xc_text.proofs.ListLemmas.{in-contains, contains-in}
-use Rattle.xc_count.specs.inner.ByOption.{AreOnce, AtMost}
+use Rattle.xc_text.proofs.ListLemmas.{by_bool, EachTwo}
+use Rattle.xc_count.specs.inner.ByOption.{AtMost}
 use Rattle.xc_count.proofs.Forgetting.{holders_cons}
 use Rattle.xc_count.proofs.HolderLemmas.{none_again}
 

@@ -5,11 +5,9 @@ use Rattle.std.proofs.Math.ListN.{get_or}
 use Rattle.std.specs.Prelude.{nat_eq, sum_by}
 use Rattle.std.specs.Cmp.Lexicographic.{pointwise}
 use Rattle.std.specs.List.{AllByRecursion}
-use Rattle.std.proofs.lemmas.List.{get_or_append_left, length-append}
 use Rattle.std.proofs.lemmas.List.Elements.{All-from_recursion, recursion_from_All}
 use Rattle.std.proofs.lemmas.List.Sums.{sum_by-cons, sum_by_push, sum_by-drop_more}
 use Rattle.std.proofs.lemmas.Slice.Eq.{bytes_eq-Decides}
-use Rattle.std.proofs.Math.Seq.{get_or-append_seam}
 use Rattle.xc_text.proofs.ListLemmas.{by_bool}
 use Rattle.xc_count.specs.inner.Added.{keyed, with_added}
 use Rattle.xc_count.specs.inner.Worth.{CountState, EachKey, worth_by}

@@ -1,9 +1,9 @@
 -- What is left of a problem whose items are held by some of its options.
 -- No public contract rests on this file.
-use Rattle.std.specs.Prelude.{ℕ, ◌≡◌, ◌==◌, Bool, List, Option, Some, is_none, filter, length, if◌then◌else◌}
+use Rattle.std.specs.Prelude.{ℕ, ◌==◌, Bool, List, Option, Some, is_none, filter, length, if◌then◌else◌}
 use Rattle.std.specs.List.{list_all}
 use Rattle.std.specs.Option.{option_or}
-use Rattle.xc_input.specs.Problem.{Puzzle, Numbered, numbered_options, colour_in, IsPrimary, low_at, high_at}
+use Rattle.xc_input.specs.Problem.{Puzzle, Numbered, numbered_options, colour_in}
 use Rattle.xc_input.specs.declared.problem.Use.{Use}
 use Rattle.xc_moves.specs.Moves.{agrees}
 use Rattle.xc_search.specs.Listing.{Residual, whole, listing}

@@ -1,7 +1,7 @@
 -- The invariant: the solutions counted and those left in the span are all, and of each option likewise. `arrived` says
 -- that a pass by one takes the first of those left, which is a cover (`all_head`), so its options are known and differ,
 -- as `add_solution` requires. It is counted (`counted_more`), and fewer are left. At the end none is (`ended`).
-use Rattle.std.proofs.Common.{◌≡◌, ◌≢◌, ◌+◌, ◌-◌, ◌≤◌, ◌∙◌, arith, ap, sym, subst, get_or, length}
+use Rattle.std.proofs.Common.{◌≡◌, ◌≢◌, ◌+◌, ◌-◌, ◌∙◌, arith, ap, sym, subst, get_or, length}
 use Rattle.std.specs.Prelude.{All, IfSome, count_by, min}
 use Rattle.xc_input.specs.Problem.{Puzzle}
 use Rattle.xc_input.specs.Cover.{IsCover}
