@@ -204,7 +204,8 @@ no_state seed ss read key hash None each same is none fresh k s e q =
 no_state seed ss read key hash (Some n) each same is none fresh k s e q = cc
 
 -- one state more
-pub told_push : {W : Type 0} (ss : List (State W)) (s : State W) → told (ss ++ s ∷ []) ≡ told ss ++ (s.key.items, s.hash) ∷ []
+pub told_push : {W : Type 0} (ss : List (State W)) (s : State W)
+    → told (ss ++ s ∷ []) ≡ told ss ++ (s.key.items, s.hash) ∷ []
 told_push ss s = map-append (λ t. (t.key.items, t.hash)) ss (s ∷ [])
 
 pub bytes_push : {W : Type 0} (limbs : W → ℕ) (ss : List (State W)) (s : State W)
@@ -231,7 +232,8 @@ hashed_push seed ss s each here k t at =
     subst (λ (v : List ℕ × ℕ). v.1 ≡ hash_by seed v.0) same (each k u before))
 
 pub found_push : {W : Type 0} (ss : List (State W)) (s : State W) (old new : List Slot) (place : ℕ)
-    → AreFound (told ss) old → ((h k : ℕ) → 0 < k → Finds old h k → Finds new h k) → place ≡ length ss + 1 → Finds new s.hash place
+    → AreFound (told ss) old → ((h k : ℕ) → 0 < k → Finds old h k → Finds new h k)
+    → place ≡ length ss + 1 → Finds new s.hash place
     → AreFound (told (ss ++ s ∷ [])) new
 found_push ss s old new place found kept e here k t at =
     let x : List ℕ × ℕ = (s.key.items, s.hash) in

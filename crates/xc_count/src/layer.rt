@@ -304,8 +304,8 @@ impl<W: Worth> Layer<W> {
         bound.saturating_sub(self.bytes)
     }
 
-    /// The work of adding a worth to the state of a key, which is new or not, after looking at so many slots in vain, in
-    /// about nanoseconds.
+    /// The work of adding a worth to the state of a key, which is new or not, after looking at so many slots in vain,
+    /// in about nanoseconds.
     #[inline(always)]
     fn work_of(&self, key: &[u32], worth: &W, is_new: bool, probes: u64) -> u64 {
         let table: u64 = match (is_new, self.states.len() < CACHED) {

@@ -23,7 +23,8 @@ returns-clause-counts c =
     let free = unmarked c.mark_of.result (says plan step.from key (step_item plan step)) mark (omega arith) in
     let item : c.index-item.result.now ≡ step_item plan step = grind (arith, common_steps) in
     let primary = order_at p plan c.requires.plan step.place c.requires.step.within in
-    let known : IsItem p c.index-item.result.now = subst (IsItem p) (sym item) (item_of p (step_item plan step) primary) in
+    let known : IsItem p c.index-item.result.now =
+    subst (IsItem p) (sym item) (item_of p (step_item plan step) primary) in
     let options : c.options_of-options.result.now ≡ options_with p (step_item plan step) =
     c.options_of-options.ensures p c.requires.plan known ∙ ap (options_with p) item in
     on_ok_weaker c.below_free.result (λ more. more_same

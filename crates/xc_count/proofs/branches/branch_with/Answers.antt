@@ -26,13 +26,15 @@ loop-place-init c =
     record {
       solution = ap (λ ms. numbered_get ms c.args.number.now)
           (fork_listing p c.requires.valid c.requires.once s fork c.requires.fork
-          ∙ ap (members_with p s fork.0 fork.1 1) (sym (c.options_of-options.ensures c.args.problem.now.puzzle c.requires.plan (item_of c.args.problem.now.puzzle c.args.fork.0
-          (fork_primary c.args.problem.now.puzzle c.requires.valid c.requires.once (says c.args.plan.now 0 c.args.key.now)
-          c.args.fork c.requires.fork)))));
+          ∙ ap (members_with p s fork.0 fork.1 1) (sym (c.options_of-options.ensures
+          c.args.problem.now.puzzle c.requires.plan (item_of c.args.problem.now.puzzle c.args.fork.0
+          (fork_primary c.args.problem.now.puzzle c.requires.valid c.requires.once
+          (says c.args.plan.now 0 c.args.key.now) c.args.fork c.requires.fork)))));
       few = omega arith;
-      ahead = let many = ap (λ os. length (that_agree p s os)) (c.options_of-options.ensures c.args.problem.now.puzzle c.requires.plan (item_of c.args.problem.now.puzzle c.args.fork.0
-          (fork_primary c.args.problem.now.puzzle c.requires.valid c.requires.once (says c.args.plan.now 0 c.args.key.now)
-          c.args.fork c.requires.fork)))
+      ahead = let many = ap (λ os. length (that_agree p s os)) (c.options_of-options.ensures
+          c.args.problem.now.puzzle c.requires.plan (item_of c.args.problem.now.puzzle c.args.fork.0
+          (fork_primary c.args.problem.now.puzzle c.requires.valid c.requires.once
+          (says c.args.plan.now 0 c.args.key.now) c.args.fork c.requires.fork)))
           ∙ fork_many p c.requires.valid c.requires.once s fork c.requires.fork in omega (arith, many);
       same = refl;
     }
@@ -42,9 +44,10 @@ key_with-requires-clause-known c =
     let os = c.options_of-options.result.now in
     (option_known c.args.problem.now.puzzle c.args.fork.0 (get_or os c.loop-place.place 0)
     (is_listed os (options_with c.args.problem.now.puzzle c.args.fork.0) c.loop-place.place (omega arith)
-    (c.options_of-options.ensures c.args.problem.now.puzzle c.requires.plan (item_of c.args.problem.now.puzzle c.args.fork.0
-    (fork_primary c.args.problem.now.puzzle c.requires.valid c.requires.once (says c.args.plan.now 0 c.args.key.now)
-    c.args.fork c.requires.fork))))).0
+    (c.options_of-options.ensures
+    c.args.problem.now.puzzle c.requires.plan (item_of c.args.problem.now.puzzle c.args.fork.0
+    (fork_primary c.args.problem.now.puzzle c.requires.valid c.requires.once
+    (says c.args.plan.now 0 c.args.key.now) c.args.fork c.requires.fork))))).0
 
 pub loop-place-preserved-in_default : goal.loop-place-preserved-in_default
 loop-place-preserved-in_default c =
@@ -65,9 +68,10 @@ loop-place-preserved-in_default c =
 pub overflow_add-k : goal.overflow_add-k
 overflow_add-k c =
     let few : length c.options_of-options.result.now ≤ option_count c.args.problem.now.puzzle =
-    subst (λ xs. length xs ≤ option_count c.args.problem.now.puzzle) (sym (c.options_of-options.ensures c.args.problem.now.puzzle c.requires.plan (item_of c.args.problem.now.puzzle c.args.fork.0
-    (fork_primary c.args.problem.now.puzzle c.requires.valid c.requires.once (says c.args.plan.now 0 c.args.key.now)
-    c.args.fork c.requires.fork))))
+    subst (λ xs. length xs ≤ option_count c.args.problem.now.puzzle) (sym (c.options_of-options.ensures
+    c.args.problem.now.puzzle c.requires.plan (item_of c.args.problem.now.puzzle c.args.fork.0
+    (fork_primary c.args.problem.now.puzzle c.requires.valid c.requires.once
+    (says c.args.plan.now 0 c.args.key.now) c.args.fork c.requires.fork))))
     (few_options c.args.problem.now.puzzle c.args.fork.0) in
     omega (arith, few, c.loop-place.invariant.few, c.loop-place-test.true, c.key_with.ensures.limits.options)
 
@@ -93,9 +97,10 @@ returns-then-k-fork-clause-less c =
     let p = c.args.problem.now.puzzle in
     let os = c.options_of-options.result.now in
     let listed = is_listed os (options_with p c.args.fork.0) c.loop-place.place (omega arith)
-    (c.options_of-options.ensures c.args.problem.now.puzzle c.requires.plan (item_of c.args.problem.now.puzzle c.args.fork.0
-    (fork_primary c.args.problem.now.puzzle c.requires.valid c.requires.once (says c.args.plan.now 0 c.args.key.now)
-    c.args.fork c.requires.fork))) in
+    (c.options_of-options.ensures
+    c.args.problem.now.puzzle c.requires.plan (item_of c.args.problem.now.puzzle c.args.fork.0
+    (fork_primary c.args.problem.now.puzzle c.requires.valid c.requires.once
+    (says c.args.plan.now 0 c.args.key.now) c.args.fork c.requires.fork))) in
     let agreed = rw c.in-Some.is at c.in_ok-next.ensures.key in
     subst (λ t. IsLess p c.args.plan.now t.key.items c.args.key.now) (sym c.taking.ensures)
     (less_with p c.requires.valid c.args.plan.now c.args.key.now c.in-Some.next.items (get_or os c.loop-place.place 0)
@@ -126,9 +131,10 @@ returns-then-le-clause-less c =
     let p = c.args.problem.now.puzzle in
     let os = c.options_of-options.result.now in
     let listed = is_listed os (options_with p c.args.fork.0) c.loop-place.place (omega arith)
-    (c.options_of-options.ensures c.args.problem.now.puzzle c.requires.plan (item_of c.args.problem.now.puzzle c.args.fork.0
-    (fork_primary c.args.problem.now.puzzle c.requires.valid c.requires.once (says c.args.plan.now 0 c.args.key.now)
-    c.args.fork c.requires.fork))) in
+    (c.options_of-options.ensures
+    c.args.problem.now.puzzle c.requires.plan (item_of c.args.problem.now.puzzle c.args.fork.0
+    (fork_primary c.args.problem.now.puzzle c.requires.valid c.requires.once
+    (says c.args.plan.now 0 c.args.key.now) c.args.fork c.requires.fork))) in
     let agreed = rw c.in-Some.is at c.in_ok-next.ensures.key in
     subst (λ t. IsLess p c.args.plan.now t.key.items c.args.key.now) (sym c.taking-then-le.ensures)
     (less_with p c.requires.valid c.args.plan.now c.args.key.now c.in-Some.next.items (get_or os c.loop-place.place 0)

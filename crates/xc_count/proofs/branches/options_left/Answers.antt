@@ -22,13 +22,15 @@ option-requires c =
     let there = contains-in os o (in-slice_get os c.loop-k.k o (slice_get-get_or os c.loop-k.k 0 (omega arith))) in
     record {
       known = (option_known c.args.problem.now.puzzle c.args.item o
-          (subst (λ xs. Contains xs o) (c.options_of-options.ensures c.args.problem.now.puzzle c.requires.plan c.requires.item) there)).0;
+          (subst (λ xs. Contains xs o) (c.options_of-options.ensures
+          c.args.problem.now.puzzle c.requires.plan c.requires.item) there)).0;
     }
 
 pub overflow_add-many : goal.overflow_add-many
 overflow_add-many c =
     let few : length c.options_of-options.result.now ≤ option_count c.args.problem.now.puzzle =
-    subst (λ xs. length xs ≤ option_count c.args.problem.now.puzzle) (sym (c.options_of-options.ensures c.args.problem.now.puzzle c.requires.plan c.requires.item))
+    subst (λ xs. length xs ≤ option_count c.args.problem.now.puzzle) (sym (c.options_of-options.ensures
+    c.args.problem.now.puzzle c.requires.plan c.requires.item))
     (few_options c.args.problem.now.puzzle c.args.item) in
     omega (arith, few, c.loop-k.invariant.few, c.option.ensures.whole.limits.options)
 
@@ -67,5 +69,6 @@ returns c =
     let os = c.options_of-options.result.now in
     let none : length (that_agree p s (drop c.loop-k.k os)) ≡ 0 =
     ap (λ xs. length (that_agree p s xs)) (drop_all c.loop-k.k os (omega arith)) in
-    let all = ap (λ xs. length (that_agree p s xs)) (c.options_of-options.ensures c.args.problem.now.puzzle c.requires.plan c.requires.item) in
+    let all = ap (λ xs. length (that_agree p s xs)) (c.options_of-options.ensures
+    c.args.problem.now.puzzle c.requires.plan c.requires.item) in
     omega (arith, none, all, c.loop-k.invariant.many, options_that_fit p s c.args.item)

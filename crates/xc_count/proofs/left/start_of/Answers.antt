@@ -1,4 +1,5 @@
-use Rattle.std.proofs.Common.{arith, ◌≡◌, ◌<◌, ◌-◌, ◌+◌, ◌∙◌, ap, ap₂, sym, subst, subst₂, drop, get_or, length, Some, true}
+use Rattle.std.proofs.Common.{arith, ◌≡◌, ◌<◌, ◌-◌, ◌+◌, ◌∙◌, ap, ap₂, sym, subst, subst₂}
+use Rattle.std.proofs.Common.{drop, get_or, length, Some, true}
 use Rattle.std.specs.Prelude.{is_some}
 use Rattle.std.proofs.lemmas.List.{get_or_default}
 use Rattle.xc_count.specs.inner.Keys.{held_in, mark_says}

@@ -7,7 +7,8 @@ use Rattle.xc_count.proofs.planning.is_over.Goals as goal
 
 pub are_past-requires : goal.are_past-requires
 are_past-requires c =
-    subst (λ os. All (IsOption c.args.problem.now.puzzle) os) (sym (c.options_of.ensures c.args.problem.now.puzzle c.requires.plan c.requires.item))
+    subst (λ os. All (IsOption c.args.problem.now.puzzle) os)
+    (sym (c.options_of.ensures c.args.problem.now.puzzle c.requires.plan c.requires.item))
     (options_known c.args.problem.now.puzzle c.args.item)
 
 pub returns : goal.returns

@@ -12,7 +12,8 @@ invariant_of-self-2 g c =
     let ss = old.states.items in
     let slots = c.fill_slot.new.slots.items in
     let pushed : c.push_state.new.states.items ≡ ss ++ c.args.state ∷ [] = c.in_ok-push_state.ensures.pushed in
-    let bytes : charged limbs c.push_state.new.states.items ≡ charged limbs (ss ++ c.args.state ∷ []) = ap (charged limbs) pushed in
+    let bytes : charged limbs c.push_state.new.states.items ≡ charged limbs (ss ++ c.args.state ∷ []) =
+    ap (charged limbs) pushed in
     record {
       taken = omega (arith, bytes, bytes_push limbs ss c.args.state, old.taken, c.requires.more, c.grow.ensures.bytes);
       within = omega (arith, c.requires.within, old.within, c.grow.ensures.bound);

@@ -11,4 +11,5 @@ returns-in-Some c =
     ∙ at_number (λ l. l.items) c.args.lists.now c.args.item k c.in-Some.list.now (omega arith) found.1 place
 
 pub returns-in-None : goal.returns-in-None
-returns-in-None c = no_number (λ l. l.items) c.args.lists.now c.args.item (λ k e. omega (arith, c.in-None.ensures.lookup.3))
+returns-in-None c = no_number (λ l. l.items) c.args.lists.now c.args.item
+    (λ k e. omega (arith, c.in-None.ensures.lookup.3))
