@@ -1,10 +1,9 @@
 -- In how many solutions each option is.
 use Rattle.std.proofs.Common.{ℕ, zero, suc, ◌≡◌, ◌≢◌, ◌≤◌, ◌<◌, ◌+◌, ◌-◌, true, eqb, cond}
-use Rattle.std.proofs.Common.{List, [], ◌∷◌, ◌++◌, Some, None}
+use Rattle.std.proofs.Common.{List, [], ◌∷◌, ◌++◌, Some}
 use Rattle.std.proofs.Common.{length, get_or, set, map, take, drop, refl, sym, ap, ap₂, ◌∙◌, arith, subst}
 use Rattle.std.proofs.Common.{eqb-true, eq-eqb, length-set}
 use Rattle.std.proofs.Math.ListN.{drop_of_length-le}
-use Rattle.std.proofs.Math.Seq.{drop-cons}
 use Rattle.std.specs.Prelude.{All, AllPairs, count_by, min}
 use Rattle.std.specs.List.{list_any}
 use Rattle.std.proofs.lemmas.List.{append-nil, get_or_default, take_all}
@@ -63,17 +62,6 @@ one_more q v os ts total low within two more so o some = by_bool (eqb q o)
 
 option_first : (c : Choice) (q : ℕ) (cs : List Choice) → c.option ≡ Some q → options_of (c ∷ cs) ≡ q ∷ options_of cs
 option_first c q cs e = rw e refl
-
--- a choice without an option counts for none
-pub none_first : (c : Choice) (cs : List Choice) → c.option ≡ None → options_of (c ∷ cs) ≡ options_of cs
-none_first c cs e = rw e refl
-
--- the choice at place k of a solution, and those after it
-pub first_taken : (s : List Choice) (k : ℕ) (d : Choice) → k < length s
-    → drop k s ≡ get_or s k d ∷ drop (k + 1) s
-first_taken s k d h =
-    let same : suc k ≡ k + 1 = omega arith in
-    drop-cons s k d h ∙ ap (λ j. get_or s k d ∷ drop j s) same
 
 pub all_head : {X : Type 0} (P : X → Type 0) (x : X) (xs : List X) → All P (x ∷ xs) → P x
 all_head P x xs a = a 0 x (omega arith)

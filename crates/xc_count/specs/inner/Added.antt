@@ -1,4 +1,5 @@
 -- What the keys of a layer are worth once a worth is added to one of them.
+-- No public contract rests on this file.
 use Rattle.std.specs.Prelude.{ℕ, List, [], ◌∷◌, map, nat_eq, if◌then◌else◌}
 use Rattle.std.specs.Cmp.Lexicographic.{pointwise}
 use Rattle.xc_count.specs.declared.layer.State.{State}
