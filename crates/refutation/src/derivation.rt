@@ -98,7 +98,7 @@ fn is_shown(
     propagate(alloc, clauses, watches, trail, from, literals)
 }
 
-/// TakesClause what a clause comes to, in which at most the other literals are false. Whether all are.
+/// Takes what a clause comes to, in which at most the other literals are false. Whether all are.
 #[tactic(auto, using(crate::proofs::ClauseLemmas::leads_same))]
 fn is_made_false(trail: &mut Trail, clause: &[u32], open: u32) -> Result<bool, AllocError>
     requires { 0 < length clause.now }
@@ -110,7 +110,7 @@ fn is_made_false(trail: &mut Trail, clause: &[u32], open: u32) -> Result<bool, A
     })
 }
 
-/// PutsAmong a clause in a free place, or behind the others. Its number.
+/// Puts a clause in a free place, or behind the others. Its number.
 #[tactic(auto, using(crate::proofs::DerivationLemmas::puts_behind, crate::proofs::DerivationLemmas::puts_at))]
 fn put(
     clauses: &mut Vec<Vec<u32>>,
@@ -174,7 +174,7 @@ impl Derivation {
         Ok(shown)
     }
 
-    /// TakesClause a clause that follows.
+    /// Takes a clause that follows.
     #[tactic(auto, using(crate::proofs::DerivationLemmas::taken))]
     pub(crate) fn take(&mut self, clause: Vec<u32>) -> Result<(), AllocError>
         ensures { IfOk result (λ _. TakesClause self.old clause.items self.new) }

@@ -74,7 +74,7 @@ impl Index {
         }
     }
 
-    /// PutsAmong a clause in front of its chain.
+    /// Puts a clause in front of its chain.
     fn link(&mut self, number: u32) {
         let place = number as usize;
         let Some(entry) = self.entries.get(place).copied() else {

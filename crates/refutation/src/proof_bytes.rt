@@ -93,7 +93,7 @@ impl ProofBytes {
         }
     }
 
-    /// TakesClause the next byte, if one is left.
+    /// Takes the next byte, if one is left.
     #[inline(always)]
     pub(crate) fn next<S: Source>(&mut self, source: &mut S) -> Result<Option<u8>, ReadFailed>
         ensures { (S.state source.new).failures ≡ counted (is_err result) (S.state source.old).failures }

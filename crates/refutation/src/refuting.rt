@@ -10,7 +10,7 @@ use crate::steps::{Kind, Steps};
 use std::alloc::{AllocError, Global};
 use xc_text::{Source, Unread};
 
-/// TakesClause a clause if it is shown to follow. Whether it was.
+/// Takes a clause if it is shown to follow. Whether it was.
 #[tactic(auto, using(crate::proofs::DerivationLemmas::keeps_taken))]
 fn follow(alloc: Global, derivation: &mut Derivation, clause: &[u32]) -> Result<bool, AllocError>
     ensures { IfOk result (λ _. Keeps derivation.old derivation.new) }
@@ -65,7 +65,8 @@ fn judge(
     }
 }
 
-/// What a proof in DRAT shows of clauses whose literals are below a number: variable n has the literals 2n and 2n + 1.
+/// What a proof in DRAT shows of clauses whose literals are below a number: variable n has the literals 2n and 2n + 1,
+/// and is n in the proof too.
 ///
 /// Each clause that the proof adds has to follow from those before it by unit propagation (RUP). A clause that needs
 /// more of DRAT (RAT) doesn't follow. A clause that the proof deletes is no longer used, and what it led to stays; one
