@@ -112,7 +112,7 @@ pub(crate) fn fewer(chain: Chain, row: u32, before: u32, option: u32, count: u32
     [x, y]
 }
 
-/// At least one up to the first option is that option.
+/// Where one up to the first option is chosen, that option is.
 pub(crate) fn first_down(chain: Chain, option: u32) -> [Claim; 2]
     ensures { (p : Puzzle) → IsNextHolder p chain.item 0 option → OneHolds p result }
 {
@@ -121,7 +121,7 @@ pub(crate) fn first_down(chain: Chain, option: u32) -> [Claim; 2]
     [x, y]
 }
 
-/// More than one up to the first option there are not.
+/// Up to the first option no more than one is chosen.
 pub(crate) fn first_fewer(chain: Chain, option: u32, count: u32) -> [Claim; 1]
     requires { count < 4294967295 }
     ensures { (p : Puzzle) → IsNextHolder p chain.item 0 option → 1 ≤ count → OneHolds p result }

@@ -11,8 +11,8 @@ use std::alloc::Global;
 use xc_input::Problem;
 use xc_text::Source;
 
-/// What a proof in DRAT, of the clauses of a problem, shows of it. The clauses are made here again, so that nothing
-/// has to be believed of those that an engine was given.
+/// What a proof in DRAT, of the clauses that `write_cnf` writes of a problem, shows of it. The clauses are made here
+/// again, so that nothing has to be believed of those that an engine was given.
 pub fn has_no_cover<S: Source>(
     alloc: Global,
     problem: &Problem,

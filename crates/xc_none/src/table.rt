@@ -38,15 +38,11 @@ pub(crate) fn columns(bounds: Bounds, options: u32) -> u32 {
     if upper < lower { lower } else { upper }
 }
 
-/// How many are asked for where more options have to be chosen than there are: one more than there are.
+/// As many as have to be chosen, but no more than one beyond the options that there are.
 pub(crate) fn least_count(low: u32, options: u32) -> u32
     ensures { result ≤ low }
 {
-    if low <= options {
-        low
-    } else {
-        options.saturating_add(1).min(low)
-    }
+    low.min(options.saturating_add(1))
 }
 
 /// The places of an item's options by colour, each once, in rising order.
