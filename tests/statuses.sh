@@ -202,8 +202,8 @@ printf '1 1\n1 x -1\n' >"$folder/spoiled"
 printf '1 1 1 -1\n' >"$folder/few"
 printf -- '-1 0\n0\n' >"$folder/proof"
 printf '0\n' >"$folder/short"
-printf -- '-1 0\n' >"$folder/unended"
-printf -- '-1 0\nc 0\n' >"$folder/words"
+printf -- '-1 -2 0\n' >"$folder/unended"
+printf -- '-1 -2 0\nx 0\n' >"$folder/words"
 printf 'A\nB\n' >"$folder/faulty"
 shown() {
     wanted=$1

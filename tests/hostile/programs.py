@@ -344,7 +344,7 @@ def shown_badly(folder):
     for n in range(len(PROOF) - 1):
         status, out, err = run(proof, PROOF[:n])
         tell(status in (0, 5) and out == b"", f"a proof cut at byte {n}: {status}, {out[:80]!r}, {err[:80]!r}")
-    for what, text in (("text", PIGEONS), ("random bytes", os.urandom(100000)), ("a long step", b"1 " * 1000000 + b"0\n")):
+    for what, text in (("text", PIGEONS), ("random bytes", os.urandom(100000)), ("a long step", b"17 " * 1000000 + b"0\n")):
         status, out, err = run(proof, text)
         tell(status == 5 and out == b"", f"{what} as a proof: {status}, {out[:80]!r}, {err[:80]!r}")
 
