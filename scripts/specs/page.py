@@ -1,4 +1,4 @@
-"""The page of what has to be believed of eight calls."""
+"""The page of what has to be believed of ten calls."""
 from collections.abc import Iterable, Iterator, Sequence
 
 from specs.entries import Entry, Key, figures
@@ -6,16 +6,18 @@ from specs.repository import Repository
 from specs.report import counted
 
 CALLS = ["solve", "judge", "run_over_links", "check", "solve_span", "join_spans", "count", "count_covers"]
+CALLS += ["has_no_cover", "show_none"]
 
 HEAD = """# What has to be believed
 
-This page has what the promises of eight public calls depend on: `solve`, a whole run of a solver; `judge`, a whole
+This page has what the promises of ten public calls depend on: `solve`, a whole run of a solver; `judge`, a whole
 run of the judge; `run_over_links`, a run that returns its tables; `check`, the verdicts on a listing; `solve_span`, a
 whole run over a span of a listing; `join_spans`, a whole run that joins spans; `count`, the number of covers;
-`count_covers`, a whole run that counts. A function builds only with a proof that its body keeps its contract, so you
-need not read the code or the proofs. The contract says what is proved, in the words of the definitions below it. If
-you have read these and they say what is meant, what is left to trust is what README lists under "What is trusted".
-What no contract says is not proved.
+`count_covers`, a whole run that counts; `has_no_cover`, the judge of a proof that there is none; `show_none`, a whole
+run of that judge. A function builds only with a proof that its body keeps its contract, so you need not read the code
+or the proofs. The contract says what is proved, in the words of the definitions below it. If you have read these and
+they say what is meant, what is left to trust is what README lists under "What is trusted". What no contract says is
+not proved.
 
 A definition comes after those that it cites, and each comes once: a call further down lists what it needs from
 above. A word whose type ends in `Type 0` makes a statement: `×` joins two that hold, of `⊎` one does, `(x : A) × ..`

@@ -57,33 +57,54 @@ fn judged(alloc: Global, kind: Kind, text: &[u8], proof: &[u8]) -> Option<Answer
 
 #[test]
 fn pigeons_without_holes(rt: HostRuntime) {
-    assert_eq!(rt; judged(rt.alloc(), Kind::Plain, PIGEONS, PIGEONS_PROOF), Some(Answer::Refuted));
+    assert_eq!(rt;
+        judged(rt.alloc(), Kind::Plain, PIGEONS, PIGEONS_PROOF),
+        Some(Answer::Refuted)
+    );
 }
 
 #[test]
 fn a_mutilated_board(rt: HostRuntime) {
-    assert_eq!(rt; judged(rt.alloc(), Kind::Plain, BOARD, BOARD_PROOF), Some(Answer::Refuted));
+    assert_eq!(rt;
+        judged(rt.alloc(), Kind::Plain, BOARD, BOARD_PROOF),
+        Some(Answer::Refuted)
+    );
 }
 
 #[test]
 fn colours_that_clash(rt: HostRuntime) {
-    assert_eq!(rt; judged(rt.alloc(), Kind::Colours, CLASH, CLASH_PROOF), Some(Answer::Refuted));
+    assert_eq!(rt;
+        judged(rt.alloc(), Kind::Colours, CLASH, CLASH_PROOF),
+        Some(Answer::Refuted)
+    );
 }
 
 #[test]
 fn a_bound_that_cannot_be_met(rt: HostRuntime) {
-    assert_eq!(rt; judged(rt.alloc(), Kind::Bounds, THRICE, THRICE_PROOF), Some(Answer::Refuted));
+    assert_eq!(rt;
+        judged(rt.alloc(), Kind::Bounds, THRICE, THRICE_PROOF),
+        Some(Answer::Refuted)
+    );
 }
 
 #[test]
 fn an_item_without_options(rt: HostRuntime) {
-    assert_eq!(rt; judged(rt.alloc(), Kind::Plain, UNHELD, b""), Some(Answer::Refuted));
+    assert_eq!(rt;
+        judged(rt.alloc(), Kind::Plain, UNHELD, b""),
+        Some(Answer::Refuted)
+    );
 }
 
 #[test]
 fn a_problem_with_a_cover(rt: HostRuntime) {
-    assert_eq!(rt; judged(rt.alloc(), Kind::Plain, SEVEN, b""), Some(Answer::Unfinished));
-    assert_eq!(rt; judged(rt.alloc(), Kind::Plain, SEVEN, b"0\n"), Some(Answer::DoesNotFollow(1)));
+    assert_eq!(rt;
+        judged(rt.alloc(), Kind::Plain, SEVEN, b""),
+        Some(Answer::Unfinished)
+    );
+    assert_eq!(rt;
+        judged(rt.alloc(), Kind::Plain, SEVEN, b"0\n"),
+        Some(Answer::DoesNotFollow(1))
+    );
 }
 
 #[test]
@@ -93,7 +114,10 @@ fn a_read_that_fails(rt: HostRuntime) {
         return assert!(rt; false, "read");
     };
     let mut source = Feed::new(PIGEONS_PROOF, 7, Some(3));
-    assert_eq!(rt; has_no_cover(alloc, &read.problem, &mut source), Err(NoneError::Device));
+    assert_eq!(rt;
+        has_no_cover(alloc, &read.problem, &mut source),
+        Err(NoneError::Device)
+    );
 }
 
 /// An item that so many options hold, and that has to be held half as often.
@@ -115,5 +139,8 @@ fn too_many_variables(rt: HostRuntime) {
         return assert!(rt; false, "read");
     };
     let mut source = Feed::new(b"", 7, None);
-    assert_eq!(rt; has_no_cover(alloc, &read.problem, &mut source), Err(NoneError::TooManyVariables));
+    assert_eq!(rt;
+        has_no_cover(alloc, &read.problem, &mut source),
+        Err(NoneError::TooManyVariables)
+    );
 }

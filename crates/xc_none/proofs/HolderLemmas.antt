@@ -4,16 +4,15 @@ use Rattle.std.proofs.Common.{length}
 use Rattle.std.proofs.Common.{refl, sym, ap, ◌∙◌, arith, subst, Option, Some, inl, inr, ◌⊎◌, ⊎_elim, get_or}
 use Rattle.std.proofs.Common.{eqb, eqb-true, eq-eqb}
 use Rattle.std.proofs.Math.ListN.{set}
-use Rattle.std.specs.Prelude.{slice_get, is_some, All, Contains, Vec, unwrap_or}
+use Rattle.std.specs.Prelude.{slice_get, is_some, Contains, Vec, unwrap_or}
 use Rattle.std.specs.declared.alloc.Global.{Global}
 use Rattle.std.proofs.lemmas.Bool.{cases_eq, cases_lt, cases_order, false≢true}
-use Rattle.std.proofs.lemmas.List.Elements.{All-push, All-nil, Contains-append_left, Contains-push}
+use Rattle.std.proofs.lemmas.List.Elements.{All-push, Contains-append_left, Contains-push}
 use Rattle.std.proofs.lemmas.Option.{get_or_from_slice_get, slice_get_within}
 use Rattle.xc_input.specs.declared.problem.Use.{Use}
 use Rattle.xc_input.specs.Problem.{Puzzle, IsOption, uses_of, colour_in, numbered_get}
 use Rattle.xc_text.proofs.ListLemmas.{by_bool, in-contains, slice_get-in}
-use Rattle.xc_none.specs.Meanings.{is_holder}
-use Rattle.xc_none.specs.inner.Holders.{IsHolder, AreOptionsOf, AreHoldersUpTo, AreListed, AreRising, IsNextHolder}
+use Rattle.xc_none.specs.inner.Holders.{IsHolder, AreOptionsOf, AreHoldersUpTo, AreRising, IsNextHolder}
 
 -- whether uses hold item i
 abbrev pub hold : List Use → ℕ → Bool
@@ -55,11 +54,6 @@ hold-at (v ∷ us) (suc k) d h = by_bool (eqb v.item (get_or us k d).item)
     (λ t. rw t refl)
     (λ n. rw n (hold-at us k d (omega (arith, h))))
 
--- an option that is held by its item is in the list
-pub with_none : (p : Puzzle) (o : ℕ) (lists : List (Vec ℕ Global)) → AreListed p (o - 1) lists
-    → AreListedWith p o [] lists
-with_none p o lists listed = record { before = listed; itself = λ i l h e held. absurd (false≢true held) }
-
 pub with_more : (p : Puzzle) (o k : ℕ) (us : List Use) (u : Use) (lists : List (Vec ℕ Global)) (l m : Vec ℕ Global)
     → IsHolder p u.item o → 1 ≤ u.item → k ≡ u.item - 1 → slice_get lists k ≡ Some l → m.items ≡ l.items ++ o ∷ []
     → AreListedWith p o us lists → AreListedWith p o (us ++ u ∷ []) (set lists k m)
@@ -96,39 +90,12 @@ with_more p o k us u lists l m holder number place at more listed = record {
       whole = λ x k l. Contains-append_left os (o ∷ []) x (old.whole x k l);
     }
 
-pub with_all : (p : Puzzle) (o : ℕ) (us : List Use) (lists : List (Vec ℕ Global)) → uses_of p o ≡ us
-    → AreListedWith p o us lists → AreListed p o lists
-with_all p o us lists uses listed = λ i l h e. record {
-  sound = (listed.before i l h e).sound;
-  whole = λ x k n. ⊎_elim
-      (λ (q : x ≡ o). subst (λ (y : ℕ). Contains l.items y) (sym q)
-      (listed.itself i l h e (subst (λ (vs : List Use). hold vs i ≡ true) uses
-      (subst (λ (y : ℕ). is_holder p i y ≡ true) q k.1))))
-      (λ (q : x ≡ o → ⊥). (listed.before i l h e).whole x k (omega (arith, n, q)))
-      (cases_eq x o);
-}
-
 -- a use of an option of a problem is of an item that it holds
 pub holder_at : (p : Puzzle) (o k : ℕ) (us : List Use) (d : Use) → IsOption p o → numbered_get p.options o ≡ Some us
     → k < length us → IsHolder p (get_or us k d).item o
 holder_at p o k us d known at h =
     let uses : uses_of p o ≡ us = ap (λ (x : Option (List Use)). unwrap_or x []) at in
     (known, subst (λ (vs : List Use). hold vs (get_or us k d).item ≡ true) (sym uses) (hold-at us k d h))
-
--- empty lists have the options up to number 0
-pub empty_listed : (p : Puzzle) (lists : List (Vec ℕ Global)) → All (λ l. l.items ≡ []) lists → AreListed p 0 lists
-empty_listed p lists empty = λ i l h e.
-    let here : l.items ≡ [] = empty_at lists (i - 1) l empty e in
-    subst (λ (os : List ℕ). AreHoldersUpTo p i 0 os) (sym here) (record {
-      sound = All-nil (IsHolder p i);
-      whole = λ x k n. absurd (omega (arith, k.0.0, n));
-    })
-  where
-    empty_at : (ls : List (Vec ℕ Global)) (k : ℕ) (l : Vec ℕ Global) → All (λ l. l.items ≡ []) ls
-        → slice_get ls k ≡ Some l
-        → l.items ≡ []
-    empty_at ls k l all e = subst (λ (v : Vec ℕ Global). v.items ≡ []) (get_or_from_slice_get ls k l l e)
-        (all k l (slice_get_within ls k l e))
 
 -- one option more in rising order
 pub rising_more : (xs : List ℕ) (k : ℕ) → 1 ≤ k → ((i j : ℕ) → i < j → j < k → get_or xs i 0 < get_or xs j 0)
@@ -151,19 +118,6 @@ row_of : (p : Puzzle) (i : ℕ) (os : List ℕ) (x : ℕ) → AreOptionsOf p i o
 row_of p i os x holders h =
     let found = slice_get-in os x (in-contains os x (holders.whole x h h.0.1)) in
     (found.0, slice_get_within os found.0 x found.1, get_or_from_slice_get os found.0 x 0 found.1)
-
--- before the first row there is none
-pub first_next : (p : Puzzle) (i : ℕ) (os : List ℕ) → AreOptionsOf p i os → AreRising os
-    → IsNextHolder p i 0 (get_or os 0 0)
-first_next p i os holders rising = λ x h l n.
-    let row = row_of p i os x holders h in
-    ⊎_elim
-    (λ (q : row.0 ≡ 0). sym row.2 ∙ ap (λ (m : ℕ). get_or os m 0) q)
-    (λ (q : row.0 ≡ 0 → ⊥).
-    let some : 0 < row.0 = omega (arith, q) in
-    let less = rising 0 row.0 some row.1 in
-    absurd (omega (arith, less, row.2, n)))
-    (cases_eq row.0 0)
 
 -- between two rows there is none
 pub row_next : (p : Puzzle) (i : ℕ) (os : List ℕ) (k : ℕ) → AreOptionsOf p i os → AreRising os → 1 ≤ k → k < length os

@@ -18,12 +18,6 @@ pub one_more : (front : List ℤ) (n : ℤ) (token : List ℕ) (before after : L
 one_more front n token before after all cut is so =
     so ∙ rw (cut, is) (passed front n (all_signed after))
 
--- a token that is no number spoils the rest of its line
-pub no_more : (front : List ℤ) (token : List ℕ) (before after : List (List ℕ)) (all : Option (List ℤ))
-    → before ≡ token ∷ after → signed token ≡ None
-    → all ≡ option_map (λ more. front ++ more) (all_signed before) → all ≡ None
-no_more front token before after all cut is so = so ∙ rw (cut, is) refl
-
 -- the numbers of a line belong to those before
 behind : (old front : List ℤ) (n : ℕ) (r : Result (List ℤ) ℕ)
     → numbers_then 0 (Some old) (numbers_then n (Some front) r) ≡ numbers_then 0 (Some (old ++ front)) r
@@ -37,10 +31,3 @@ line_more old front n line before after all cut is so =
     so ∙ ap (λ b. numbers_then 0 (Some old) (numbers_of_lines n b)) cut
     ∙ ap (λ l. numbers_then 0 (Some old) (numbers_then n l (numbers_of_lines (n + 1) after))) is
     ∙ behind old front n (numbers_of_lines (n + 1) after)
-
-pub line_fails : (old : List ℤ) (n : ℕ) (line : List ℕ) (before after : List (List ℕ)) (all : Result (List ℤ) ℕ)
-    → before ≡ line ∷ after → line_numbers line ≡ None → all ≡ numbers_then 0 (Some old) (numbers_of_lines n before)
-    → all ≡ Err n
-line_fails old n line before after all cut is so =
-    so ∙ ap (λ b. numbers_then 0 (Some old) (numbers_of_lines n b)) cut
-    ∙ ap (λ l. numbers_then 0 (Some old) (numbers_then n l (numbers_of_lines (n + 1) after))) is
