@@ -90,7 +90,7 @@ def main() -> None:
             else:
                 without, other = without + 1, proof.read_bytes()
             ran = subprocess.run([*words, str(proof)], capture_output=True)
-            assert (ran.returncode == 0, ran.stdout == b"No solution.\n") == (not covered, not covered), it.text()
+            assert (ran.returncode == 0, ran.stderr == b"No solution.\n") == (not covered, not covered), it.text()
     print(f"{without} problems without a cover, each refuted; {others} with one, none refuted")
 
 
