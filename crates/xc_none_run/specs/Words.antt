@@ -3,7 +3,7 @@
 use Rattle.std.specs.Prelude.{ℕ, List, [], ◌∷◌, Option, None, Some, codes, option_map, option_and_then, if◌then◌else◌}
 use Rattle.std.specs.Str.{bytes_eq}
 use Rattle.xc_input.specs.declared.kind.Kind.{Kind}
-use Rattle.xc_tools.specs.Judges.{numbered_kind}
+use Rattle.xc_tools.specs.Arguments.{numbered_kind}
 
 -- what is asked of a problem: its clauses, or whether a proof or weights show that it has no cover
 pub data Sought : Type 0 where
