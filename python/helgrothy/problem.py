@@ -565,6 +565,37 @@ class Problem(Generic[Option]):
                     raise _listing_fault(run.failure(), text)
         return [verdict.endswith(b": cover") for verdict in verdicts]
 
+    def clauses(self, *, seconds: float | None = None) -> bytes:
+        """Clauses that each solution makes true, in DIMACS CNF, as dlx-none prints them.
+
+        Where a SAT solver writes a proof that no values make all of them true, `refute` takes it. Those of the module
+        `export` are others, which have the same solutions as the problem. Raises `ProgramNotFound`, `ProgramFailed` and
+        `OutOfTime`.
+        """
+        from ._run import refutation
+
+        return refutation.clauses(self, seconds)
+
+    def refute(
+        self, proof: str | bytes | IO[str] | IO[bytes] | Mapping[Any, int], *, seconds: float | None = None
+    ) -> bool:
+        """Whether a proof shows that there is no solution, as dlx-none judges it, which is itself proved.
+
+        The proof is in the format DRAT (or a file that gives it), as text or in its binary form, and of `clauses`, such
+        as `cadical -q p.cnf p.drat` writes it. Or it is weights of items, which are whole numbers of up to nine digits:
+        those above 0 count as often as their item has to be held, those below 0 as often as it may be. An option
+        counts where the sum of its weights is above 0, and adds that. If the first sum is more than the other two
+        there is no solution.
+
+        False says only that the proof doesn't show it. Raises `ProblemFault` for a weight of an item that isn't the
+        problem's, `ProgramNotFound`, `ProgramFailed` and `OutOfTime`.
+        """
+        from ._run import refutation
+
+        if isinstance(proof, Mapping):
+            return refutation.by_weights(self, proof, seconds)
+        return refutation.by_proof(self, bytes_of(proof) if isinstance(proof, str) else proof, seconds)
+
     def _listing(self, solutions: Iterable[Iterable[Any]], first: int = 1) -> Iterator[bytes]:
         """Solutions as a listing. Its numbers of branches, (1 of 1), say nothing."""
         for number, solution in enumerate(solutions, first):

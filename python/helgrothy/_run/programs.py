@@ -27,6 +27,7 @@ _CHUNK = 1 << 18
 # The system takes no longer times.
 _LONGEST = 1e9
 _NICE = 10
+_LIMITED = 'ulimit -v "$1"; shift; exec "$@"'
 _LOOK_SECONDS = 0.1
 _LAST_LINE = re.compile(r"Altogether (\d+) solutions?( \(limit\))?\.\Z")
 # Python reads so many digits at once.
@@ -148,16 +149,23 @@ class Run:
     process that is killed meanwhile.
 
     The text goes through a file without a name, so that neither side waits for the other. `seconds` bounds the
-    time of the whole run.
+    time of the whole run, and `memory` how many bytes it may have.
     """
 
     def __init__(
-        self, program: str, words: Sequence[str], text: Iterable[bytes], seconds: float | None = None
+        self,
+        program: str,
+        words: Sequence[str],
+        text: Iterable[bytes],
+        seconds: float | None = None,
+        memory: int | None = None,
     ) -> None:
         # A search in spans needs none of what this loads.
         import tempfile
 
-        path = find(program)
+        command = [find(program), *words]
+        if memory is not None:
+            command = ["/bin/sh", "-c", _LIMITED, "sh", str(memory >> 10), *command]
         self.program = program
         # Whether its output came to an end.
         self.has_ended = False
@@ -168,7 +176,7 @@ class Run:
             given.writelines(text)
             given.seek(0)
             self._errors: IO[bytes] = tempfile.TemporaryFile()
-            self._process = _begun([path, *words], given, self._errors)
+            self._process = _begun(command, given, self._errors)
 
     def __enter__(self) -> Run:
         return self
@@ -203,7 +211,7 @@ class Run:
         while True:
             left = self._time_left()
             if left <= 0:
-                raise OutOfTime(f"{self.program} took longer than it was given")
+                raise self._out_of_time()
             most = left if meanwhile is None else min(left, _LOOK_SECONDS)
             ready = select.select(both, [], [], None if most == float("inf") else most)[0]
             if ready:
@@ -230,7 +238,15 @@ class Run:
         try:
             return self._process.wait(left)
         except subprocess.TimeoutExpired:
-            raise OutOfTime(f"{self.program} took longer than it was given") from None
+            raise self._out_of_time() from None
+
+    def is_over(self) -> bool:
+        """Whether it has ended, as one may that prints little. Raises `OutOfTime`."""
+        if self._process.poll() is not None:
+            return True
+        if self._time_left() <= 0:
+            raise self._out_of_time()
+        return False
 
     def worked(self) -> float:
         """How many seconds of a processor it has had; since its start, where the system doesn't say that."""
@@ -256,6 +272,9 @@ class Run:
         errors = self._errors.fileno()
         # The program writes where its file was read last, so this reads beside that.
         return os.pread(errors, os.fstat(errors).st_size, 0).decode("utf-8", "replace").strip()
+
+    def _out_of_time(self) -> OutOfTime:
+        return OutOfTime(f"{self.program} took longer than it was given")
 
     def failure(self) -> ProgramFailed:
         """What is raised where the status isn't the one that was wanted."""
