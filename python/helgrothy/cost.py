@@ -7,7 +7,8 @@ takes over the cheapest solution that any has found. Dominoes on 8 by 8 with ran
 sweep a thirtieth of one; 2,000 pairings of flights took cbc less than a second, where dlx3 alone had no solution in 20.
 
 What an engine calls a solution is one where dlxcheck judges it to be one, and what it costs is added up here. That none
-costs less is what it reports, and no proof: for a while the other ways may prove it, or find that it isn't so.
+costs less is what it reports, and no proof: for a while the other ways may prove it, or find that it isn't so. Where
+it reports that there is none, cadical is asked beside them for a proof, which dlx-none judges.
 """
 
 from __future__ import annotations
@@ -16,11 +17,11 @@ import math
 import os
 import time
 from collections.abc import Callable, Sequence
-from contextlib import closing
+from contextlib import closing, suppress
 from fractions import Fraction
 from typing import Any, Generic, TypeVar, Union
 
-from ._reason import optimisers, sat_solver
+from ._reason import optimisers, proofs, sat_solver
 from ._reason.bounds import Bounds
 from ._reason.optimisers import Optimiser
 from ._reason.prices import Prices
@@ -31,7 +32,7 @@ from ._run.report import Hear, unheard
 from ._run.solution import Solution, Source
 from ._run.wire import OfNumbers
 from ._text.amounts import A_NUMBER, is_number, spelled
-from .errors import OutOfTime, ProgramFailed, TableFault
+from .errors import OutOfTime, ProgramFailed, ProgramNotFound, TableFault
 from .problem import Problem
 
 __all__ = ["Cost", "Least", "NotLeast", "least", "read"]
@@ -50,7 +51,8 @@ _LOOK_SECONDS = 0.05
 MOST_SECONDS = sat_solver.MOST_SECONDS
 # To write the problem for an engine may take so long.
 _MOST_WRITING = 8.0
-# Where an engine reports that there is no solution, the program may show it for so many seconds.
+# Where an engine reports that there is no solution, the program may show it for so many seconds, and for as long as a
+# proof of it is at work.
 _NONE_SECONDS = 2.0
 # Where it reports that none costs less, the other ways may prove it for as long as all took so far, within these.
 _PROOF_SECONDS, _LEAST_PROOF_SECONDS = 1.0, 0.2
@@ -128,10 +130,11 @@ def least(
 ) -> Least[Option] | None:
     """The solution of least cost, as dlxcheck judges it to be one; None where there is no solution.
 
-    costs: of each option in their order. say and hint: as `engines.solve` takes them. report: gets what is at work,
-    and the least cost so far. Raises `NotLeast`, also without seconds where `MOST_SECONDS` are over and a solution was
-    found; `ValueError` for another number of costs; and `engines.Claimed` where an engine reports that there is no
-    solution, and the program doesn't show that soon.
+    costs: of each option in their order. say and hint: as `engines.solve` takes them; where a proof shows that there is
+    no solution `say` gets that, too. report: gets what is at work, and the least cost so far. Raises `NotLeast`, also
+    without seconds where `MOST_SECONDS` are over and a solution was found; `ValueError` for another number of costs;
+    and `engines.Claimed` where an engine reports that there is no solution, and neither the program shows that soon nor
+    a proof.
     """
     deadline = None if seconds is None else time.monotonic() + seconds
     if len(costs) != len(problem.options):
@@ -148,6 +151,10 @@ class _Over(Exception):
     def __init__(self, by: str, is_proved: bool = True) -> None:
         self.by = by
         self.is_proved = is_proved
+
+
+class _Proved(Exception):
+    """It is proved that there is no solution."""
 
 
 class _Search(Generic[Option]):
@@ -204,9 +211,15 @@ class _Search(Generic[Option]):
                         self.look()
             except _Over as over:
                 by, is_proved = over.by, over.is_proved
+        except _Proved:
+            self._say(proofs.PROVED)
+            return None
         except OutOfTime:
             self._hear(is_last=True)
             self._check()
+            claim = self._engines.claim
+            if claim is not None and claim.cost is None:
+                claim.end(self._problem)
             self._engines.help(self.best, self._say)
             raise NotLeast(self._found) from None
         self._check()
@@ -215,7 +228,7 @@ class _Search(Generic[Option]):
         return self._found
 
     def look(self, run: Run | None = None) -> None:
-        """The turns of all that goes on beside dlx3. Raises `_Over`, `Claimed` and `OutOfTime`."""
+        """The turns of all that goes on beside dlx3. Raises `_Over`, `_Proved`, `Claimed` and `OutOfTime`."""
         now = time.monotonic()
         if now - self._looked < _LOOK_SECONDS:
             return
@@ -290,18 +303,37 @@ class _Reasoning:
 
 
 class _Claim:
-    """What an engine reports: that none costs less than its solution, or that there is none."""
+    """What an engine reports: that none costs less than its solution, or that there is none, which may be proved."""
 
-    def __init__(self, engine: Optimiser, begun: float) -> None:
+    def __init__(self, engine: Optimiser, begun: float, problem: Problem[Any], seconds: float) -> None:
+        """seconds: what is left for a proof."""
         self.name = engine.name
         self.cost = None if engine.is_none else engine.cost
         now = time.monotonic()
         proof = min(max(now - begun, _LEAST_PROOF_SECONDS), _PROOF_SECONDS)
         self._until = now + (_NONE_SECONDS if self.cost is None else proof)
+        self._proving: proofs.Proving | None = None
+        if self.cost is None and proofs.are_possible():
+            with suppress(OSError, ProgramNotFound):
+                self._proving = proofs.Proving(problem, seconds)
+
+    @property
+    def prover(self) -> list[str]:
+        """Who is at work on a proof."""
+        return [] if self._proving is None else [self._proving.name]
 
     def left(self, now: float) -> float:
-        """How long the others have to show it; nothing or less where the time is over."""
-        return self._until - now
+        """How long the others have to show it; nothing or less where the time is over. Raises `_Proved`."""
+        left = self._until - now
+        is_proved = False if self._proving is None else self._proving.verdict()
+        if is_proved:
+            raise _Proved
+        return max(left, _LOOK_SECONDS) if is_proved is None else left
+
+    def close(self) -> None:
+        """Leaves nothing of a proof behind."""
+        if self._proving is not None:
+            self._proving.__exit__()
 
     def end(self, problem: Problem[Any]) -> None:
         """Raises `Claimed`, and `_Over`."""
@@ -340,11 +372,13 @@ class _Engines:
     @property
     def names(self) -> list[str]:
         """Those that are at work."""
-        return [engine.name for engine in self._at_work]
+        return [engine.name for engine in self._at_work] + ([] if self.claim is None else self.claim.prover)
 
     def close(self) -> None:
         for engine in self._at_work:
             engine.end()
+        if self.claim is not None:
+            self.claim.close()
 
     def hear(self, best: int | None, is_last: bool) -> Optimiser | None:
         """Begins one where it is time for it, and takes what all have said.
@@ -376,6 +410,7 @@ class _Engines:
         """Drops a claim that a solution of this cost shows to be wrong."""
         claim = self.claim
         if claim is not None and (claim.cost is None or claim.cost > best):
+            claim.close()
             self.claim = None
             self._say(f"{_wrong(claim.name, claim.cost is None)}; dlx3 goes on")
 
@@ -415,7 +450,8 @@ class _Engines:
         if best is not None:
             self.doubt(best)
         if self.claim is None and (engine.is_least or engine.is_none):
-            self.claim = _Claim(engine, self._begun)
+            left = self._deadline - time.monotonic() if self._has_deadline else proofs.MOST_SECONDS
+            self.claim = _Claim(engine, self._begun, self._problem, left)
 
     def _drop(self, engine: Optimiser) -> None:
         engine.end()

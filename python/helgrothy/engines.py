@@ -2,9 +2,10 @@
 
 The program searches alone first. Where it has no solution soon the engine that is for the problem is given it, and has
 a short turn of its own, which ends where it doesn't work. Then the other engine begins, and all go on until one of them
-answers. What the engine calls a solution is written as a listing and is one where dlxcheck judges it to be one; that
-there is none is what the engine reports, and no proof. Which solution is the first in their order, how many there are
-and that these are all is for the programs alone to say.
+answers. What the engine calls a solution is written as a listing and is one where dlxcheck judges it to be one. That
+there is none is what the engine reports: then the engines are ended, and beside the program cadical is asked for a
+proof, which dlx-none judges. Which solution is the first in their order, how many there are and that these are all is
+for the programs alone to say.
 
 A nonogram of 25 by 25 takes cadical a second, and an exam timetable without a solution takes clasp one, where the
 programs come to no end. The command first has two seconds of CPU time, then the engine two alone, which are often
@@ -18,14 +19,14 @@ import time
 from collections.abc import Callable, Generator
 from typing import Any, TypeVar
 
-from ._reason import sat_solver
+from ._reason import proofs, sat_solver
 from ._reason.sat_solver import Asked, NoAnswer
 from ._run.programs import Run
 from ._run.report import Hear, unheard
 from ._run.solution import Solution
 from ._run.stream import Outcome, Solutions, sooner
 from ._run.wire import OfNumbers
-from .errors import HelgrothyError, OutOfTime
+from .errors import HelgrothyError, OutOfTime, ProgramNotFound
 from .problem import Problem
 
 __all__ = ["Claimed", "solve"]
@@ -42,16 +43,20 @@ _TURN_SECONDS, _MOST_TURN, _IDLE_SECONDS = 2.0, 10.0, 1.0
 _MOST_SECONDS, _MOST_WRITING = sat_solver.MOST_SECONDS, 8.0
 # After so many seconds without a solution, and without an engine, a line says which one may find one.
 _LONG_SECONDS = 2.0
+# So long after an engine's report a line says that it is to be proved.
+_QUIET_SECONDS = 2.0
 _ORDER = "--shuffle tries the options in another order"
 
 
 class Claimed(HelgrothyError):
-    """An engine reports that there is no solution, where the programs came to no end. by: its name."""
+    """An engine reports that there is no solution, where the programs came to no end and nothing proves it. by: its
+    name.
+    """
 
     by: str
 
     def __init__(self, by: str, program: str) -> None:
-        super().__init__(f"{by} reports that there is no solution; {program} hasn't proved it")
+        super().__init__(f"no solution, says {by}; {program} hasn't proved it")
         self.by = by
 
 
@@ -61,30 +66,44 @@ def solve(
     say: Callable[[str], object] = lambda line: None,
     hint: Callable[[str], bool] = lambda line: False,
     report: Hear = unheard,
+    *,
+    is_proof_wanted: bool = True,
 ) -> Solutions[Option]:
     """One solution, whoever finds it.
 
     say: gets a line that says who found it, where that is an engine, and what an engine did wrong. hint: gets one,
     once, that says which engine may find a solution, where none was found soon and the path has none, and says whether
-    it was shown; where it wasn't, `say` gets it at the end of the time. report: gets what is at work. Raises what
-    `Problem.solve` does, and `Claimed`.
+    it was shown; where it wasn't, `say` gets it at the end of the time. report: gets what is at work.
+
+    is_proof_wanted: where an engine reports that there is none, and the path has cadical, it is asked for a proof, for
+    the seconds that are left, or a minute without any. Where dlx-none finds it right there is no solution, and the
+    `proof` of what comes back says so; else `Claimed` is raised. Raises what `Problem.solve` does, too.
     """
 
     def begin(outcome: Outcome) -> Generator[Solution[Option], None, None]:
-        with _Beside(problem, seconds, say, hint, report) as beside:
+        with _Beside(problem, seconds, say, hint, report, is_proof_wanted) as beside:
             try:
                 with problem._search(limit=1, seconds=seconds, meanwhile=beside.look) as solutions:
-                    yield from solutions
+                    for solution in solutions:
+                        beside.doubt()
+                        yield solution
                     outcome.end(solutions.total or 0, bool(solutions.complete))
             except _Answered as answered:
                 yield Solution(OfNumbers(problem), answered.numbers)
                 outcome.end(1, False)
+            except _Proved:
+                outcome.end(0, True, proofs.PROVED)
             except OutOfTime as error:
+                if beside.claim is not None:
+                    raise beside.claim from None
                 beside.help()
                 error.beside = beside.names
                 raise
 
-    return Solutions(begin, lambda most: solve(problem, sooner(seconds, most)))
+    def again(most: float) -> Solutions[Option]:
+        return solve(problem, sooner(seconds, most), is_proof_wanted=is_proof_wanted)
+
+    return Solutions(begin, again)
 
 
 class _Answered(Exception):
@@ -94,8 +113,12 @@ class _Answered(Exception):
         self.numbers = numbers
 
 
+class _Proved(Exception):
+    """It is proved that there is no solution."""
+
+
 class _Beside:
-    """Engines beside a program's search, looked at while that finds nothing."""
+    """Engines beside a program's search, looked at while that finds nothing. claim: what one of them reports."""
 
     def __init__(
         self,
@@ -104,6 +127,7 @@ class _Beside:
         say: Callable[[str], object],
         hint: Callable[[str], bool],
         report: Hear,
+        is_proof_wanted: bool,
     ) -> None:
         self._problem = problem
         self._say = say
@@ -117,18 +141,31 @@ class _Beside:
         self._at_work: list[_Turn] = []
         self._names: list[str] = []
         self._is_helped = self._is_over = False
+        self._is_proof_wanted = is_proof_wanted
+        self._proving: proofs.Proving | None = None
+        self._claimed = 0.0
+        self.claim: Claimed | None = None
 
     def __enter__(self) -> _Beside:
         return self
 
     def __exit__(self, *_: object) -> None:
         self._is_over = True
+        self._end_engines()
+        if self._proving is not None:
+            self._proving.__exit__()
+
+    def _end_engines(self) -> None:
         for turn in self._at_work:
             turn.asked.__exit__()
+        self._at_work = []
 
     def look(self, run: Run) -> None:
-        """Begins an engine where it is time for it. Raises `_Answered` and `Claimed` where one has answered."""
+        """Begins an engine where it is time for it. Raises `_Answered`, `_Proved` and `Claimed`."""
         if self._is_over:
+            return
+        if self._proving is not None:
+            self._look_at_proof(self._proving)
             return
         if self._waiting is None:
             self._waiting = sat_solver.found(self._problem)
@@ -139,8 +176,9 @@ class _Beside:
                 self._is_over = self._hint(sat_solver.missing(sat_solver.in_order(self._problem)[0]))
             return
         for turn in list(self._at_work):
-            self._look_at(turn, run)
-        if self._waiting and self._is_time(run):
+            if self._proving is None:
+                self._look_at(turn, run)
+        if self._waiting and self._proving is None and self._is_time(run):
             self._begin(self._waiting.pop(0), run)
 
     def help(self) -> None:
@@ -190,7 +228,7 @@ class _Beside:
         asked = turn.asked
         try:
             if asked.has_ended():
-                self._end(asked.name, asked.numbers())
+                self._end(asked.name, asked.numbers(), run)
             elif time.monotonic() - asked.begun > _MOST_SECONDS:
                 raise NoAnswer.in_time(asked.name)
             elif turn.ends():
@@ -202,13 +240,49 @@ class _Beside:
             run.go_on()
             self._say(f"{error}; {self._program} goes on")
 
-    def _end(self, name: str, numbers: list[int] | None) -> None:
+    def _end(self, name: str, numbers: list[int] | None, run: Run) -> None:
         if numbers is None:
-            raise Claimed(name, self._program)
+            self.claim = Claimed(name, self._program)
+            self._prove(run)
+            return
         sat_solver.judge(name, self._problem, [self._problem.options[number] for number in numbers])
         found = f"{name} found a solution, and dlxcheck judges it to be one"
         self._say(f"{found}; {self._program} had none in {self._passed():.2g} seconds")
         raise _Answered(numbers)
+
+    def _prove(self, run: Run) -> None:
+        """Has what an engine reports be proved, while the program goes on. Raises `Claimed`."""
+        assert self.claim is not None
+        if not self._is_proof_wanted or not proofs.are_possible():
+            raise self.claim
+        self._end_engines()
+        left = proofs.MOST_SECONDS if self._seconds == float("inf") else self._seconds - self._passed()
+        try:
+            self._proving = proofs.Proving(self._problem, left)
+        except (OSError, ProgramNotFound):
+            raise self.claim from None
+        self._claimed = self._passed()
+        run.go_on()
+        self._report(at_work=[self._program, self._proving.name])
+
+    def _look_at_proof(self, proving: proofs.Proving) -> None:
+        """Raises `_Proved` and `Claimed`."""
+        assert self.claim is not None
+        name, is_proved = proving.name, proving.verdict()
+        if is_proved:
+            raise _Proved
+        if is_proved is not None:
+            raise self.claim
+        if proving.name != name:
+            self._report(at_work=[self._program, proving.name])
+        if self._claimed and self._passed() - self._claimed > _QUIET_SECONDS:
+            self._claimed = 0.0
+            self._say(f"{self.claim.by} reports that there is no solution; {proofs.SOLVER} is asked for a proof")
+
+    def doubt(self) -> None:
+        """The program has found a solution."""
+        if self.claim is not None:
+            self._say(f"{self.claim.by} reports that there is no solution, and there is one")
 
 
 class _Turn:

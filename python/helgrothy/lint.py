@@ -83,7 +83,7 @@ def _searched(problem: Problem[Any], seconds: float, say: Callable[[str], object
     try:
         with engines.solve(problem, seconds, say) as solutions:
             if next(iter(solutions), None) is None:
-                yield f"dlx{problem.kind} finds that there is no solution"
+                yield solutions.proof or f"dlx{problem.kind} finds that there is no solution"
     except engines.Claimed as claim:
         yield str(claim)
     except (OSError, ProgramFailed, ProgramNotFound):

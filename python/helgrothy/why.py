@@ -7,20 +7,24 @@ question has a time limit, so an item of which it isn't known in time whether it
 
 An engine is asked in turn with the programs, and named if the answer rests on its report. The problem is written once,
 with a variable for each primary item by which it is dropped: `cadical` and `clasp` don't print an unsatisfiable core.
+
+What is proved is said, too: dlx-none judges the weights by which sums show it, and a proof by cadical that the items
+which an engine names can't all be held.
 """
 
 from __future__ import annotations
 
 import time
-from collections.abc import Callable, Hashable, Iterator
+from collections.abc import Callable, Hashable, Iterator, Mapping, Sequence
 from dataclasses import dataclass
 from typing import Any
 
 from . import engines
-from ._reason import sat_solver
+from ._reason import proofs, sat_solver
 from ._reason.sums import Count, Sums
+from ._run import refutation
 from ._text.syntax import Bounds
-from .errors import OutOfTime
+from .errors import OutOfTime, ProgramFailed, ProgramNotFound
 from .problem import Problem
 
 __all__ = ["Conflict", "find"]
@@ -28,9 +32,14 @@ __all__ = ["Conflict", "find"]
 # The largest part of the whole time that one question may take, and the search for weights; and that of the matching.
 _SHARE = 0.1
 _COUNTED = 0.2
+# That for the judgement of weights, and for a proof at the end, where there may be one.
+_WEIGHING = 0.2
+_PROVED = 0.2
 # Who is asked what may be let off answers for so long first, and then for so many times longer again.
 _FIRST_SECONDS = 0.1
 _LONGER = 3
+# What is said where weights prove it.
+_WEIGHED = f"no solution, proved: {refutation.PROGRAM} has checked the sums"
 
 
 @dataclass(frozen=True)
@@ -39,21 +48,25 @@ class Conflict:
 
     is_least: whether each one of them is needed for it; else for some the time was too short, or all of a class are
     named. sums: weights of items that prove it, where sums do. by: the program that found that there is no solution,
-    where they don't.
+    where they don't. proof: that dlx-none has checked sums or a proof, as a line, where it has.
     """
 
     items: list[Hashable]
     is_least: bool
     sums: Sums | None = None
     by: str = ""
+    proof: str = ""
 
-    def lines(self, problem: Problem[Any]) -> Iterator[str]:
-        """The conflict in words."""
+    def lines(self, problem: Problem[Any], is_known: bool = False) -> Iterator[str]:
+        """The conflict in words. is_known: whether it was said before that there is no solution, and what proves it."""
         yield " ".join(["can't all be held:", *map(problem.name, self.items)])
         if self.sums is not None:
             yield self.sums.text(problem.name)
-        if self.by in sat_solver.SOLVERS:
-            yield f"{self.by} reports so; dlx{problem.kind}, which would prove it, came to no end in the time"
+        if self.proof and not is_known:
+            yield self.proof
+        if self.by in sat_solver.SOLVERS and self.proof != proofs.PROVED:
+            what = "these conflict" if is_known or self.proof else "no solution"
+            yield f"{what}, says {self.by}; dlx{problem.kind}, which would prove it, came to no end in the time"
         if self.is_least and len(self.items) > 1:
             yield "without any one of them the others can be held"
         elif not self.is_least and not (self.sums is not None and self.sums.is_whole):
@@ -79,14 +92,16 @@ def find(
     say: gets a line that says what an engine did wrong. Raises `OutOfTime` where not even that is known in the time.
     """
     deadline = time.monotonic() + seconds
-    short = [item for item, count in _held(problem).items() if count < problem.items[item].low]
-    if short:
-        return Conflict(short[:1], True)
+    short = next((item for item, count in _held(problem).items() if count < problem.items[item].low), None)
+    if short is not None:
+        return Conflict([short], True, proof=_weighed(problem, {short: 1}, seconds * _WEIGHING))
     count = Count(problem)
     found = count.by_matching(seconds * _COUNTED)
-    question = _Question(problem, deadline, seconds * _SHARE, say)
+    last = deadline - seconds * _PROVED if proofs.are_possible() else deadline
+    question = _Question(problem, last, seconds * _SHARE, say)
     if found is not None and found.is_whole:
-        return Conflict(found.asking, question.needs_all(found), found)
+        proof = _weighed(problem, found.weights, seconds * _WEIGHING)
+        return Conflict(found.asking, question.needs_all(found), found, proof=proof)
     asked = [item for item, bounds in problem.items.items() if bounds.low]
     if found is None:
         # A problem that is soon searched needs no proof by weights where it has a solution.
@@ -96,10 +111,30 @@ def find(
     if found is None and question.is_solved():
         return None
     items = asked if found is None else found.asking
+    proof = "" if found is None else _weighed(problem, found.weights, seconds * _WEIGHING)
     kept = _left(items, question)
     if found is not None and len(kept) == len(items):
-        return Conflict(kept, question.is_sure, found)
-    return Conflict(kept, question.is_sure, by=question.by)
+        return Conflict(kept, question.is_sure, found, proof=proof)
+    if question.by in sat_solver.SOLVERS:
+        # Sums of more items say nothing of these alone.
+        proof = _proved(problem, kept, deadline - time.monotonic()) or proof
+    return Conflict(kept, question.is_sure, by=question.by, proof=proof)
+
+
+def _weighed(problem: Problem[Any], weights: Mapping[Hashable, int], seconds: float) -> str:
+    """That dlx-none has checked the sums of weights that show that there is no solution, where it has."""
+    try:
+        is_shown = refutation.by_weights(problem, weights, seconds)
+    except (OSError, ProgramFailed, ProgramNotFound):
+        # That the time is over is an `OSError` too.
+        return ""
+    return _WEIGHED if is_shown else ""
+
+
+def _proved(problem: Problem[Any], kept: Sequence[Hashable], seconds: float) -> str:
+    """That dlx-none has checked a proof that these items can't all be held, where there is one in so many seconds."""
+    relaxed = _relaxed(problem, set(kept))
+    return proofs.PROVED if relaxed is not None and proofs.prove(relaxed, seconds) else ""
 
 
 def _held(problem: Problem[Any]) -> dict[Hashable, int]:
@@ -162,7 +197,8 @@ class _Question:
         """Whether there is a solution that holds all items. Raises `OutOfTime`."""
         by = f"dlx{self._problem.kind}"
         try:
-            with engines.solve(self._problem, self._deadline - time.monotonic(), self._say) as solutions:
+            left = self._deadline - time.monotonic()
+            with engines.solve(self._problem, left, self._say, is_proof_wanted=False) as solutions:
                 if next(iter(solutions), None) is not None:
                     return True
         except engines.Claimed as claim:

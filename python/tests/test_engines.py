@@ -16,7 +16,7 @@ from test_commands import Pipe, run, run_until
 
 from helgrothy import OutOfTime, Problem, cost, engines, make
 from helgrothy._cli import acts, console
-from helgrothy._reason import optimisers, sat_solver
+from helgrothy._reason import optimisers, proofs, sat_solver
 from helgrothy._run import programs
 
 # A problem with one solution, options 1, 4 and 5; and one without, of which no sum says so.
@@ -157,8 +157,8 @@ class Solving(WithEngines):
         status, out, messages = run("solve", self.problem, "--seconds", "300")
         self.assertEqual((status, out), (1, ""))
         hint = "`helgrothy why` may say which items conflict"
-        self.assertEqual(messages, f"cadical reports that there is no solution; dlx2 hasn't proved it; {hint}\n")
-        self.assertIn("cadical reports", run("solve", self.problem, "--html")[1])
+        self.assertEqual(messages, f"no solution, says cadical; dlx2 hasn't proved it; {hint}\n")
+        self.assertIn("no solution, says cadical", run("solve", self.problem, "--html")[1])
         with self.assertRaises(engines.Claimed) as raised:
             next(engines.solve(Problem.parse(TEXT)))
         self.assertEqual(raised.exception.by, "cadical")
@@ -215,7 +215,7 @@ class Solving(WithEngines):
         self.assertEqual(status, 1)
         first, second = messages.splitlines()
         self.assertIn("cadical gave no answer", first)
-        self.assertIn("clasp reports that there is no solution; dlx2 hasn't proved it", second)
+        self.assertIn("no solution, says clasp; dlx2 hasn't proved it", second)
 
     def test_one_that_hangs_until_its_time_is_over(self):
         self.engine(HANG, "cadical")
@@ -298,7 +298,8 @@ class Solving(WithEngines):
                 status, out, messages = run("solve", self.problem)
                 self.assertEqual((status, out), (0, FOUND))
                 self.assertIn(f"{name} found a solution", messages)
-                self.assertIn(f"{name} reports that there is no solution", run("solve", self.none)[2])
+                wanted = proofs.PROVED if name == proofs.SOLVER else f"no solution, says {name}; dlx1 hasn't proved it"
+                self.assertIn(wanted, run("solve", self.none)[2])
             os.remove(os.path.join(self.folder, "path", name))
 
 
@@ -488,7 +489,7 @@ class Costs(WithEngines):
         for name, script in NO_SOLUTION.items():
             with self.subTest(name):
                 self.engine(script, name)
-                wanted = f"{name} reports that there is no solution; dlx1 hasn't proved it; {HINT}\n"
+                wanted = f"no solution, says {name}; dlx1 hasn't proved it; {HINT}\n"
                 self.assertEqual(run("solve", self.none, "--cost", none), (1, "", wanted))
                 os.remove(os.path.join(self.folder, "path", name))
 
@@ -624,7 +625,7 @@ class Costs(WithEngines):
             with self.subTest(name):
                 self.assertIn(f"; {name} reports that none is cheaper.", self.solve("--seconds", "600")[2])
                 messages = run("solve", self.none, "--cost", self.file("none.costs", "r1 1\n"))[2]
-                self.assertIn(f"{name} reports that there is no solution", messages)
+                self.assertIn(f"no solution, says {name}; dlx1 hasn't proved it", messages)
             os.remove(os.path.join(self.folder, "path", name))
 
 
@@ -636,7 +637,7 @@ class Whys(WithEngines):
         self.engine("echo s UNSATISFIABLE; exit 20")
         status, out, messages = run("why", self.none, "--seconds", "300")
         self.assertEqual(status, 0)
-        self.assertIn("clasp reports so; dlx1, which would prove it, came to no end in the time\n", out)
+        self.assertIn("no solution, says clasp; dlx1, which would prove it, came to no end in the time\n", out)
         # The problem's options, and a variable for each item that lets it off.
         self.engine(f"echo s SATISFIABLE; echo v {' '.join(VALUES)} 0; exit 10")
         messages = run("why", self.problem, "--seconds", "300")[2]
@@ -673,7 +674,7 @@ class Whys(WithEngines):
         self.assertEqual(run("lint", self.none)[:2], (1, "line 3: dlx1 finds that there is no solution\n"))
         forget = self.after_the_engine()
         self.engine("echo s UNSATISFIABLE; exit 20", "cadical")
-        wanted = "line 1: cadical reports that there is no solution; dlx2 hasn't proved it\n"
+        wanted = "line 1: no solution, says cadical; dlx2 hasn't proved it\n"
         self.assertEqual(run("lint", self.problem), (1, wanted, ""))
         for name in ("nonsense", "a wrong solution", "dies", "floods"):
             with self.subTest(name):

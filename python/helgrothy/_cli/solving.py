@@ -133,7 +133,7 @@ class _Listing:
             return 1
         # There is no total where the page was full before.
         total = self._shown if solutions.total is None else solutions.total
-        return self._end(total, bool(solutions.complete), among, watch)
+        return self._end(total, bool(solutions.complete), among, watch, solutions.proof)
 
     def _draw_lot(self, problem: Problem[Any]) -> None:
         from .._run.numbered import lot
@@ -179,8 +179,14 @@ class _Listing:
         beside = f", and {error.beside} had none either" if error.beside and not reached else ""
         return fail(f"{error}; {_counted(reached)} till then{beside}")
 
-    def _end(self, total: int, is_complete: bool, among: str, watch: Watch) -> int:
-        """Says how many there were, and why there was none; gives the status."""
+    def _end(self, total: int, is_complete: bool, among: str, watch: Watch, proof: str = "") -> int:
+        """Says how many there were, and why there was none; gives the status.
+
+        proof: what shows that there is none, where that isn't the program.
+        """
+        proved = [proof] if proof else []
+        for line in proved:
+            console.say(line)
         if self._arguments.unique:
             for line in uniqueness(self._asked.problem, self._pair, among):
                 console.say(line)
@@ -191,7 +197,7 @@ class _Listing:
         reasons = [] if total or watch.has_shown else _reasons(self._asked, self._deadline())
         for line in reasons:
             console.say(line)
-        self._write_page(total, is_complete, reasons)
+        self._write_page(total, is_complete, [*proved, *reasons])
         if total and not self._shown:
             numbers = f"1 to {total}" if total > 1 else "1 alone"
             return fail(f"there is no solution {self._number}: --number takes {numbers}", 1)
@@ -385,4 +391,4 @@ def _reasons(asked: Given[Any], deadline: float | None) -> list[str]:
         conflict = None
     if conflict is None:
         return [f"no reason was found in {max(left, 0):.2g} seconds; `helgrothy why` may look longer"]
-    return list(asked.explained(conflict.lines(asked.inner)))
+    return list(asked.explained(conflict.lines(asked.inner, is_known=True)))

@@ -292,7 +292,7 @@ class _Solving:
         with suppress(OutOfTime):
             conflict = why.find(problem, min(self._left() * SHARE, _REASON_SECONDS))
             if conflict is not None:
-                return list(conflict.lines(problem))
+                return list(conflict.lines(problem, is_known=True))
         return []
 
 

@@ -1,1 +1,1 @@
-"""Reasoning about problems beside the programs: bounds, prices, sweeps over states, clauses for other engines."""
+"""Reasoning about problems beside the programs: bounds, prices, sweeps over states, other engines and their proofs."""

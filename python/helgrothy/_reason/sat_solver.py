@@ -32,7 +32,7 @@ from ..problem import Problem
 # Engines, and the arguments by which they print an answer and little else.
 SOLVERS = {"cadical": ["-q"], "clasp": ["-V0"]}
 # The status of an engine that reports that there is no solution.
-_NONE = 20
+NONE = 20
 # Of the engine: its address space, and what it may print beside twice as much as it was given.
 _MEMORY = 4 << 30
 _OUTPUT = 1 << 20
@@ -118,7 +118,7 @@ def judge(engine: str, problem: Problem[Any], options: Iterable[Any]) -> None:
         raise NoAnswer(f"what {engine} calls a solution is none, as dlxcheck judges it")
 
 
-class _Work:
+class Work:
     """An engine at work on a problem. As a context manager it leaves no process behind, however it is left.
 
     name: the engine's. begun: when it was begun, by the clock that only goes on.
@@ -131,9 +131,16 @@ class _Work:
     _written: IO[bytes]
 
     def _begin(
-        self, command: list[str], text: Iterable[bytes], is_heard: bool = False, folder: str | None = None
+        self,
+        command: list[str],
+        text: Iterable[bytes],
+        is_heard: bool = False,
+        folder: str | None = None,
+        most: int | None = None,
     ) -> None:
         """What it says goes to a file, or what it says on standard error where it is heard. It begins in a folder.
+
+        most: how many bytes it may write to a file.
 
         Where it can't be begun, or a clock has run down meanwhile, nothing of it is left.
         """
@@ -143,7 +150,7 @@ class _Work:
         with tempfile.TemporaryFile() as given:
             given.writelines(text)
             self.begun = time.monotonic()
-            output = _OUTPUT + 2 * given.tell()
+            output = _OUTPUT + 2 * given.tell() if most is None else most
             given.seek(0)
             limited = ["/bin/sh", "-c", _LIMITED, "sh", str(_MEMORY >> 10), str(output // _BLOCK), *command]
             self._written = tempfile.TemporaryFile()
@@ -194,7 +201,7 @@ class _Work:
         return os.waitid(os.P_PID, self._process.pid, os.WEXITED | os.WNOHANG | os.WNOWAIT)
 
 
-class Asked(_Work):
+class Asked(Work):
     """An engine that is asked for a solution."""
 
     def __init__(self, engine: Engine, problem: Problem[Any], text: Iterable[bytes]) -> None:
@@ -229,12 +236,12 @@ class Asked(_Work):
             raise NoAnswer(f"{self.name} gave no answer ({fault})") from None
         if first is not None:
             return first.numbers
-        if ended is None or ended.si_code != os.CLD_EXITED or ended.si_status != _NONE:
+        if ended is None or ended.si_code != os.CLD_EXITED or ended.si_status != NONE:
             raise NoAnswer(f"{self.name} gave no answer (it didn't end as it does where there is no solution)")
         return None
 
 
-class Heard(_Work):
+class Heard(Work):
     """An engine that is heard while it works."""
 
     def __init__(

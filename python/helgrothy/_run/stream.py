@@ -19,7 +19,8 @@ _MOST_SECONDS = 5.0
 
 @dataclass
 class Outcome:
-    """How many solutions were found so far, and at the end how many there were, and whether these are all.
+    """How many solutions were found so far, and at the end how many there were, whether these are all, and what proves
+    that there is none, where that isn't the end of the program's search.
 
     The search knows this and not its `Solutions`, so no circle keeps either of them alive.
     """
@@ -27,12 +28,13 @@ class Outcome:
     found: int = 0
     total: int | None = None
     complete: bool | None = None
+    proof: str = ""
 
     def count(self, more: int) -> None:
         self.found += more
 
-    def end(self, total: int, complete: bool) -> None:
-        self.total, self.complete = total, complete
+    def end(self, total: int, complete: bool, proof: str = "") -> None:
+        self.total, self.complete, self.proof = total, complete, proof
 
 
 class Solutions(Generic[Option]):
@@ -67,6 +69,11 @@ class Solutions(Generic[Option]):
         """Whether these are all, or a limit was met, once they came to an end."""
         return self._outcome.complete
 
+    @property
+    def proof(self) -> str:
+        """What proves that there is none, where that isn't the end of the program's search: a line that says so."""
+        return self._outcome.proof
+
     def close(self) -> None:
         """Ends the program, if it runs."""
         self._stream.close()
@@ -77,7 +84,7 @@ class Solutions(Generic[Option]):
         def begin(outcome: Outcome) -> Generator[Solution[Other], None, None]:
             with self:
                 yield from map(give, self)
-            outcome.end(self.total or 0, bool(self.complete))
+            outcome.end(self.total or 0, bool(self.complete), self.proof)
 
         return Solutions(begin, lambda most: self._again(most)._as(give))
 
