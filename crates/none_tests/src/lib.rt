@@ -1,5 +1,5 @@
-//! Tests of `refutation`, `xc_numbers` and `xc_none`. They use public calls alone, so no library is proved a second time
-//! for them.
+//! Tests of `refutation`, `xc_numbers` and `xc_none`. They use public calls alone, so no library is proved a second
+//! time for them.
 #![tactic(auto)]
 
 #[cfg(test)]

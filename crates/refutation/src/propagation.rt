@@ -72,6 +72,11 @@ fn visit(
     let mut kept = 0;
     let mut conflict = false;
     for i in 0..list.len() {
+        if conflict && kept == i {
+            // All watches behind it stay where they are.
+            kept = list.len();
+            break;
+        }
         let mut watch = list[i];
         if !conflict {
             match look(clauses, watches, trail, falsified, &mut watch)? {

@@ -73,10 +73,10 @@ fn judge(
 /// that isn't there is passed over. The answer is `Refuted` as soon as unit propagation refutes the clauses, so the
 /// rest of the proof isn't read.
 ///
-/// The proof is binary if its first byte is `a` or if its first ten bytes have one that a text doesn't have, and a
-/// text otherwise, as drat-trim guesses it. Variables are from 1 to 2^31 - 1. An error is a failed read or too little
-/// memory. The method is that of E. Goldberg and Y. Novikov, "Verification of proofs of unsatisfiability for CNF
-/// formulas" (2003), with two watched literals for each clause.
+/// The proof is binary if its first byte is `a`, or if that is `d` and one of the first ten bytes is none that a text
+/// has; else it is a text. Variables are from 1 to 2^31 - 1. An error is a failed read or too little memory. The method
+/// is that of E. Goldberg and Y. Novikov, "Verification of proofs of unsatisfiability for CNF formulas" (2003), with
+/// two watched literals for each clause.
 #[tactic(auto, using(crate::proofs::DerivationLemmas::entails_kept, crate::proofs::DerivationLemmas::refuted_by))]
 pub fn refute<S: Source>(
     alloc: Global,

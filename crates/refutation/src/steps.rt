@@ -44,14 +44,17 @@ fn is_of_text(byte: u8) -> bool {
     byte.is_ascii_alphanumeric() || matches!(byte, b'-' | b' ' | b'\t' | b'\n' | b'\r')
 }
 
-/// Whether a proof that begins so is binary. One that begins with `a` is, and so is one whose first ten bytes have one
-/// that a text doesn't have.
+/// Whether a proof that begins so is binary. One that begins with `a` is, and so is one that begins with `d` whose
+/// first ten bytes have one that a text doesn't have. No other letter begins a binary proof.
 fn is_binary(first: &[u8]) -> bool {
-    first.first() == Some(&b'a')
-        || first
+    match first.first() {
+        Some(b'a') => true,
+        Some(b'd') => first
             .iter()
             .take(FIRST_BYTES)
-            .any(|byte| !is_of_text(*byte))
+            .any(|byte| !is_of_text(*byte)),
+        _ => false,
+    }
 }
 
 impl Steps {

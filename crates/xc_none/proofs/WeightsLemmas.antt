@@ -1,5 +1,5 @@
--- Weights that show that a problem has no cover: each option taken has no more than what it is beyond 0, and a cover has
--- of each item what its bounds say.
+-- Weights that show that a problem has no cover: each option taken has no more than what it is beyond 0, and a cover
+-- has of each item what its bounds say.
 use Rattle.std.proofs.Common.{ℕ, zero, suc, ◌≡◌, ◌≢◌, ◌≤◌, ◌<◌, ◌+◌, ◌*◌, Bool, true, false, cond, List, [], ◌∷◌}
 use Rattle.std.proofs.Common.{refl, sym, ap, arith, subst, inl, inr, eqb, eqb-true, Some, None, Option}
 use Rattle.std.proofs.Common.{length}
@@ -186,7 +186,8 @@ sound_at : (p : Puzzle) → IsValid p → (o : ℕ) → IsOption p o → IsSound
 sound_at p v zero k = absurd (omega (arith, k.0))
 sound_at p v (suc k) at = by_option (slice_get p.options k)
     (λ e. absurd (omega (arith, not_got p.options k e, at.1)))
-    (λ us e. rw e (each_got (IsSoundOption p) p.options k us (recursion_from_All (IsSoundOption p) p.options v.options) e))
+    (λ us e. rw e
+    (each_got (IsSoundOption p) p.options k us (recursion_from_All (IsSoundOption p) p.options v.options) e))
   where
     each_got : {X : Type 0} (P : X → Type 0) (xs : List X) (k : ℕ) (x : X) → AllByRecursion P xs
         → slice_get xs k ≡ Some x → P x

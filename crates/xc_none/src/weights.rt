@@ -2,8 +2,8 @@
 //!
 //! Each item has a weight. A cover has of the weights above zero what its items have to be held at least, and loses by
 //! those below zero what its items may be held at most: so if the first is more, its options have the difference, each
-//! once, and no set of options has more than all that have more than zero. Uses with a colour lose nothing, since an item
-//! may be held so any number of times.
+//! once, and no set of options has more than all that have more than zero. Uses with a colour lose nothing, since an
+//! item may be held so any number of times.
 ghost use Rattle.std.specs.Prelude.{◌≡◌, ◌≤◌, ℕ, List, true, sum_by, IfSome};
 ghost use Rattle.xc_input.specs.Cover.{IsCover};
 ghost use Rattle.xc_input.specs.Named.{IsSound};

@@ -37,12 +37,12 @@ fn show<F: Source, O: Sink, E: Sink>(
 }
 
 /// A whole run: reads the words, then the problem, and prints its clauses to `out`; or reads a further file, a proof or
-/// weights, and reports whether it shows that the problem has no solution. The words are `1`, `2` or `3` for the program
-/// that the problem is written for, the name of its file, perhaps that of the further file, and behind that `w` for
-/// weights; files are not looked at by their names here. It returns the status: 0 where the clauses are printed or there is
-/// no solution, 5 where that isn't shown, 1 for other words, 2 for a fault of the problem or the weights, 3 where a read or
-/// a write failed, 4 if memory ran out. Names are hashed by this seed, which is to be random for a problem that may be
-/// written to be slow.
+/// weights, and reports whether it shows that the problem has no solution. The words are `1`, `2` or `3` for the
+/// program that the problem is written for, the name of its file, perhaps that of the further file, and behind that `w`
+/// for weights; files are not looked at by their names here. It returns the status: 0 where the clauses are printed or
+/// there is no solution, 5 where that isn't shown, 1 for other words, 2 for a fault of the problem or the weights, 3
+/// where a read or a write failed, 4 if memory ran out. Names are hashed by this seed, which is to be random for a
+/// problem that may be written to be slow.
 pub fn show_none<P: Source, F: Source, O: Sink, E: Sink>(
     alloc: Global,
     seed: Seed,

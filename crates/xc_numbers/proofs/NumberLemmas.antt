@@ -25,7 +25,8 @@ behind old front n (Ok more) = ap (λ z. Ok z) (sym (append_assoc old front more
 behind old front n (Err line) = refl
 
 pub line_more : (old front : List ℤ) (n : ℕ) (line : List ℕ) (before after : List (List ℕ)) (all : Result (List ℤ) ℕ)
-    → before ≡ line ∷ after → line_numbers line ≡ Some front → all ≡ numbers_then 0 (Some old) (numbers_of_lines n before)
+    → before ≡ line ∷ after → line_numbers line ≡ Some front
+    → all ≡ numbers_then 0 (Some old) (numbers_of_lines n before)
     → all ≡ numbers_then 0 (Some (old ++ front)) (numbers_of_lines (n + 1) after)
 line_more old front n line before after all cut is so =
     so ∙ ap (λ b. numbers_then 0 (Some old) (numbers_of_lines n b)) cut

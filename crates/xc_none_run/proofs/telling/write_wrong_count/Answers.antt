@@ -14,5 +14,6 @@ returns g c =
     let front : List ℕ = codes "Weights: " ++ decimal c.args.weights ++ codes " numbers, and " in
     let whole = joined (codes "Weights: ") (decimal c.args.weights) (codes " numbers, and ")
     c.as_bytes-items.result.now (codes " items.\n") ∙ ap (λ x. front ++ x ++ codes " items.\n") items in
-    subst (λ text. Writes (g.S.Sink.state c.args.sink.now) (g.S.Sink.state c.write_line.new.sink) c.write_line.result text)
+    subst
+    (λ text. Writes (g.S.Sink.state c.args.sink.now) (g.S.Sink.state c.write_line.new.sink) c.write_line.result text)
     whole c.write_line.ensures

@@ -8,7 +8,8 @@ use Rattle.xc_numbers.proofs.read.text_numbers.Given as goal
 abbrev pub invariant-loop-rest : goal.invariant-loop-rest
 invariant-loop-rest l = record {
   few : l.count + length l.rest ≤ length l.text;
-  same : numbers_of_lines 1 (lines_of l.text) ≡ numbers_then 0 (Some l.numbers.items) (numbers_of_lines (l.count + 1) (lines_of l.rest));
+  same : numbers_of_lines 1 (lines_of l.text)
+      ≡ numbers_then 0 (Some l.numbers.items) (numbers_of_lines (l.count + 1) (lines_of l.rest));
   short : All IsShort l.numbers.items;
 }
 

@@ -18,5 +18,6 @@ loop-token-preserved c =
         one_more front n c.in-Some.token.now (tokens c.loop-token.rest.now) (tokens c.in-Some.others.now) _
             c.in-Some.ensures.0 (sym c.in-Some-signed.ensures.value) old.read.2,
       );
-      short = λ h. rw pushed (All-push IsShort c.loop-token.numbers.items n (old.short h) c.in-Some-signed.ensures.short);
+      short = λ h. rw pushed
+          (All-push IsShort c.loop-token.numbers.items n (old.short h) c.in-Some-signed.ensures.short);
     }
