@@ -6,7 +6,7 @@ and items that no option holds. Of each that has no cover cadical has to say tha
 judge has to accept its proof. Of each that has one cadical has to find values, and no proof is accepted, also not that
 of another problem. Whether a problem has a cover is found by trying all sets of its options.
 
-That each cover makes the clauses true is proved. That nothing else does is only tested, here. It isn't part of the gate.
+That each cover makes the clauses true is proved. That nothing else does is only tested, here, outside the gate.
 """
 
 from __future__ import annotations
