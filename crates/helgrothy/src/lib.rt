@@ -43,6 +43,7 @@
 //! ```
 #![tactic(auto)]
 
+pub mod cheapest;
 pub mod counting;
 
 pub use xc_dance::{Count, Dance, Full, Links, Listed, Lists, Memory, Move, list_of};
