@@ -34,6 +34,7 @@ run: dlx1 ## build dlx1 and solve examples/seven.dlx
 test: bin ## the merge gate: proofs, mutants, tests, programs
 	@python3 tests/wrong_bodies.py --check
 	@scripts/imports
+	@scripts/lemmas
 	@scripts/believed --check
 	@sh tests/gate.sh
 	@sh tests/statuses.sh
