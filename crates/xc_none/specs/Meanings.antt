@@ -1,7 +1,7 @@
 -- What the variables of a problem's clauses mean of a set of options, and that each cover makes clauses true.
 -- Public contracts rest on this file: readers must believe it.
 use Rattle.std.specs.Prelude.{ℕ, ◌+◌, ◌-◌, ◌/◌, ◌%◌, ◌==◌, Bool, false, not, ◌&&◌, List, Option, Some, None, is_some}
-use Rattle.std.specs.Prelude.{slice_index_or, count_by, nat_le, if◌then◌else◌, Vec}
+use Rattle.std.specs.Prelude.{slice_index_or, count_by, nat_le, if◌then◌else◌, Vec, All, length, ◌≤◌}
 use Rattle.std.specs.List.{list_any}
 use Rattle.std.specs.declared.alloc.Global.{Global}
 use Rattle.xc_input.specs.Problem.{Puzzle, colour_in, uses_of, option_count}
@@ -46,6 +46,11 @@ abbrev pub value : Puzzle → List Meaning → List ℕ → ℕ → Bool
 value p meanings s l =
     if l % 2 == 0 then is_so p s (meaning_of meanings l) else not (is_so p s (meaning_of meanings l))
 
--- each cover of a problem makes these clauses true
+-- a literal is of a variable that has a meaning
+abbrev pub IsLiteralOf : List Meaning → ℕ → Type 0
+IsLiteralOf meanings l = (1 ≤ l / 2) × (l / 2 ≤ length meanings)
+
+-- each cover of a problem makes these clauses true, and their variables have a meaning
 pub record AreTrueOfCovers (p : Puzzle) (meanings : List Meaning) (clauses : List (Vec ℕ Global)) : Type 0 where
+  pub known : All (λ c. All (IsLiteralOf meanings) c.items) clauses
   pub of_covers : (s : List ℕ) → IsCover p s → Satisfies (value p meanings s) clauses

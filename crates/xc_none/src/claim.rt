@@ -3,7 +3,7 @@
 //! A claim is looked up at the place where its variable was put, and the meaning found there is compared. So how
 //! variables are numbered needs no proof.
 ghost use Rattle.std.specs.Prelude.{◌≡◌, true, IfOk, OnOk};
-ghost use Rattle.xc_none.specs.Meanings.{AreTrueOfCovers};
+ghost use Rattle.xc_none.specs.Meanings.{AreTrueOfCovers, IsLiteralOf};
 ghost use Rattle.xc_none.specs.inner.Claims.{Says, OneHolds};
 
 use crate::errors::ClausesError;
@@ -41,7 +41,8 @@ fn is_same(one: Meaning, other: Meaning) -> bool
 
 /// The literal that says what a claim says.
 fn literal(meanings: &[Meaning], claim: Claim) -> Result<u32, ClausesError>
-    ensures { IfOk result (λ l. Says meanings.now l claim) }
+    ensures says { IfOk result (λ l. Says meanings.now l claim) }
+    ensures known { IfOk result (λ l. IsLiteralOf meanings.now l) }
 {
     if claim.place >= meanings.len() || claim.place >= 0x4000_0000 {
         return Err(ClausesError::Lost);
